@@ -1,0 +1,4 @@
+pub mod Products
+pub mod Mirrors
+pub mod Shifts
+pub mod Division

@@ -1,0 +1,15 @@
+//! Words of 16 bits and their operators: the arithmetic that the language and the machine share.
+#![tactic(auto)]
+
+mod arithmetic;
+pub mod laws;
+mod memory;
+mod operator;
+#[cfg(test)]
+mod tests;
+mod word;
+
+pub use arithmetic::{apply, complement, mirror};
+pub use memory::Memory;
+pub use operator::{NotAnOperator, Op, Rel};
+pub use word::Word;

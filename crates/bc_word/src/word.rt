@@ -1,0 +1,87 @@
+ghost use Rattle.std.specs.Prelude.{◌≡◌, ◌<◌, ℕ, ℤ};
+ghost use Rattle.bc_word.specs.Words.{signed, negated, complemented};
+
+use std::marker::Model;
+
+/// A word of 16 bits: the one type of the language, and what a cell of the machine's store holds.
+///
+/// Contracts see a word as a whole number from 0 to 65,535.
+#[derive(Clone, Copy, Debug, Default, PartialEq, Eq, Hash, PartialOrd, Ord)]
+pub struct Word {
+    bits: u16,
+}
+
+impl Model for Word {
+    ghost use Rattle.std.specs.Prelude.{ℕ, ◌<◌};
+
+    ghost Value = { ℕ };
+
+    ghost view = { λ w. w.bits };
+
+    ghost invariant = { λ w. w.bits < 65536 };
+
+    ghost inverse = { λ n. record { bits = n } };
+}
+
+impl Word {
+    /// The word of this number.
+    #[inline(always)]
+    pub const fn new(number: u16) -> Word
+        ensures { result ≡ number }
+    {
+        Word { bits: number }
+    }
+
+    /// The word as a number from 0 to 65,535.
+    #[inline(always)]
+    pub const fn get(self) -> u16
+        ensures same { result ≡ self }
+        ensures below { self < 65536 }
+    {
+        self.bits
+    }
+
+    /// The word as a signed number, two's complement, from -32,768 to 32,767.
+    #[inline(always)]
+    pub fn signed(self) -> i16
+        ensures { result ≡ signed self }
+    {
+        self.bits.cast_signed()
+    }
+
+    /// The word with the opposite signed number, wrapped: what the machine's X2 makes of A.
+    #[inline(always)]
+    pub fn negated(self) -> Word
+        ensures { result ≡ negated self }
+    {
+        Word {
+            bits: self.bits.wrapping_neg(),
+        }
+    }
+
+    /// The word with every bit turned over: what NOT and the machine's X3 make of A.
+    #[inline(always)]
+    pub fn complemented(self) -> Word
+        ensures { result ≡ complemented self }
+    {
+        Word { bits: !self.bits }
+    }
+}
+
+impl From<u16> for Word {
+    ghost from_gives = { λ n w. w ≡ n };
+
+    #[inline(always)]
+    fn from(number: u16) -> Word {
+        Word { bits: number }
+    }
+}
+
+impl From<Word> for u16 {
+    ghost from_gives = { λ w n. n ≡ w };
+
+    #[inline(always)]
+    fn from(word: Word) -> u16 {
+        word.bits
+    }
+}
