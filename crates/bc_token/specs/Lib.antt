@@ -1,0 +1,4 @@
+pub mod Spelling
+pub mod Table
+pub mod Token
+pub mod Numbers
