@@ -1,0 +1,13 @@
+pub mod Streams
+pub mod StreamStart
+pub mod StreamCalls
+pub mod State
+pub mod Instruction
+pub mod Operand
+pub mod Operation
+pub mod Text
+pub mod Switch
+pub mod Effect
+pub mod Execute
+pub mod Step
+pub mod Run
