@@ -11,3 +11,5 @@ pub mod Effect
 pub mod Execute
 pub mod Step
 pub mod Run
+pub mod Laws
+pub mod Examples

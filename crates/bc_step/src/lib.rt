@@ -3,6 +3,7 @@
 //! The machine is defined in `specs/`; here stand the few types that the definition speaks of.
 #![tactic(auto)]
 
+pub mod laws;
 mod state;
 mod streams;
 
