@@ -11,31 +11,23 @@ use crate::word::Word;
 pub fn quotient_and_remainder(b: Word, a: Word)
     requires { a ≢ 0 }
     ensures { GivesBack b a }
-{
-    let _words = (b.get(), a.get());
-}
+{}
 
 /// The remainder of `b` by `a` is nearer to 0 than `a` is, and has the sign of `b`.
 #[tactic(auto, using(crate::proofs::Division::remainder_lies))]
 pub fn remainder_size_and_sign(b: Word, a: Word)
     requires { a ≢ 0 }
     ensures { RemainderOf b a }
-{
-    let _words = (b.get(), a.get());
-}
+{}
 
 /// Shifts multiply and divide by powers of two; by 16 places or more they leave 0.
 #[tactic(auto, using(crate::proofs::Shifts::shifts))]
 pub fn shifts_by_powers(b: Word, places: Word)
     ensures { ShiftsAre b places }
-{
-    let _words = (b.get(), places.get());
-}
+{}
 
 /// A word and its negation add up to 0; the negation is the complement and one more.
 #[tactic(auto, using(crate::proofs::Shifts::negation))]
 pub fn negation_and_complement(word: Word)
     ensures { NegationIs word }
-{
-    let _word = word.get();
-}
+{}

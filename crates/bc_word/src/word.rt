@@ -46,7 +46,7 @@ impl Word {
     pub fn signed(self) -> i16
         ensures { result ≡ signed self }
     {
-        self.bits.cast_signed()
+        self.get().cast_signed()
     }
 
     /// The word with the opposite signed number, wrapped: what the machine's X2 makes of A.
@@ -55,7 +55,7 @@ impl Word {
         ensures { result ≡ negated self }
     {
         Word {
-            bits: self.bits.wrapping_neg(),
+            bits: self.get().wrapping_neg(),
         }
     }
 
@@ -64,7 +64,7 @@ impl Word {
     pub fn complemented(self) -> Word
         ensures { result ≡ complemented self }
     {
-        Word { bits: !self.bits }
+        Word { bits: !self.get() }
     }
 }
 
@@ -73,7 +73,7 @@ impl From<u16> for Word {
 
     #[inline(always)]
     fn from(number: u16) -> Word {
-        Word { bits: number }
+        Word::new(number)
     }
 }
 
