@@ -1,0 +1,4 @@
+pub mod Cases
+pub mod Failures
+pub mod Runs
+pub mod Names

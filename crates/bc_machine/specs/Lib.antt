@@ -1,0 +1,4 @@
+pub mod Rose
+pub mod Steps
+pub mod Ran
+pub mod Places
