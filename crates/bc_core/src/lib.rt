@@ -1,0 +1,18 @@
+//! Resolved trees, and what they mean.
+#![tactic(auto)]
+
+mod command;
+mod copies;
+mod expression;
+mod find_operand;
+mod operands;
+mod sections;
+
+pub use command::{
+    Block, Body, Command, Condition, Declaration, ListItem, Place, Routine, Valof, Variable,
+};
+pub use copies::{copy, copy_expression};
+pub use expression::{CoreExp, Root};
+pub use find_operand::{constant, operand};
+pub use operands::{Base, Operand};
+pub use sections::Core;
