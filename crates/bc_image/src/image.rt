@@ -96,7 +96,7 @@ impl Labels {
         ensures { result ≡ address_in label self.now }
     {
         for pair in &self.pairs {
-            if pair.0 == label {
+            if label == pair.0 {
                 return Some(pair.1);
             }
         }
