@@ -1,6 +1,6 @@
 -- How many cells the work of a routine takes of its frame: one more than the greatest offset that it uses.
 use Rattle.std.specs.Prelude.{ℕ, ◌+◌, ◌==◌, max, cond, true, false, List, [], ◌∷◌}
-use Rattle.bc_core.specs.Tree.{Exp, Num, Frame, Glob, Place, Load, Neg, Not, Bin, Cond, Call, Args, no_argument, argument, count}
+use Rattle.bc_core.specs.Tree.{Exp, Load, Neg, Not, Bin, Cond, Call, Args, no_argument, argument, count}
 use Rattle.bc_core.specs.Commands.{Variable, Initial, Vector, Command, Block, block, Items, no_item, command, case, default, label, Routine, Body, Gives, Does, Valof}
 use Rattle.bc_core.specs.Tree as tree
 use Rattle.bc_core.specs.Commands as commands
@@ -14,10 +14,6 @@ Bodies = ℕ → ℕ → ℕ
 -- an operator at level s may hold a value at s and one at s + 1, a call at s holds its links and n arguments
 abbrev mutual
   pub cells_of_exp : Bodies → Exp → ℕ → ℕ
-  cells_of_exp V (Num n) s = 0
-  cells_of_exp V (Frame k) s = 0
-  cells_of_exp V (Glob n) s = 0
-  cells_of_exp V (Place m) s = 0
   cells_of_exp V (Load e) s = cells_of_exp V e s
   cells_of_exp V (Neg e) s = cells_of_exp V e s
   cells_of_exp V (Not e) s = cells_of_exp V e s
@@ -25,6 +21,7 @@ abbrev mutual
   cells_of_exp V (Cond c x y) s = max (cells_of_exp V c s) (max (cells_of_exp V x s) (cells_of_exp V y s))
   cells_of_exp V (Call es f) s = max (s + 2 + count es) (max (cells_of_args V es (argument_level s)) (cells_of_exp V f (routine_level s (count es))))
   cells_of_exp V (tree.Valof n) s = V n s
+  cells_of_exp V _ s = 0
 
   pub cells_of_args : Bodies → Args → ℕ → ℕ
   cells_of_args V no_argument s = 0
@@ -64,14 +61,9 @@ abbrev mutual
       let s1 = level_in_for s in
       max (s1 + 2) (max (cells_of_exp V start s1) (max (cells_of_exp V limit s1) (cells_of_block V b s1)))
   cells_of_command V (commands.Switchon e is) s = max (cells_of_exp V e s) (cells_of_items V is s)
-  cells_of_command V commands.Break s = 0
-  cells_of_command V commands.Loop s = 0
-  cells_of_command V commands.Endcase s = 0
-  cells_of_command V commands.Return s = 0
   cells_of_command V (commands.Resultis e) s = cells_of_exp V e s
-  cells_of_command V commands.Finish s = 0
-  cells_of_command V (commands.Goto l) s = 0
   cells_of_command V (commands.Nested b) s = cells_of_block V b s
+  cells_of_command V _ s = 0
 
   pub cells_of_block : Bodies → Block → ℕ → ℕ
   cells_of_block V (block ds is) s = max (cells_of_declarations V ds s) (cells_of_items V is (s + cells_declared ds))

@@ -9,6 +9,7 @@ pub mod Words
 pub mod Store
 pub mod Outcome
 pub mod Value
+pub mod Exit
 pub mod Command
 pub mod Primitive
 pub mod Map

@@ -10,7 +10,8 @@ use Rattle.bc_core.specs.Store.{Cell, Unset, Set, closed}
 use Rattle.bc_core.specs.Outcome.{State, Outcome, Done, Run, Ending, Finished, wild, then_do, choose, in_turn, left}
 use Rattle.bc_core.specs.Outcome as outcomes
 use Rattle.bc_core.specs.Value.{Context, value}
-use Rattle.bc_core.specs.Command.{Exit, Past, Returned, Resulted, perform_block}
+use Rattle.bc_core.specs.Exit.{Exit, Past, Returned, Resulted}
+use Rattle.bc_core.specs.Command.{perform_block}
 use Rattle.bc_core.specs.Primitive.{Primitive, primitives, primitive_among, primitive_frame, primitive_work}
 use Rattle.bc_core.specs.Start.{Placed, placed, start_cells}
 

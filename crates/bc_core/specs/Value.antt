@@ -9,10 +9,6 @@ use Rattle.bc_core.specs.Outcome.{Outcome, Done, Run, ZeroDivide, ends, then_do,
 
 -- whether a call or a VALOF stands in an expression
 abbrev pub has_call : Exp → Bool
-has_call (Num n) = false
-has_call (Frame k) = false
-has_call (Glob n) = false
-has_call (Place m) = false
 has_call (Load e) = has_call e
 has_call (Neg e) = has_call e
 has_call (Not e) = has_call e
@@ -20,6 +16,7 @@ has_call (Bin op a b) = has_call a || has_call b
 has_call (Cond c x y) = has_call c || has_call x || has_call y
 has_call (Call es f) = true
 has_call (Valof n) = true
+has_call _ = false
 
 -- what an expression stands among: the address of each label, what a call of a value with arguments does in a new frame, and what a VALOF does, by its number, in a frame at a level
 pub record Context : Type 0 where

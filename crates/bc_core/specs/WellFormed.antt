@@ -1,25 +1,21 @@
 -- What every section keeps: its labels, numbers and jump targets exist, and its frames and roots are no larger than allowed.
 use Rattle.std.specs.Prelude.{ℕ, ◌+◌, ◌==◌, ◌&&◌, ◌||◌, not, nat_le, nat_lt, Bool, true, false, List, [], ◌∷◌, ◌++◌, map, length, slice_get, Option, Some, None}
-use Rattle.bc_core.specs.Tree.{Exp, Num, Frame, Glob, Place, Load, Neg, Not, Bin, Cond, Call, Args, no_argument, argument, count}
+use Rattle.bc_core.specs.Tree.{Exp, Frame, Glob, Place, Load, Neg, Not, Bin, Cond, Call, Args, no_argument, argument, count}
 use Rattle.bc_core.specs.Tree as tree
-use Rattle.bc_core.specs.Commands.{Variable, Initial, Vector, Command, Block, block, Items, no_item, command, case, default, label, Routine, Body, Gives, Does, Code, Static, Table, Text, Valof, Core}
+use Rattle.bc_core.specs.Commands.{Variable, Initial, Vector, Command, Block, block, Items, no_item, command, case, default, label, Routine, Body, Gives, Does, Code, Text, Valof, Core}
 use Rattle.bc_core.specs.Commands as commands
 use Rattle.bc_core.specs.Level.{level_behind_parameters, operand_level, argument_level, routine_level, side_level, cells_of, cells_of_all, cells_declared, level_in_for}
 use Rattle.bc_core.specs.Layout.{frame_size}
 
 abbrev mutual
   pub nodes : Exp → ℕ
-  nodes (Num n) = 1
-  nodes (Frame k) = 1
-  nodes (Glob n) = 1
-  nodes (Place m) = 1
   nodes (Load e) = 1 + nodes e
   nodes (Neg e) = 1 + nodes e
   nodes (Not e) = 1 + nodes e
   nodes (Bin op a b) = 1 + nodes a + nodes b
   nodes (Cond c x y) = 1 + nodes c + nodes x + nodes y
   nodes (Call es f) = 1 + nodes_of_args es + nodes f
-  nodes (tree.Valof n) = 1
+  nodes _ = 1
 
   pub nodes_of_args : Args → ℕ
   nodes_of_args no_argument = 0
@@ -42,8 +38,6 @@ stands_at (Some level) s = level == s
 -- globals and labels exist, and each VALOF stands at its level
 abbrev mutual
   pub exp_fits : Around → Exp → ℕ → Bool
-  exp_fits A (Num n) s = true
-  exp_fits A (Frame k) s = true
   exp_fits A (Glob n) s = nat_lt n 512
   exp_fits A (Place m) s = nat_le 1 m && nat_le m A.places
   exp_fits A (Load e) s = exp_fits A e s
@@ -53,6 +47,7 @@ abbrev mutual
   exp_fits A (Cond c x y) s = exp_fits A c s && exp_fits A x s && exp_fits A y s
   exp_fits A (Call es f) s = args_fit A es (argument_level s) && exp_fits A f (routine_level s (count es))
   exp_fits A (tree.Valof n) s = nat_le A.first n && stands_at (slice_get A.levels n) s
+  exp_fits A _ s = true
 
   pub args_fit : Around → Args → ℕ → Bool
   args_fit A no_argument s = true
@@ -131,9 +126,9 @@ abbrev mutual
   command_fits A J commands.Endcase s = J.in_cases
   command_fits A J commands.Return s = J.may_return
   command_fits A J (commands.Resultis e) s = J.in_valof && root_fits A e s
-  command_fits A J commands.Finish s = true
   command_fits A J (commands.Goto l) s = has J.labels l
   command_fits A J (commands.Nested b) s = block_fits A J b s
+  command_fits A J commands.Finish s = true
 
   pub block_fits : Around → Jumps → Block → ℕ → Bool
   block_fits A J (block ds is) s =
@@ -165,9 +160,8 @@ global_fits (Some n) = nat_lt n 512
 abbrev pub place_fits : Around → List Valof → commands.Place → Bool
 place_fits A valofs (Code r) =
     global_fits r.global && nat_le (frame_size valofs r) 32768 && body_fits A r.body (level_behind_parameters r.parameters)
-place_fits A valofs (Static w) = true
-place_fits A valofs (Table ws) = true
 place_fits A valofs (Text bytes) = nat_le (length bytes) 255
+place_fits A valofs _ = true
 
 abbrev pub places_fit : Around → List Valof → List commands.Place → Bool
 places_fit A valofs [] = true
