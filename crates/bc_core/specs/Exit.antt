@@ -1,9 +1,8 @@
--- Where control goes from a command, and how a command list and a loop take it on.
-use Rattle.std.specs.Prelude.{ℕ, ◌==◌, ◌||◌, Bool, true, false, cond}
-use Rattle.bc_core.specs.Commands.{Items, no_item, command, case, default, label}
-use Rattle.bc_core.specs.Outcome.{Done, Run, then_do, in_turn, Round, Again, Leave, repeated}
+-- Where control goes from a command.
+use Rattle.std.specs.Prelude.{ℕ}
+use Rattle.bc_core.specs.Outcome.{Done, Run}
 
--- where control goes from a command: past it, or to where BREAK, LOOP, ENDCASE, RETURN, RESULTIS or GOTO sends it
+-- past it, or to where BREAK, LOOP, ENDCASE, RETURN, RESULTIS or GOTO sends it
 pub data Exit : Type 0 where
   Past : Exit
   Broke : Exit
@@ -16,85 +15,7 @@ pub data Exit : Type 0 where
 abbrev pub past : Unit {0} → Run Exit
 past u = Done Past
 
--- where a command list is entered
-pub data Entry : Type 0 where
-  Beginning : Entry
-  AtCase : ℕ → Entry
-  AtDefault : Entry
-  AtLabel : ℕ → Entry
-
-abbrev pub has_case : ℕ → Items → Bool
-has_case v no_item = false
-has_case v (command c is) = has_case v is
-has_case v (case k is) = k == v || has_case v is
-has_case v (default is) = has_case v is
-has_case v (label l is) = has_case v is
-
-abbrev pub has_label : ℕ → Items → Bool
-has_label l no_item = false
-has_label l (command c is) = has_label l is
-has_label l (case k is) = has_label l is
-has_label l (default is) = has_label l is
-has_label l (label k is) = k == l || has_label l is
-
--- SWITCHON goes to the CASE with its value, else to DEFAULT, else past its list
-abbrev pub entry_of : ℕ → Items → Entry
-entry_of v is = cond (has_case v is) (AtCase v) AtDefault
-
--- whether an entry is met here
-abbrev pub meets_case : ℕ → Entry → Bool
-meets_case k (AtCase v) = k == v
-meets_case k _ = false
-
-abbrev pub meets_default : Entry → Bool
-meets_default AtDefault = true
-meets_default _ = false
-
-abbrev pub meets_label : ℕ → Entry → Bool
-meets_label k (AtLabel l) = k == l
-meets_label k _ = false
-
-abbrev pub met : Bool → Entry → Entry
-met true at = Beginning
-met false at = at
-
--- control passes through the commands of a list from its entry on
-abbrev pub from_entry : Entry → Run Exit → Run Exit
-from_entry Beginning r = r
-from_entry _ r = Done Past
-
+-- the commands that follow are done where control goes past
 abbrev pub onward : Run Exit → Exit → Run Exit
 onward rest Past = rest
 onward rest x = Done x
-
--- a jump to a label of this list enters it there, every other exit leaves it
-abbrev pub behind_list : Items → Exit → Run (Round Entry Exit)
-behind_list is (Jumped l) = Done (cond (has_label l is) (Again (AtLabel l)) (Leave (Jumped l)))
-behind_list is x = Done (Leave x)
-
-abbrev pub listed : Items → (Entry → Run Exit) → Entry → Run Exit
-listed is items at = repeated (λ at1. then_do (items at1) (behind_list is)) at
-
-abbrev pub behind_cases : Exit → Run Exit
-behind_cases LeftCases = Done Past
-behind_cases x = Done x
-
--- going back to a loop's beginning is a turn
-abbrev pub back : Run (Round (Unit {0}) Exit)
-back = in_turn (Done (Again tt))
-
-abbrev pub leave : Run (Round (Unit {0}) Exit)
-leave = Done (Leave Past)
-
--- behind a loop's body
-abbrev pub behind_body : Run (Round (Unit {0}) Exit) → Exit → Run (Round (Unit {0}) Exit)
-behind_body again Past = again
-behind_body again Looped = again
-behind_body again Broke = leave
-behind_body again x = Done (Leave x)
-
--- whether a condition of this sense holds
-abbrev pub agrees : Bool → Bool → Bool
-agrees true b = b
-agrees false true = false
-agrees false false = true

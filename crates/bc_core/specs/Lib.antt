@@ -10,10 +10,13 @@ pub mod Store
 pub mod Outcome
 pub mod Value
 pub mod Exit
+pub mod Lists
+pub mod Loop
 pub mod Command
 pub mod Primitive
 pub mod Map
 pub mod Start
 pub mod Meaning
 pub mod Same
+pub mod Laws
 pub mod Examples
