@@ -29,13 +29,13 @@ use Rattle.bc_core.proofs.Liveness.{Outside, filled_outside, passed_outside, liv
 pub record TidyRun {A : Type 0} (top : ℕ) (r : Run A) : Type 0 where
   pub from : (st : State) → Tidy top st.cells st.streams (r st)
 
-tidy_done : {A : Type 0} (top : ℕ) (x : A) → TidyRun top (Done x)
+pub tidy_done : {A : Type 0} (top : ℕ) (x : A) → TidyRun top (Done x)
 tidy_done top x = record { from = λ st. (longer_refl (output_of st.streams), λ dead a. refl) }
 
-tidy_ends : (A : Type 0) (top : ℕ) (e : Ending) → TidyRun top (ends {A = A} e)
+pub tidy_ends : (A : Type 0) (top : ℕ) (e : Ending) → TidyRun top (ends {A = A} e)
 tidy_ends A top e = record { from = λ st. longer_refl (output_of st.streams) }
 
-tidy_wild : (A : Type 0) (top : ℕ) → TidyRun top (wild {A = A})
+pub tidy_wild : (A : Type 0) (top : ℕ) → TidyRun top (wild {A = A})
 tidy_wild A top = record { from = λ st. tt }
 
 tidy_followed : {A B : Type 0} (top : ℕ) (cells : List Cell) (streams : Content) (o : Outcome A) (f : A → Run B) → Tidy top cells streams o → ((x : A) → TidyRun top (f x)) → Tidy top cells streams (followed o f)
@@ -49,34 +49,34 @@ tidy_followed top cells streams (Ended e streams1) f h k = h
 tidy_followed top cells streams (Going streams1) f h k = h
 tidy_followed top cells streams Wild f h k = tt
 
-tidy_then : {A B : Type 0} (top : ℕ) (r : Run A) (f : A → Run B) → TidyRun top r → ((x : A) → TidyRun top (f x)) → TidyRun top (then_do r f)
+pub tidy_then : {A B : Type 0} (top : ℕ) (r : Run A) (f : A → Run B) → TidyRun top r → ((x : A) → TidyRun top (f x)) → TidyRun top (then_do r f)
 tidy_then top r f h k = record { from = λ st. tidy_followed top st.cells st.streams (r st) f (h.from st) k }
 
-tidy_choose : {A : Type 0} (top : ℕ) (t : Bool) (this that : Run A) → TidyRun top this → TidyRun top that → TidyRun top (choose t this that)
+pub tidy_choose : {A : Type 0} (top : ℕ) (t : Bool) (this that : Run A) → TidyRun top this → TidyRun top that → TidyRun top (choose t this that)
 tidy_choose top true this that h k = h
 tidy_choose top false this that h k = k
 
-tidy_turn : {A : Type 0} (top : ℕ) (r : Run A) → TidyRun top r → TidyRun top (in_turn r)
+pub tidy_turn : {A : Type 0} (top : ℕ) (r : Run A) → TidyRun top r → TidyRun top (in_turn r)
 tidy_turn top r h = record { from = λ st. turns st st.turns } where
   turns : (st : State) (n : ℕ) → Tidy top st.cells st.streams (taken n r st)
   turns st zero = longer_refl (output_of st.streams)
   turns st (suc n) = h.from (record st { turns = n })
 
-tidy_read : (top a : ℕ) → TidyRun top (read a)
+pub tidy_read : (top a : ℕ) → TidyRun top (read a)
 tidy_read top a = record { from = λ st. of_cell st (cell_at st.cells a) } where
   of_cell : (st : State) (c : Cell) → Tidy top st.cells st.streams (content_of_cell c st)
   of_cell st Dead = tt
   of_cell st Unset = tt
   of_cell st (Set w) = (tidy_done top w).from st
 
-tidy_write : (top a w : ℕ) → TidyRun top (write a w)
+pub tidy_write : (top a w : ℕ) → TidyRun top (write a w)
 tidy_write top a w = record { from = λ st. of_cell st (cell_at st.cells a) refl } where
   of_cell : (st : State) (c : Cell) → cell_at st.cells a ≡ c → Tidy top st.cells st.streams (written c a w st)
   of_cell st Dead e = tt
   of_cell st Unset e = (longer_refl (output_of st.streams), λ dead. set_live st.cells a w (ap is_live e))
   of_cell st (Set old) e = (longer_refl (output_of st.streams), λ dead. set_live st.cells a w (ap is_live e))
 
-tidy_both : {A B C : Type 0} (top : ℕ) (calls : Bool) (first : Run A) (second : Run B) (f : A → B → Run C) → TidyRun top first → TidyRun top second → ((x : A) (y : B) → TidyRun top (f x y)) → TidyRun top (both calls first second f)
+pub tidy_both : {A B C : Type 0} (top : ℕ) (calls : Bool) (first : Run A) (second : Run B) (f : A → B → Run C) → TidyRun top first → TidyRun top second → ((x : A) (y : B) → TidyRun top (f x y)) → TidyRun top (both calls first second f)
 tidy_both {A = A} {B = B} {C = C} top calls first second f h k g = record { from = λ st. sides st calls (first st) (h.from st) } where
   weighed : (st : State) (e : Ending) (streams : Content) (o : Outcome B) → Longer (output_of st.streams) (output_of streams) → Tidy {A = C} top st.cells st.streams (outweighed e streams o)
   weighed st e streams (Done y st2) l = l
@@ -91,7 +91,7 @@ tidy_both {A = A} {B = B} {C = C} top calls first second f h k g = record { from
   sides st calls Wild t = tt
 
 -- what is tidy above a higher address is tidy above this one
-tidy_up : {A : Type 0} (top top1 : ℕ) (r : Run A) → top ≤ top1 → TidyRun top1 r → TidyRun top r
+pub tidy_up : {A : Type 0} (top top1 : ℕ) (r : Run A) → top ≤ top1 → TidyRun top1 r → TidyRun top r
 tidy_up {A = A} top top1 r le h = record { from = λ st. lower st (r st) (h.from st) } where
   lower : (st : State) (o : Outcome A) → Tidy top1 st.cells st.streams o → Tidy top st.cells st.streams o
   lower st (Done x st1) t = (t.0, λ dead. t.1 (λ a high. dead a (omega arith)))
@@ -113,14 +113,14 @@ tidy_with_cells n top r h =
     let le : top ≤ top = omega arith in
     record { from = λ st. tidy_opened n top top (opened n top st.cells) st r le (λ b out. filled_outside n top Unset st.cells b out) h }
 
-tidy_rounds : {A B : Type 0} (top n : ℕ) (f : A → Run (Round A B)) (x : A) → ((y : A) → TidyRun top (f y)) → TidyRun top (rounds n f x)
+pub tidy_rounds : {A B : Type 0} (top n : ℕ) (f : A → Run (Round A B)) (x : A) → ((y : A) → TidyRun top (f y)) → TidyRun top (rounds n f x)
 tidy_rounds top zero f x h = record { from = λ st. longer_refl (output_of st.streams) }
 tidy_rounds {A = A} {B = B} top (suc n) f x h = tidy_then top (f x) (next_round (rounds n f)) (h x) (onwards (λ y. tidy_rounds top n f y h)) where
   onwards : ((y : A) → TidyRun top (rounds n f y)) → (r : Round A B) → TidyRun top (next_round (rounds n f) r)
   onwards again (Again y) = again y
   onwards again (Leave y) = tidy_done top y
 
-tidy_repeated : {A B : Type 0} (top : ℕ) (f : A → Run (Round A B)) (x : A) → ((y : A) → TidyRun top (f y)) → TidyRun top (repeated f x)
+pub tidy_repeated : {A B : Type 0} (top : ℕ) (f : A → Run (Round A B)) (x : A) → ((y : A) → TidyRun top (f y)) → TidyRun top (repeated f x)
 tidy_repeated top f x h = record { from = λ st. (tidy_rounds top (suc st.turns) f x h).from st }
 
 -- calls and VALOFs are tidy above the frame or the level at which they begin
@@ -341,7 +341,7 @@ tidy_bytes top (suc n) k address = tidy_then top _ _ (tidy_byte top address k) (
 tidy_on_streams : (top : ℕ) (change : Content → Content) (v : ℕ) → ((c : Content) → Longer (output_of c) (output_of (change c))) → TidyRun top (on_streams change v)
 tidy_on_streams top change v h = record { from = λ st. (h st.streams, λ dead a. refl) }
 
-tidy_primitive : (q : Primitive) (f top : ℕ) → TidyRun top (primitive_work q f)
+pub tidy_primitive : (q : Primitive) (f top : ℕ) → TidyRun top (primitive_work q f)
 tidy_primitive (Select side) f top = tidy_then top _ _ (tidy_read top (f + 2)) (λ n. tidy_on_streams top _ 0 (λ c. select_longer side n c))
 tidy_primitive ReadByte f top = record { from = λ st. (read_longer st.streams, λ dead a. refl) }
 tidy_primitive WriteByte f top = tidy_then top _ _ (tidy_read top (f + 2)) (λ w. tidy_on_streams top _ 0 (λ c. write_longer (w % 256) c))

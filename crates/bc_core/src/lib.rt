@@ -5,6 +5,7 @@ mod command;
 mod copies;
 mod expression;
 mod find_operand;
+pub mod laws;
 mod operands;
 mod sections;
 
