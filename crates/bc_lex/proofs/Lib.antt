@@ -1,0 +1,3 @@
+pub mod Strings
+pub mod Loops
+pub mod Turns
