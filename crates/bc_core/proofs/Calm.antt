@@ -48,6 +48,7 @@ calm_operated op a b h k = record { from = λ st. sides st (a st) (h.from st) } 
   weighed st e streams (Ended e2 streams2) = tt
   weighed st e streams (Going streams2) = tt
   weighed st e streams Wild = tt
+
   sides : (st : State) (o : Outcome ℕ) → IsCalm st o → IsCalm st (second_side false o b (λ x y. given (value_of op x y)) st)
   sides st (Done x st1) c = subst (λ z. IsCalm st (followed (b z) (λ y. given (value_of op x y)))) c ((calm_then b (λ y. given (value_of op x y)) k (λ y. calm_given (value_of op x y))).from st)
   sides st (Ended e streams) c = weighed st e streams (b st)
@@ -82,7 +83,7 @@ calm C (Bin op a b) h p s =
     let ca = calm C a (no_left _ _ h) p (s + 1) in
     let cb = calm C b (no_right _ _ h) p (s + 1) in
     let v : CalmRun (sense C (Bin op a b) p s).value =
-        subst (λ z. CalmRun (operated op z (sense C a p (s + 1)).value (sense C b p (s + 1)).value)) (sym h) (calm_operated op _ _ ca.0 cb.0) in
+    subst (λ z. CalmRun (operated op z (sense C a p (s + 1)).value (sense C b p (s + 1)).value)) (sym h) (calm_operated op _ _ ca.0 cb.0) in
     (v, calm_truth op (sense C a p (s + 1)) (sense C b p (s + 1)) _ ca.1 cb.1 v)
 calm C (Cond c x y) h p s =
     let cxy = no_left _ _ h in

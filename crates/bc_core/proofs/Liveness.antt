@@ -36,7 +36,7 @@ closed_inside zero a cells b h k = absurd (omega arith)
 closed_inside (suc n) a cells b h k =
     ⊎_elim (λ later. closed_inside n (a + 1) (slice_set cells a Dead) b (omega arith) (omega arith))
     (λ first. let here : b ≡ a = omega arith in
-      filled_outside n (a + 1) Dead (slice_set cells a Dead) b (inl (omega arith)) ∙ ap (λ k. cell_at (slice_set cells a Dead) k) here ∙ set_dead cells a) (cases_lt a b)
+    filled_outside n (a + 1) Dead (slice_set cells a Dead) b (inl (omega arith)) ∙ ap (λ k. cell_at (slice_set cells a Dead) k) here ∙ set_dead cells a) (cases_lt a b)
 
 pub passed_outside : (n a : ℕ) (vs : List ℕ) (cells : List Cell) (b : ℕ) → Outside n a b → cell_at (passed n a vs cells) b ≡ cell_at cells b
 passed_outside zero a vs cells b h = refl
@@ -57,8 +57,8 @@ given_back n top a c0 c1 c2 le same dead keeps b =
     ⊎_elim (λ before. outside (inl before))
     (λ from. ⊎_elim (λ inside. ap is_live (closed_inside n a c2 b from inside) ∙ sym (dead b (omega arith))) (λ behind. outside (inr behind)) (cases_lt b (a + n)))
     (cases_lt b a) where
-  outside : Outside n a b → is_live (cell_at (closed n a c2) b) ≡ is_live (cell_at c0 b)
-  outside h = ap is_live (filled_outside n a Dead c2 b h) ∙ keeps b ∙ ap is_live (same b h)
+      outside : Outside n a b → is_live (cell_at (closed n a c2) b) ≡ is_live (cell_at c0 b)
+      outside h = ap is_live (filled_outside n a Dead c2 b h) ∙ keeps b ∙ ap is_live (same b h)
 
 -- and no cell above them is live while they are
 pub dead_above : (n top a : ℕ) (c0 c1 : List Cell) → top ≤ a → ((b : ℕ) → Outside n a b → cell_at c1 b ≡ cell_at c0 b) → DeadFrom top c0 → DeadFrom (a + n) c1
@@ -68,13 +68,15 @@ dead_above n top a c0 c1 le same dead b h = ap is_live (same b (inr h)) ∙ dead
 pub set_live : (cells : List Cell) (a w : ℕ) → is_live (cell_at cells a) ≡ true → SameLive cells (slice_set cells a (Set w))
 set_live cells a w live b =
     ⊎_elim (λ ne. ap is_live (get_or-set_other cells a b (Set w) Dead ne)) (λ here. at_a here) (differ b a) where
-  within : a < length cells
-  within = ⊎_elim (λ lt. lt) (λ ge. absurd (never (get_or-eq_default cells Dead ge))) (cases_lt a (length cells)) where
-    never : cell_at cells a ≡ Dead → ⊥
-    never e = let f : false ≡ true = ap is_live (sym e) ∙ live in cc
-  at_a : b ≡ a → is_live (cell_at (slice_set cells a (Set w)) b) ≡ is_live (cell_at cells b)
-  at_a here =
-      ap (λ k. is_live (cell_at (slice_set cells a (Set w)) k)) here ∙ ap is_live (get_or-set_same cells a (Set w) Dead within)
-      ∙ sym live ∙ ap (λ k. is_live (cell_at cells k)) (sym here)
-  differ : (n k : ℕ) → (n ≢ k) ⊎ (n ≡ k)
-  differ n k = ⊎_elim (λ lt. inl (λ e. omega arith)) (λ ge. ⊎_elim (λ lt. inl (λ e. omega arith)) (λ le. inr (omega arith)) (cases_lt k n)) (cases_lt n k)
+      within : a < length cells
+      within = ⊎_elim (λ lt. lt) (λ ge. absurd (never (get_or-eq_default cells Dead ge))) (cases_lt a (length cells)) where
+        never : cell_at cells a ≡ Dead → ⊥
+        never e = let f : false ≡ true = ap is_live (sym e) ∙ live in cc
+
+      at_a : b ≡ a → is_live (cell_at (slice_set cells a (Set w)) b) ≡ is_live (cell_at cells b)
+      at_a here =
+          ap (λ k. is_live (cell_at (slice_set cells a (Set w)) k)) here ∙ ap is_live (get_or-set_same cells a (Set w) Dead within)
+          ∙ sym live ∙ ap (λ k. is_live (cell_at cells k)) (sym here)
+
+      differ : (n k : ℕ) → (n ≢ k) ⊎ (n ≡ k)
+      differ n k = ⊎_elim (λ lt. inl (λ e. omega arith)) (λ ge. ⊎_elim (λ lt. inl (λ e. omega arith)) (λ le. inr (omega arith)) (cases_lt k n)) (cases_lt n k)

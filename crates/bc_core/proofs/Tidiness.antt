@@ -83,6 +83,7 @@ tidy_both {A = A} {B = B} {C = C} top calls first second f h k g = record { from
   weighed st e streams (Ended e2 streams2) l = l
   weighed st e streams (Going streams2) l = l
   weighed st e streams Wild l = tt
+
   sides : (st : State) (calls : Bool) (o : Outcome A) → Tidy top st.cells st.streams o → Tidy top st.cells st.streams (second_side calls o second f st)
   sides st calls (Done x st1) t = tidy_followed top st.cells st.streams (Done x st1) (λ z. then_do second (f z)) t (λ z. tidy_then top second (f z) k (g z))
   sides st false (Ended e streams) t = weighed st e streams (second st) t
@@ -216,8 +217,8 @@ tidy_declare C t (vs ∷ ds) p s r h =
     let le : p + (s + n) ≤ p + (s + n) = omega arith in
     let further : p + (s + (n + cells_declared ds)) ≡ p + (s + n + cells_declared ds) = omega arith in
     tidy_with_cells n (p + s) _ (subst (λ top. TidyRun top (then_do (initialise C vs p s (s + n)) (λ u. declare C ds p (s + n) r))) (sym same)
-      (tidy_then (p + (s + n)) _ _ (tidy_initialise C t vs (p + (s + n)) p s (s + n) le)
-      (λ u. tidy_declare C t ds p (s + n) r (subst (λ top. TidyRun top r) further h))))
+    (tidy_then (p + (s + n)) _ _ (tidy_initialise C t vs (p + (s + n)) p s (s + n) le)
+    (λ u. tidy_declare C t ds p (s + n) r (subst (λ top. TidyRun top r) further h))))
 
 tidy_from_entry : (top : ℕ) (at : Entry) (r : Run Exit) → TidyRun top r → TidyRun top (from_entry at r)
 tidy_from_entry top Beginning r h = h
@@ -285,7 +286,7 @@ tidy_for : (top by : ℕ) (start : Run (Unit {0})) (limit variable : Run ℕ) (s
 tidy_for top by start limit variable step body hs hl hv ht hb =
     tidy_then top start _ hs (λ u. tidy_then top limit _ hl (λ n.
     tidy_repeated top _ tt (λ u. tidy_then top variable _ hv (λ i. tidy_choose top (holds (end_relation by) i n) leave _ (tidy_done top (Leave Past))
-      (tidy_round top body _ hb (tidy_then top step _ ht (λ u. tidy_back top)))))))
+    (tidy_round top body _ hb (tidy_then top step _ ht (λ u. tidy_back top)))))))
 
 tidy_switched : (top : ℕ) (v : Run ℕ) (is : Items) (items : Entry → Run Exit) → TidyRun top v → ((at : Entry) → TidyRun top (items at)) → TidyRun top (switched v is items)
 tidy_switched top v is items h k =
@@ -308,7 +309,7 @@ mutual
       let le : p + (s + 2) ≤ p + (s + 2) = omega arith in
       tidy_with_cells 1 (p + s) _ (tidy_up (p + s + 1) top _ one
       (tidy_for top by _ _ _ _ _ (tidy_assign C t start (Frame s) top p (s + 2) le) (tidy_sense C t limit p (s + 2)).0 (tidy_sense C t (Load (Frame s)) p (s + 2)).0
-        (tidy_assign C t (step_of_for by s) (Frame s) top p (s + 2) le) (tidy_block C t b p (s + 2))))
+      (tidy_assign C t (step_of_for by s) (Frame s) top p (s + 2) le) (tidy_block C t b p (s + 2))))
   tidy_perform C t (commands.Switchon e is) p s = tidy_switched (p + s) _ is _ (tidy_sense C t e p s).0 (λ at. tidy_items C t is p s at)
   tidy_perform C t commands.Break p s = tidy_done (p + s) _
   tidy_perform C t commands.Loop p s = tidy_done (p + s) _

@@ -126,6 +126,7 @@ more_turn d r q h = record { from = λ st. counted st st.turns; grows = grow_tur
   spent : (st : State) (m : ℕ) → Beyond st.streams (taken m q (later d st))
   spent st zero = longer_refl (output_of st.streams)
   spent st (suc m) = h.grows.from (record st { turns = m })
+
   counted : (st : State) (n : ℕ) → Goes d (taken n r st) (taken (n + d) q (later d st))
   counted st zero = spent st (0 + d)
   counted st (suc n) =
@@ -157,17 +158,20 @@ more_both {A = A} {B = B} {C = C} d calls r1 q1 r2 q2 f g h k quiet w = record {
   weighed st e streams (Ended e2 streams2) o1 c z = ap (outweighed e streams) z
   weighed st e streams (Going streams2) o1 c z = absurd c
   weighed st e streams Wild o1 c z = ap (outweighed e streams) z
+
   at_end : (streams : Content) (e : Ending) (streams1 : Content) (o : Outcome B) → Longer (output_of streams) (output_of streams1) → Beyond {A = C} streams (outweighed e streams1 o)
   at_end streams e streams1 (Done y st2) b = b
   at_end streams e streams1 (Ended e2 streams2) b = b
   at_end streams e streams1 (Going streams2) b = b
   at_end streams e streams1 Wild b = tt
+
   late : (st : State) (calls : Bool) (streams : Content) (o1 : Outcome A) → Beyond streams o1 → Beyond streams (second_side calls o1 q2 g st)
   late st calls streams (Done x st1) b = beyond_followed streams (Done x st1) (λ z. then_do q2 (g z)) b (λ z. grow_then q2 (g z) k.grows (λ y. (w z y).grows))
   late st true streams (Ended e streams1) b = b
   late st false streams (Ended e streams1) b = at_end streams e streams1 (q2 st) b
   late st calls streams (Going streams1) b = b
   late st calls streams Wild b = tt
+
   sides : (st : State) (calls : Bool) → (calls ≡ false → CalmRun r2) → (o o1 : Outcome A) → Goes d o o1 → Goes d (second_side calls o r2 f st) (second_side calls o1 q2 g (later d st))
   sides st calls quiet (Done x st1) o1 z = subst (λ v. Goes d (followed (r2 st1) (f x)) (second_side calls v q2 g (later d st))) (sym z) ((more_then d r2 q2 (f x) (g x) k (w x)).from st1)
   sides st false quiet (Ended e streams) o1 z = subst (λ v. Goes d (outweighed e streams (r2 st)) (second_side false v q2 g (later d st))) (sym z) (weighed st e streams (r2 st) (q2 (later d st)) ((quiet refl).from st) (k.from st))
@@ -198,9 +202,9 @@ more_rounds d (suc n) zero f g x le h = absurd (omega arith)
 more_rounds {A = A} {B = B} d (suc n) (suc m) f g x le h =
     let le1 : n ≤ m = omega arith in
     more_then d (f x) (g x) (next_round (rounds n f)) (next_round (rounds m g)) (h x) (onwards (λ y. more_rounds d n m f g y le1 h)) where
-  onwards : ((y : A) → MoreRun d (rounds n f y) (rounds m g y)) → (r : Round A B) → MoreRun d (next_round (rounds n f) r) (next_round (rounds m g) r)
-  onwards again (Again y) = again y
-  onwards again (Leave y) = more_done d y
+      onwards : ((y : A) → MoreRun d (rounds n f y) (rounds m g y)) → (r : Round A B) → MoreRun d (next_round (rounds n f) r) (next_round (rounds m g) r)
+      onwards again (Again y) = again y
+      onwards again (Leave y) = more_done d y
 
 more_repeated : {A B : Type 0} (d : ℕ) (f g : A → Run (Round A B)) (x : A) → ((y : A) → MoreRun d (f y) (g y)) → MoreRun d (repeated f x) (repeated g x)
 more_repeated d f g x h = record {
@@ -240,7 +244,7 @@ mutual
       let h = more_sense d C D t a p (s + 1) in
       let k = more_sense d C D t b p (s + 1) in
       let v : MoreRun d (sense C (Bin op a b) p s).value (sense D (Bin op a b) p s).value =
-          more_both d (has_call a || has_call b) _ _ _ _ _ _ h.0 k.0 (λ quiet. (calm C b (no_right _ _ quiet) p (s + 1)).0) (λ x y. more_given d (value_of op x y)) in
+      more_both d (has_call a || has_call b) _ _ _ _ _ _ h.0 k.0 (λ quiet. (calm C b (no_right _ _ quiet) p (s + 1)).0) (λ x y. more_given d (value_of op x y)) in
       (v, more_truth d op (sense C a p (s + 1)) (sense C b p (s + 1)) (sense D a p (s + 1)) (sense D b p (s + 1)) _ _ h.1 k.1 v)
   more_sense d C D t (Cond c x y) p s =
       more_by_value d _ _ (more_then d _ _ _ _ (more_sense d C D t c p s).1 (λ b. more_choose d b _ _ _ _ (more_sense d C D t x p s).0 (more_sense d C D t y p s).0))
@@ -346,7 +350,7 @@ more_for : (d by : ℕ) (start start1 : Run (Unit {0})) (limit limit1 variable v
 more_for d by start start1 limit limit1 variable variable1 step step1 body body1 hs hl hv ht hb =
     more_then d start start1 _ _ hs (λ u. more_then d limit limit1 _ _ hl (λ n.
     more_repeated d _ _ tt (λ u. more_then d variable variable1 _ _ hv (λ i. more_choose d (holds (end_relation by) i n) leave _ leave _ (more_done d (Leave Past))
-      (more_round d body body1 _ _ hb (more_then d step step1 _ _ ht (λ u. more_back d)))))))
+    (more_round d body body1 _ _ hb (more_then d step step1 _ _ ht (λ u. more_back d)))))))
 
 mutual
   more_perform : (d : ℕ) (C D : Context) → MoreContext d C D → (c : Command) (p s : ℕ) → MoreRun d (perform C c p s) (perform D c p s)
@@ -447,8 +451,8 @@ more_enter d call call1 t (Some (OfSection section r)) vs f =
     let valofs = section.core.valofs in
     more_choose d (nat_le (f + frame_size valofs r) 65536) _ _ _ _
     (more_turn d _ _ (more_opened d r.parameters (f + 2) (passed r.parameters (f + 2) vs) _ _
-      (more_body d (context_in section call) (context_in section call1)
-      (record { place = λ m. refl; call = t; valof = λ n p s. more_valofs d (place_in section) call call1 t 0 valofs n p s }) r.body f (2 + r.parameters)))) (more_wild ℕ d)
+    (more_body d (context_in section call) (context_in section call1)
+    (record { place = λ m. refl; call = t; valof = λ n p s. more_valofs d (place_in section) call call1 t 0 valofs n p s }) r.body f (2 + r.parameters)))) (more_wild ℕ d)
 more_enter d call call1 t (Some (OfLibrary q)) vs f =
     more_choose d (nat_le (f + primitive_frame) 65536) _ _ _ _
     (more_turn d _ _ (more_opened d 1 (f + 2) (passed 1 (f + 2) vs) _ _ (more_primitive d q f))) (more_wild ℕ d)
@@ -478,5 +482,5 @@ more_turns_go_further cores map streams n more =
     let st : State = record { cells = start_cells program; streams = streams; turns = n } in
     let le : suc n ≤ suc (n + more) = omega arith in
     let h = more_then more (read 9) (read 9) (λ start. calls program (suc n) start [] (map.stack_base + 2)) (λ start. calls program (suc (n + more)) start [] (map.stack_base + 2))
-      (more_read more 9) (λ start. more_calls more program (suc n) (suc (n + more)) le start [] (map.stack_base + 2)) in
+    (more_read more 9) (λ start. more_calls more program (suc n) (suc (n + more)) le start [] (map.stack_base + 2)) in
     further more (run_of program map.stack_base st) (run_of program map.stack_base (later more st)) (h.from st)

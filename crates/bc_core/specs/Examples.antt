@@ -174,8 +174,8 @@ reads_missing = refl
 
 -- F(N) = N=0 -> 0, N+F(N-1), at 3
 recursion :
-  run_with (routine None 1 (Gives (Cond (Bin Equal (at 2) (Num 0)) (Num 0) (Bin Add (at 2) (call (Place 2) (Bin Subtract (at 2) (Num 1) ∷ []))))) ∷ [])
-  [] (commands (print_digit (call (Place 2) (Num 3 ∷ [])) ∷ [])) 100 ≡ printed (54 ∷ [])
+    run_with (routine None 1 (Gives (Cond (Bin Equal (at 2) (Num 0)) (Num 0) (Bin Add (at 2) (call (Place 2) (Bin Subtract (at 2) (Num 1) ∷ []))))) ∷ [])
+    [] (commands (print_digit (call (Place 2) (Num 3 ∷ [])) ∷ [])) 100 ≡ printed (54 ∷ [])
 recursion = refl
 
 -- a value that is no routine's address
@@ -184,9 +184,9 @@ wild_call = refl
 
 -- `LET X = 0`; WRCH('0' + VALOF $( X := X+1; IF X = 3 RESULTIS X $) REPEAT)
 valof_in_loop :
-  run_with []
-  (record { level = 6; body = commands (c.Repeat (commands (set_to 2 (Bin Add (at 2) (Num 1)) ∷ c.If true (Bin Equal (at 2) (Num 3)) (commands (c.Resultis (at 2) ∷ [])) ∷ [])) ∷ []) } ∷ [])
-  (let_in (Initial (Num 0) ∷ []) (print_digit (Valof 0) ∷ [])) 100 ≡ printed (51 ∷ [])
+    run_with []
+    (record { level = 6; body = commands (c.Repeat (commands (set_to 2 (Bin Add (at 2) (Num 1)) ∷ c.If true (Bin Equal (at 2) (Num 3)) (commands (c.Resultis (at 2) ∷ [])) ∷ [])) ∷ []) } ∷ [])
+    (let_in (Initial (Num 0) ∷ []) (print_digit (Valof 0) ∷ [])) 100 ≡ printed (51 ∷ [])
 valof_in_loop = refl
 
 -- a VALOF without RESULTIS is 0
@@ -223,7 +223,7 @@ for_changed = refl
 
 -- IF I = 2 DO LOOP; IF I = 4 DO BREAK; print I
 break_and_loop :
-  for_loop 1 9 1 (c.If true (Bin Equal (at 2) (Num 2)) (commands (c.Loop ∷ [])) ∷ c.If true (Bin Equal (at 2) (Num 4)) (commands (c.Break ∷ [])) ∷ print_digit (at 2) ∷ []) ≡ printed (49 ∷ 51 ∷ [])
+    for_loop 1 9 1 (c.If true (Bin Equal (at 2) (Num 2)) (commands (c.Loop ∷ [])) ∷ c.If true (Bin Equal (at 2) (Num 4)) (commands (c.Break ∷ [])) ∷ print_digit (at 2) ∷ []) ≡ printed (49 ∷ 51 ∷ [])
 break_and_loop = refl
 
 -- SWITCHON v INTO $( CASE 1: WRCH('A'); CASE 2: WRCH('B'); ENDCASE; CASE 3: WRCH('C') $)
@@ -249,7 +249,7 @@ vector = refl
 
 -- FOR I = 1 TO 2 DO $( LET V = VEC 0; IF I = 2 DO print !V; !V := 65 $)
 unset_anew :
-  run (commands (c.For (Num 1) (Num 2) 1 (let_in (Vector 0 ∷ []) (c.If true (Bin Equal (at 2) (Num 2)) (commands (print (Load (at 4)) ∷ [])) ∷ c.Assign (Num 65) (at 4) ∷ [])) ∷ [])) ≡ Wild
+    run (commands (c.For (Num 1) (Num 2) 1 (let_in (Vector 0 ∷ []) (c.If true (Bin Equal (at 2) (Num 2)) (commands (print (Load (at 4)) ∷ [])) ∷ c.Assign (Num 65) (at 4) ∷ [])) ∷ [])) ≡ Wild
 unset_anew = refl
 
 -- the cell of a block that was left is dead: `$( LET X = 1; P := @X $); print !P`
@@ -262,7 +262,7 @@ goes_on = refl
 
 -- LET I = 0; L: I := I+1; IF I<3 GOTO L; print I
 goto_backward :
-  run (block ((Initial (Num 0) ∷ []) ∷ []) (label 0 (list (set_to 2 (Bin Add (at 2) (Num 1)) ∷ c.If true (Bin Less (at 2) (Num 3)) (commands (c.Goto 0 ∷ [])) ∷ print_digit (at 2) ∷ [])))) ≡ printed (51 ∷ [])
+    run (block ((Initial (Num 0) ∷ []) ∷ []) (label 0 (list (set_to 2 (Bin Add (at 2) (Num 1)) ∷ c.If true (Bin Less (at 2) (Num 3)) (commands (c.Goto 0 ∷ [])) ∷ print_digit (at 2) ∷ [])))) ≡ printed (51 ∷ [])
 goto_backward = refl
 
 -- FINISH in a routine that is called

@@ -49,4 +49,4 @@ abbrev pub for_loop : ℕ → (start : Run (Unit {0})) → (limit variable : Run
 for_loop by start limit variable step body =
     then_do start (λ u. then_do limit (λ n.
     repeated (λ u. then_do variable (λ i.
-      choose (holds (end_relation by) i n) leave (then_do body (behind_body (then_do step (λ u. back)))))) tt))
+    choose (holds (end_relation by) i n) leave (then_do body (behind_body (then_do step (λ u. back)))))) tt))

@@ -3,7 +3,7 @@ use bc_word::{Op, Word};
 /// An expression whose names are resolved.
 ///
 /// A node has no type of its own: every value is a word.
-#[derive(Debug, Drop)]
+#[derive(Debug, Drop, PartialEq, Eq)]
 pub enum CoreExp {
     /// A number.
     Num(Word),
@@ -31,7 +31,7 @@ pub enum CoreExp {
 
 /// An expression, a test or an assignment as it gets its code, with its level: the first offset of
 /// the frame above all that lives when its work begins.
-#[derive(Debug, Drop)]
+#[derive(Debug, Drop, PartialEq, Eq)]
 pub enum Root {
     /// The value of an expression.
     Value {

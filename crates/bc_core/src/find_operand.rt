@@ -3,7 +3,8 @@ ghost use Rattle.bc_core.specs.View.{exp};
 ghost use Rattle.bc_core.specs.Operand.{operand_of, constant_of, moved as moved_of, sum_operand, content_of, direct as direct_of};
 
 use crate::expression::CoreExp;
-use crate::operands::{Base, Operand};
+use crate::operands::Operand;
+use bc_item::Base;
 use bc_word::{Op, Word};
 
 fn direct(base: Base, n: Word) -> Operand

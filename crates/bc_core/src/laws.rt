@@ -6,12 +6,10 @@ ghost use Rattle.bc_core.specs.Laws.{CallsAreTidy, MoreTurnsGoFurther};
 /// wasn't live; whatever a call comes to, each output has the bytes that it had, and perhaps more.
 pub fn calls_are_tidy()
     ensures { CallsAreTidy }
-{
-}
+{}
 
 /// With more turns a run that has ended is the same, and so is a wild one; a run that goes on has
 /// then an output at least as long, unless it is wild.
 pub fn more_turns_go_further()
     ensures { MoreTurnsGoFurther }
-{
-}
+{}
