@@ -1,0 +1,7 @@
+pub mod Labels
+pub mod Layout
+pub mod Store
+pub mod Refusals
+pub mod Linked
+pub mod Steps
+pub mod Drafts
