@@ -1,5 +1,5 @@
 -- What is spelled is read: each element of a text brings the reader on by what it spells.
-use Rattle.std.proofs.Common.{◌≡◌, ◌⊎◌, inl, inr, ℕ, ◌+◌, ◌-◌, ◌*◌, ◌%◌, ◌<◌, ◌≤◌, min, List, [], ◌∷◌, ◌++◌, length, map, Result, Ok, Err, Bool, true, false, ◌&&◌, cond, eqb, leb, ltb, refl, sym, ap, ◌∙◌, arith, append_assoc, append-nil, length-append, ◌≢◌}
+use Rattle.std.proofs.Common.{◌≡◌, inl, inr, ℕ, ◌+◌, ◌-◌, ◌*◌, ◌%◌, ◌≤◌, List, [], ◌∷◌, ◌++◌, length, map, Result, Ok, Err, Bool, true, false, ◌&&◌, cond, eqb, refl, sym, ap, ◌∙◌, arith, append_assoc, append-nil, length-append, ◌≢◌}
 use Rattle.std.proofs.lemmas.Bool.Decides.{nat_tests}
 use Rattle.std.proofs.lemmas.Bool.{le-ltb}
 use Rattle.std.specs.Char.{is_ascii_digit}
@@ -10,13 +10,13 @@ use Rattle.bc_item.specs.declared.item.Base.{Base}
 use Rattle.bc_item.specs.declared.item.Base.TheVariants as bases
 use Rattle.bc_item.specs.declared.item.Function.{Function}
 use Rattle.bc_item.specs.declared.item.Function.TheVariants as functions
-use Rattle.bc_text.specs.Numbers.{value_from, value_of_digits, IsNumber, IsSignedNumber}
+use Rattle.bc_text.specs.Numbers.{value_from, IsNumber, IsSignedNumber}
 use Rattle.bc_text.specs.Letters.{letter, indirection, base_letter, operation_letters, is_blank}
 use Rattle.bc_text.specs.Spelling.{Spells, IsOperationNumber}
 use Rattle.bc_text.specs.Texts.{BeginsWithNoDigit, HasNoLineEnd, BeginsWithLineEnd, Begins, IsText, elements_of, Element, an_item, end_of_segment, nothing, blank, comment, item, segment_end}
 use Rattle.bc_text.specs.Heads.{IsHead, allows, limit}
 use Rattle.bc_text.specs.Faults.{capped}
-use Rattle.bc_text.specs.Steps.{Progress, at_place, behind_head, with_digit, if_in_range, greatest, placed_at, begun, between, ended_number, word_of, answer, answer_of, run, finished, finished_at, on_ok, start}
+use Rattle.bc_text.specs.Steps.{Progress, at_place, with_digit, if_in_range, greatest, placed_at, begun, between, ended_number, word_of, answer, answer_of, run, finished_at, on_ok, start}
 use Rattle.bc_text.specs.declared.head.Head.{Head}
 use Rattle.bc_text.specs.declared.head.Head.TheVariants as heads
 use Rattle.bc_text.specs.declared.head.Ended.TheVariants as ended

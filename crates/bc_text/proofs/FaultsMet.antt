@@ -1,5 +1,5 @@
 -- A fault that stands in a text is met.
-use Rattle.std.proofs.Common.{◌≡◌, ◌≢◌, ◌⊎◌, inl, inr, ℕ, ◌+◌, ◌-◌, ◌*◌, ◌<◌, ◌≤◌, min, List, [], ◌∷◌, ◌++◌, length, Option, Some, None, Result, Ok, Err, Bool, true, false, ◌&&◌, ◌||◌, cond, eqb, leb, ltb, refl, sym, ap, subst, ◌∙◌, arith, append_assoc, length-append}
+use Rattle.std.proofs.Common.{◌≡◌, ◌≢◌, ◌⊎◌, inl, inr, ℕ, ◌+◌, ◌-◌, ◌*◌, ◌<◌, ◌≤◌, List, [], ◌∷◌, ◌++◌, length, Some, None, Result, Ok, Err, Bool, true, false, ◌&&◌, ◌||◌, cond, eqb, refl, sym, ap, ◌∙◌, arith, append_assoc}
 use Rattle.std.proofs.lemmas.Bool.Decides.{nat_tests}
 use Rattle.std.proofs.lemmas.Bool.{lt-ltb, eqb-true}
 use Rattle.std.specs.Char.{is_ascii_digit}
@@ -7,12 +7,11 @@ use Rattle.std.specs.Str.{all_ascii_digits}
 use Rattle.std.specs.List.{list_any}
 use Rattle.bc_item.specs.declared.item.Item.{Item}
 use Rattle.bc_item.specs.declared.item.Base.TheVariants as bases
-use Rattle.bc_text.specs.Numbers.{value_from, value_of_digits, IsNumber}
+use Rattle.bc_text.specs.Numbers.{value_from, value_of_digits}
 use Rattle.bc_text.specs.Letters.{is_blank}
-use Rattle.bc_text.specs.Texts.{Element}
-use Rattle.bc_text.specs.Heads.{IsHead, allows, others_behind, limit}
+use Rattle.bc_text.specs.Heads.{IsHead, allows, limit}
 use Rattle.bc_text.specs.Faults.{capped, may_begin, first_letters, Breaks, no_item, no_digit, no_digit_behind_minus, too_large, too_small, no_label, HasFault}
-use Rattle.bc_text.specs.Steps.{Progress, at_place, behind_head, behind_letter, longer, head_of, with_digit, if_in_range, greatest, placed_at, begun, between, answer, answer_of, run, on_ok, start, finished, finished_at}
+use Rattle.bc_text.specs.Steps.{Progress, at_place, longer, head_of, if_in_range, greatest, placed_at, answer, answer_of, run, start, finished_at}
 use Rattle.bc_text.specs.declared.head.Head.{Head}
 use Rattle.bc_text.specs.declared.head.Head.TheVariants as heads
 use Rattle.bc_text.specs.declared.head.Place.{Place}
@@ -20,7 +19,7 @@ use Rattle.bc_text.specs.declared.head.Place.TheVariants as places
 use Rattle.bc_text.specs.declared.text_error.TextError.{TextError}
 use Rattle.bc_text.specs.declared.text_error.TextError.TheVariants as errors
 use Rattle.bc_text.proofs.States.{state, run-stop, answer-step}
-use Rattle.bc_text.proofs.Complete.{and_true, counted, TakesNumber, between_takes_label, head_takes_number, minus_takes_number, number_read, head_read, minus_read, global_read, begins_read, segments_after, items_after}
+use Rattle.bc_text.proofs.Complete.{and_true, TakesNumber, between_takes_label, head_takes_number, minus_takes_number, number_read, head_read, minus_read, global_read, begins_read, segments_after, items_after}
 
 pub or_false : (a b : Bool) → (a || b) ≡ false → (a ≡ false) × (b ≡ false)
 or_false true b e = absurd cc
@@ -146,6 +145,7 @@ head_digits_stop s i head n d front digits more is all low high =
     stop head is other low high =
         head_read s i head n front (digits ++ d ∷ more) is other
         ∙ digits_stop s i (places.Head head) head (capped (n + length front)) false (n + length front) d digits more (head_takes_number head (n + length front)) all low high
+
     go : (head : Head) → IsHead front head → value_of_digits digits ≤ limit head → limit head < value_of_digits (digits ++ d ∷ [])
         → answer (front ++ (digits ++ d ∷ more)) (state s i places.Between n) ≡ Err (errors.BadNumber (capped (n + length front)))
     go heads.Label is low high =

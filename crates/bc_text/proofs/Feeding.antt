@@ -1,13 +1,12 @@
 -- What a reader's calls answer, by what it has read.
-use Rattle.std.proofs.Common.{◌≡◌, ◌⊎◌, inl, inr, ℕ, List, [], ◌∷◌, ◌++◌, Vec, Option, Some, None, Result, Ok, Err, OnOk, OnErr, MatchResult, refl, sym, ap, subst, ◌∙◌, ◌+◌, ◌<◌, ◌≤◌, length, take, drop, get_or, append-nil, take-append-drop}
+use Rattle.std.proofs.Common.{◌≡◌, ◌⊎◌, inl, inr, ℕ, List, [], ◌∷◌, ◌++◌, Vec, Option, Some, None, Result, Ok, Err, OnOk, OnErr, sym, ap, subst, ◌∙◌, ◌+◌, ◌<◌, ◌≤◌, length, take, drop, get_or, append-nil, take-append-drop}
 use Rattle.std.proofs.lemmas.List.{take_more, take_all}
 use Rattle.std.proofs.lemmas.Grind.{flat_map-append}
 use Rattle.std.specs.Borrow.{Bor}
 use Rattle.std.specs.declared.alloc.Global.{Global}
 use Rattle.bc_item.specs.declared.item.Item.{Item}
-use Rattle.bc_text.specs.Texts.{IsText}
 use Rattle.bc_text.specs.Faults.{HasFault, IsFaultOf}
-use Rattle.bc_text.specs.Steps.{Progress, start, run, on_ok, finished, answer, answer_of}
+use Rattle.bc_text.specs.Steps.{Progress, start, run, on_ok, answer_of}
 use Rattle.bc_text.specs.Reading.{HasRead, HasFailed, IsAnswer, IsAnswerAtEnd, Feeds, Finishes, IsWholeAnswer, IsOnly, IsRefused, bytes_of}
 use Rattle.bc_text.specs.declared.text_error.TextError.{TextError}
 use Rattle.bc_text.specs.declared.text_error.TextError.TheVariants as errors

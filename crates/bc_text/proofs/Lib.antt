@@ -5,3 +5,6 @@ pub mod FaultsMet
 pub mod Sound
 pub mod Whole
 pub mod Feeding
+pub mod Fronts
+pub mod Printed
+pub mod TextLaws

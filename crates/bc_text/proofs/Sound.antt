@@ -1,5 +1,5 @@
 -- What is read is spelled so, and what is refused is a fault: the reader's state tells what its bytes are.
-use Rattle.std.proofs.Common.{◌≡◌, ◌≢◌, ◌⊎◌, inl, inr, ℕ, ◌+◌, ◌-◌, ◌*◌, ◌%◌, ◌<◌, ◌≤◌, min, List, [], ◌∷◌, ◌++◌, length, map, Option, Some, None, Result, Ok, Err, Bool, true, false, ◌&&◌, ◌||◌, cond, eqb, leb, ltb, refl, sym, ap, subst, ◌∙◌, arith, append_assoc, append-nil, length-append, add-zero}
+use Rattle.std.proofs.Common.{◌≡◌, ◌≢◌, inl, inr, ℕ, ◌+◌, ◌-◌, ◌*◌, ◌<◌, ◌≤◌, List, [], ◌∷◌, ◌++◌, length, map, Option, Some, None, Result, Ok, Err, Bool, true, false, ◌&&◌, cond, eqb, ltb, refl, sym, ap, subst, ◌∙◌, arith, append_assoc, append-nil, length-append, add-zero}
 use Rattle.std.proofs.lemmas.Bool.{eqb-true, ltb-true, ltb-false}
 use Rattle.std.specs.Char.{is_ascii_digit}
 use Rattle.std.specs.Str.{all_ascii_digits}
@@ -9,13 +9,13 @@ use Rattle.bc_item.specs.declared.item.Item.TheVariants as items
 use Rattle.bc_item.specs.declared.item.Base.{Base}
 use Rattle.bc_item.specs.declared.item.Base.TheVariants as bases
 use Rattle.bc_item.specs.declared.item.Function.{Function}
-use Rattle.bc_text.specs.Numbers.{value_from, value_of_digits, IsNumber, IsSignedNumber}
-use Rattle.bc_text.specs.Letters.{letter, indirection, base_letter, operation_letters, is_blank}
-use Rattle.bc_text.specs.Spelling.{Spells, IsOperationNumber}
-use Rattle.bc_text.specs.Texts.{BeginsWithNoDigit, HasNoLineEnd, BeginsWithLineEnd, Begins, IsText, elements_of, Element, an_item, end_of_segment, nothing, blank, comment, item, segment_end}
-use Rattle.bc_text.specs.Heads.{IsHead, allows, others_behind, limit}
-use Rattle.bc_text.specs.Faults.{capped, may_begin, first_letters, Breaks, no_item, no_digit, no_digit_behind_minus, too_large, too_small, no_label, HasFault}
-use Rattle.bc_text.specs.Steps.{Progress, start, step, run, on_ok, at_place, behind_head, behind_letter, longer, head_of, with_digit, if_in_range, greatest, placed, placed_at, closed, with_item, begun, between, ended_number, word_of, behind_number, behind_global, in_digits, finished, finished_at, answer, answer_of}
+use Rattle.bc_text.specs.Numbers.{value_of_digits, IsNumber}
+use Rattle.bc_text.specs.Letters.{letter, operation_letters, is_blank}
+use Rattle.bc_text.specs.Spelling.{Spells}
+use Rattle.bc_text.specs.Texts.{HasNoLineEnd, Begins, elements_of, Element, an_item, end_of_segment, nothing, blank, comment, item, segment_end}
+use Rattle.bc_text.specs.Heads.{IsHead, allows, limit}
+use Rattle.bc_text.specs.Faults.{capped, first_letters, Breaks, no_item, no_digit, no_digit_behind_minus, too_large, too_small, no_label, HasFault}
+use Rattle.bc_text.specs.Steps.{Progress, step, at_place, behind_letter, longer, head_of, with_digit, greatest, placed, placed_at, closed, with_item, begun, between, ended_number, word_of, behind_number}
 use Rattle.bc_text.specs.declared.head.Head.{Head}
 use Rattle.bc_text.specs.declared.head.Head.TheVariants as heads
 use Rattle.bc_text.specs.declared.head.Ended.{Ended}
@@ -24,9 +24,9 @@ use Rattle.bc_text.specs.declared.head.Place.{Place}
 use Rattle.bc_text.specs.declared.head.Place.TheVariants as places
 use Rattle.bc_text.specs.declared.text_error.TextError.{TextError}
 use Rattle.bc_text.specs.declared.text_error.TextError.TheVariants as errors
-use Rattle.bc_text.proofs.States.{capped-more, run-append}
+use Rattle.bc_text.proofs.States.{capped-more}
 use Rattle.bc_text.proofs.Complete.{and_true}
-use Rattle.bc_text.proofs.FaultsMet.{or_false, minus_is_of_word, value_from-append}
+use Rattle.bc_text.proofs.FaultsMet.{minus_is_of_word, value_from-append}
 
 -- ---- Elements and what stands behind them
 
@@ -140,9 +140,14 @@ broken : (bytes : List ℕ) (byte : ℕ) (p : Progress) (fault : TextError) (m :
     → ((more : List ℕ) → Breaks (length m.before) (m.held ++ byte ∷ more) fault) → (more : List ℕ) → HasFault (bytes ++ byte ∷ more) fault
 broken bytes byte p fault m breaks more =
     let rest = m.held ++ byte ∷ more in
-    let whole : bytes ++ byte ∷ more ≡ m.before ++ rest = ap (λ t. t ++ byte ∷ more) m.whole ∙ append_assoc m.before m.held (byte ∷ more) in
-    (length m.before, elements_so_far p, rest, subst (λ t. Begins t (elements_so_far p) rest) (sym whole) (m.begins more),
-    omega (arith, ap length whole, length-append m.before rest), breaks more)
+    let whole : bytes ++ byte ∷ more ≡ m.before ++ rest = ap (λ t. t ++ byte ∷ more) m.whole ∙ append_assoc m.before m.held (byte ∷ more) in (
+      length m.before,
+      elements_so_far p,
+      rest,
+      subst (λ t. Begins t (elements_so_far p) rest) (sym whole) (m.begins more),
+      omega (arith, ap length whole, length-append m.before rest),
+      breaks more,
+    )
 
 -- ---- Digits
 
@@ -150,12 +155,12 @@ number_parts : (limit value : ℕ) (digits : List ℕ) → IsNumber limit digits
 number_parts limit value [] h = absurd h
 number_parts limit value (d ∷ digits) h = h
 
-all_digits-more : (digits : List ℕ) (d : ℕ) → all_ascii_digits digits ≡ true → is_ascii_digit d ≡ true → all_ascii_digits (digits ++ d ∷ []) ≡ true
+pub all_digits-more : (digits : List ℕ) (d : ℕ) → all_ascii_digits digits ≡ true → is_ascii_digit d ≡ true → all_ascii_digits (digits ++ d ∷ []) ≡ true
 all_digits-more [] d h e = rw e refl
 all_digits-more (x ∷ digits) d h e =
     let a = and_true (is_ascii_digit x) (all_ascii_digits digits) h in rw (a.0) (all_digits-more digits d a.1 e)
 
-number_from : (limit value : ℕ) (digits : List ℕ) (d : ℕ) → all_ascii_digits (digits ++ d ∷ []) ≡ true → value_of_digits (digits ++ d ∷ []) ≡ value → value ≤ limit
+pub number_from : (limit value : ℕ) (digits : List ℕ) (d : ℕ) → all_ascii_digits (digits ++ d ∷ []) ≡ true → value_of_digits (digits ++ d ∷ []) ≡ value → value ≤ limit
     → IsNumber limit (digits ++ d ∷ []) value
 number_from limit value [] d all is fits = (all, is, fits)
 number_from limit value (x ∷ digits) d all is fits = (all, is, fits)
@@ -187,9 +192,15 @@ digit_leads bytes byte p m head from negative value front digits is opens allowe
     (λ high. broken bytes byte p (errors.BadNumber from) m (λ more.
     out_of_range_breaks (length m.before) byte from head negative m.held front digits more is opens allowed all_more (subst (λ v. v ≤ greatest head negative) (sym stands) fits)
     (subst (λ v. greatest head negative < v) (sym stands_more) (ltb-true _ _ high)) place))
-    (λ low. grown bytes byte p (places.Digits head from negative next) m
-    (front, more_digits, ap (λ t. t ++ byte ∷ []) is ∙ append_assoc front (sign negative ++ digits) (byte ∷ []) ∙ ap (λ t. front ++ t) (append_assoc (sign negative) digits (byte ∷ [])),
-    opens, allowed, number_from (greatest head negative) next digits byte all_more stands_more (ltb-false _ _ low), place))
+    (λ low. grown bytes byte p (places.Digits head from negative next) m (
+      front,
+      more_digits,
+      ap (λ t. t ++ byte ∷ []) is ∙ append_assoc front (sign negative ++ digits) (byte ∷ []) ∙ ap (λ t. front ++ t) (append_assoc (sign negative) digits (byte ∷ [])),
+      opens,
+      allowed,
+      number_from (greatest head negative) next digits byte all_more stands_more (ltb-false _ _ low),
+      place,
+    ))
 
 -- ---- A byte where an item may begin
 

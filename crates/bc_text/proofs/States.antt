@@ -1,11 +1,9 @@
 -- States of the reader, with the true count of bytes.
-use Rattle.std.proofs.Common.{◌≡◌, ℕ, ◌+◌, ◌-◌, ◌*◌, ◌^◌, ◌<◌, ◌≤◌, min, List, [], ◌∷◌, ◌++◌, length, Result, Ok, Err, Option, Some, None, Bool, true, false, cond, refl, sym, ap, ◌∙◌, arith, append_assoc}
-use Rattle.std.specs.Char.{is_ascii_digit}
+use Rattle.std.proofs.Common.{◌≡◌, ℕ, ◌+◌, List, [], ◌∷◌, ◌++◌, Result, Ok, Err, refl, ap, ◌∙◌, arith}
 use Rattle.bc_item.specs.declared.item.Item.{Item}
-use Rattle.bc_text.specs.Steps.{Progress, step, run, on_ok, at_place, answer, answer_of, finished}
+use Rattle.bc_text.specs.Steps.{Progress, step, run, on_ok, at_place, answer, answer_of}
 use Rattle.bc_text.specs.Faults.{capped}
 use Rattle.bc_text.specs.declared.head.Place.{Place}
-use Rattle.bc_text.specs.declared.head.Place.TheVariants as places
 use Rattle.bc_text.specs.declared.text_error.TextError.{TextError}
 
 -- at this place, with n bytes read

@@ -1,5 +1,5 @@
 -- What a run from the beginning says of its bytes, in both directions.
-use Rattle.std.proofs.Common.{◌≡◌, ◌≢◌, ◌⊎◌, inl, inr, ℕ, ◌+◌, List, [], ◌∷◌, ◌++◌, length, map, Result, Ok, Err, Bool, true, false, refl, sym, ap, subst, ◌∙◌, append_assoc, append-nil}
+use Rattle.std.proofs.Common.{◌≡◌, inl, inr, ℕ, List, [], ◌∷◌, ◌++◌, Result, Ok, Err, Bool, refl, sym, ap, subst, ◌∙◌, append_assoc, append-nil}
 use Rattle.bc_item.specs.declared.item.Item.{Item}
 use Rattle.bc_text.specs.Texts.{Begins, IsText, GoesOn, elements_of, nothing, comment}
 use Rattle.bc_text.specs.Faults.{HasFault, IsUnended, IsFaultOf}
@@ -167,6 +167,7 @@ answer_of_fault bytes fault (inr (is, unended)) = go (answer bytes start) refl
   where
     found : (p : Progress) × (run bytes start ≡ Ok p)
     found = goes_on_runs bytes unended.1
+
     go : (r : Result (List (List Item)) TextError) → answer bytes start ≡ r → answer bytes start ≡ Err fault
     go (Ok segments) e = absurd (unended.0 segments (text_of_answer bytes segments e))
     go (Err other) e = e ∙ ap (λ f. Err f) (only_unended found.0.place found.0.items found.0.segments other (sym (ap answer_of found.1) ∙ e) ∙ sym is)

@@ -8,3 +8,4 @@ pub mod Printed
 pub mod Steps
 pub mod Reached
 pub mod Reading
+pub mod Laws

@@ -42,7 +42,10 @@ pub enum Place {
     /// Behind a head: a digit is wanted, or another byte that the head allows.
     Head(Head),
     /// Behind the `-` of a number, which stands at `from`: a digit is wanted.
-    Minus { head: Head, from: u64 },
+    Minus {
+        head: Head,
+        from: u64,
+    },
     /// In the digits of a number, whose first byte stands at `from`.
     Digits {
         head: Head,

@@ -2,11 +2,14 @@
 #![tactic(auto)]
 
 mod head;
+pub mod laws;
 mod place;
+mod printing;
 mod progress;
 mod reader;
 mod text_error;
 
 pub use bc_item::{Base, Function, GlobalNumber, Item, Segment};
-pub use reader::Reader;
+pub use printing::print;
+pub use reader::{Reader, read_all};
 pub use text_error::TextError;

@@ -71,7 +71,14 @@ pub fn longer(head: &Head, byte: u8) -> Option<Head>
 {
     match (*head, byte) {
         (Head::Data, b'L') => Some(Head::DataLabel),
-        (Head::Operation { function, indirect, base: Base::Number }, _) => {
+        (
+            Head::Operation {
+                function,
+                indirect,
+                base: Base::Number,
+            },
+            _,
+        ) => {
             let (indirect, base) = match byte {
                 b'I' if !indirect => (true, Base::Number),
                 b'P' => (indirect, Base::P),
@@ -79,7 +86,11 @@ pub fn longer(head: &Head, byte: u8) -> Option<Head>
                 b'L' => (indirect, Base::Label),
                 _ => return None,
             };
-            Some(Head::Operation { function, indirect, base })
+            Some(Head::Operation {
+                function,
+                indirect,
+                base,
+            })
         }
         _ => None,
     }
@@ -97,7 +108,11 @@ pub fn with_digit(
     ensures is { result ≡ with_digit head.now from negative value byte }
     ensures in_range { IfOk result (λ place. IsTrue (is_in_range place)) }
 {
-    let greatest = if negative { limit(head).min(32768) } else { limit(head) };
+    let greatest = if negative {
+        limit(head).min(32768)
+    } else {
+        limit(head)
+    };
     let more = u32::from(value) * 10 + u32::from(byte - b'0');
     if u32::from(greatest) < more {
         return Err(TextError::BadNumber(from));
@@ -178,7 +193,11 @@ pub fn behind_global(number: GlobalNumber, byte: u8, at: u64) -> Result<Place, T
 fn word_of(negative: bool, value: u16) -> Word
     ensures { result ≡ word_of negative value }
 {
-    Word::new(if negative { value.wrapping_neg() } else { value })
+    Word::new(if negative {
+        value.wrapping_neg()
+    } else {
+        value
+    })
 }
 
 /// What stands there where the digits of a number are at an end.

@@ -1,5 +1,4 @@
 use std::alloc::{AllocError, AllocFailed};
-
 use thiserror::Error;
 
 /// Why a text was not read, or not written.

@@ -1,7 +1,6 @@
 -- A step at a time is the run.
-use Rattle.std.proofs.Common.{◌≡◌, ◌⊎◌, Ok, Err, sym, ◌∙◌, inl, inr}
+use Rattle.std.proofs.Common.{sym, ◌∙◌}
 use Rattle.std.proofs.lemmas.Result.{err_from_is_err_and}
-use Rattle.bc_text.specs.Reached.{progress_of}
 use Rattle.bc_text.proofs.Runs.{run-step, run-refused, run-all}
 use Rattle.bc_text.proofs.progress.Progress.fed.Goals as goal
 
