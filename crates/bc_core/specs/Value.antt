@@ -66,7 +66,7 @@ not_sense a = record {
 -- in the frame at p, at level s
 abbrev mutual
   pub sense : Context → Exp → (p s : ℕ) → Sense
-  sense C (Num n) p s = by_value (Done (n % 65536))
+  sense C (Num n) p s = by_value (Done n)
   sense C (Frame k) p s = by_value (Done ((p + k) % 65536))
   sense C (Glob n) p s = by_value (Done ((8 + n) % 65536))
   sense C (Place m) p s = by_value (Done (C.place m))

@@ -1,0 +1,5 @@
+pub mod Decoding
+pub mod Agreeing
+pub mod Landing
+pub mod Operands
+pub mod Slice

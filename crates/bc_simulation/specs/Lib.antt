@@ -1,0 +1,5 @@
+pub mod Leads
+pub mod Agreement
+pub mod CodeAt
+pub mod Lands
+pub mod Rules
