@@ -1,10 +1,10 @@
 -- Which cells are live after some were opened, closed or written.
-use Rattle.std.proofs.Common.{◌≡◌, ◌≢◌, ◌⊎◌, inl, inr, ⊎_elim, ℕ, zero, suc, ◌+◌, ◌<◌, ◌≤◌, List, [], ◌∷◌, length, Bool, true, false, refl, sym, ap, ◌∙◌, subst, arith, get_or, set}
+use Rattle.std.proofs.Common.{◌≡◌, ◌≢◌, ◌⊎◌, inl, inr, ⊎_elim, ℕ, zero, suc, ◌+◌, ◌<◌, ◌≤◌, List, [], ◌∷◌, length, true, false, refl, sym, ap, ◌∙◌, subst, arith}
 use Rattle.std.proofs.lemmas.Bool.{cases_lt}
 use Rattle.std.proofs.lemmas.List.{get_or-set_same, get_or-set_other, length-set}
 use Rattle.std.proofs.Math.ListN.{get_or-eq_default}
 use Rattle.std.specs.Prelude.{slice_set}
-use Rattle.bc_core.specs.Store.{Cell, Dead, Unset, Set, cell_at, filled, opened, closed}
+use Rattle.bc_core.specs.Store.{Cell, Dead, Unset, Set, cell_at, filled, closed}
 use Rattle.bc_core.specs.Meaning.{passed}
 use Rattle.bc_core.specs.Laws.{is_live, SameLive, DeadFrom}
 

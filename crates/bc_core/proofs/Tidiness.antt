@@ -1,5 +1,5 @@
 -- Every run is tidy: outputs only grow, and what is live behind it was live before it.
-use Rattle.std.proofs.Common.{◌≡◌, ◌⊎◌, inl, inr, ℕ, zero, suc, ◌+◌, ◌%◌, ◌≤◌, ◌<◌, ◌==◌, ◌||◌, List, [], ◌∷◌, Bool, true, false, Option, Some, None, refl, sym, ap, ◌∙◌, subst, arith, length}
+use Rattle.std.proofs.Common.{◌≡◌, ℕ, zero, suc, ◌+◌, ◌%◌, ◌≤◌, ◌==◌, ◌||◌, List, [], ◌∷◌, Bool, true, false, Option, Some, None, refl, sym, ap, subst, arith}
 use Rattle.std.specs.Prelude.{nat_le, cond}
 use Rattle.bc_word.specs.declared.operator.Op.{Op}
 use Rattle.bc_word.specs.declared.operator.Op.TheVariants as operators
@@ -10,19 +10,19 @@ use Rattle.bc_core.specs.Tree.{Exp, Num, Frame, Glob, Place, Load, Neg, Not, Bin
 use Rattle.bc_core.specs.Commands.{Variable, Initial, Vector, Command, Block, block, Items, no_item, command, case, default, label, Routine, Body, Gives, Does}
 use Rattle.bc_core.specs.Commands as commands
 use Rattle.bc_core.specs.Operand.{is_operand}
-use Rattle.bc_core.specs.Level.{level_behind_parameters, operand_level, argument_level, routine_level, side_level, cells_of, cells_of_all, cells_declared, level_in_for}
+use Rattle.bc_core.specs.Level.{side_level, cells_of, cells_of_all, cells_declared}
 use Rattle.bc_core.specs.Layout.{frame_size}
-use Rattle.bc_core.specs.Store.{Cell, Dead, Unset, Set, cell_at, opened, closed}
+use Rattle.bc_core.specs.Store.{Cell, Dead, Unset, Set, cell_at, opened}
 use Rattle.bc_core.specs.Outcome.{State, Outcome, Done, Ended, Going, Wild, Ending, ZeroDivide, Run, wild, ends, followed, then_do, choose, taken, in_turn, content_of_cell, read, written, write, left, with_cells, outweighed, second_side, both, Round, Again, Leave, next_round, rounds, repeated}
-use Rattle.bc_core.specs.Value.{Context, Sense, has_call, truth_of_value, given, operated, operator_truth, operator_sense, not_sense, sense, values, value, truth, assign}
+use Rattle.bc_core.specs.Value.{Context, Sense, has_call, truth_of_value, given, operated, operator_truth, sense, values, value, truth, assign}
 use Rattle.bc_core.specs.Exit.{Exit, Past, Broke, Looped, LeftCases, Returned, Resulted, Jumped, onward}
 use Rattle.bc_core.specs.Lists.{Entry, Beginning, AtCase, AtDefault, AtLabel, from_entry, behind_list, listed, behind_cases, switched, met, meets_case, meets_default, meets_label, entry_of}
 use Rattle.bc_core.specs.Loop.{LoopRound, back, leave, behind_body, while_loop, repeat_loop, repeat_while_loop, for_loop, agrees, end_relation}
 use Rattle.bc_core.specs.Command.{initialise_one, initialise, declare, perform, perform_block, perform_items, step_of_for}
-use Rattle.bc_core.specs.Primitive.{Primitive, Select, ReadByte, WriteByte, Find, EndStream, byte_of_string, bytes_of_string, string_of, on_streams, read_next, primitive_work, primitive_frame}
+use Rattle.bc_core.specs.Primitive.{Primitive, Select, ReadByte, WriteByte, Find, EndStream, byte_of_string, bytes_of_string, on_streams, primitive_work, primitive_frame}
 use Rattle.bc_core.specs.Start.{Placed}
-use Rattle.bc_core.specs.Meaning.{Call as Calling, routine_value, valof_value, context, valofs_from, place_in, context_in, body_value, passed, with_arguments, in_frame, Callee, OfSection, OfLibrary, callee, enter, calls}
-use Rattle.bc_core.specs.Laws.{is_live, SameLive, DeadFrom, Longer, Tidy, CallsAreTidy}
+use Rattle.bc_core.specs.Meaning.{Call as Calling, routine_value, valof_value, valofs_from, place_in, context_in, body_value, passed, with_arguments, in_frame, Callee, OfSection, OfLibrary, callee, enter, calls}
+use Rattle.bc_core.specs.Laws.{is_live, Longer, Tidy, CallsAreTidy}
 use Rattle.bc_core.proofs.Outputs.{longer_refl, longer_then, select_longer, read_longer, write_longer, end_longer}
 use Rattle.bc_core.proofs.Liveness.{Outside, filled_outside, passed_outside, live_then, dead_then, given_back, dead_above, set_live}
 

@@ -1,31 +1,29 @@
 -- With more turns a run does the same, and goes on where it had none left.
-use Rattle.std.proofs.Common.{◌≡◌, ◌⊎◌, inl, inr, ℕ, zero, suc, ◌+◌, ◌%◌, ◌≤◌, ◌<◌, ◌==◌, ◌||◌, List, [], ◌∷◌, Bool, true, false, Option, Some, None, refl, sym, ap, ◌∙◌, subst, arith}
-use Rattle.std.specs.Prelude.{nat_le, cond}
+use Rattle.std.proofs.Common.{◌≡◌, ℕ, zero, suc, ◌+◌, ◌%◌, ◌≤◌, ◌==◌, ◌||◌, List, [], ◌∷◌, Bool, true, false, Option, Some, None, refl, sym, ap, subst, arith}
+use Rattle.std.specs.Prelude.{nat_le}
 use Rattle.bc_word.specs.declared.operator.Op.{Op}
 use Rattle.bc_word.specs.declared.operator.Op.TheVariants as operators
 use Rattle.bc_word.specs.Words.{value_of, holds}
 use Rattle.bc_step.specs.Streams.{Content}
-use Rattle.bc_step.specs.StreamCalls.{output_of, find_stream}
+use Rattle.bc_step.specs.StreamCalls.{output_of}
 use Rattle.bc_core.specs.Tree.{Exp, Num, Frame, Glob, Place, Load, Neg, Not, Bin, Cond, Call, Valof, Args, no_argument, argument, count}
 use Rattle.bc_core.specs.Commands.{Variable, Initial, Vector, Command, Block, block, Items, no_item, command, case, default, label, Routine, Body, Gives, Does}
 use Rattle.bc_core.specs.Commands as commands
 use Rattle.bc_core.specs.Level.{side_level, cells_of, cells_of_all, cells_declared}
 use Rattle.bc_core.specs.Layout.{frame_size}
-use Rattle.bc_core.specs.Store.{Cell, Dead, Unset, Set, cell_at, opened, closed}
+use Rattle.bc_core.specs.Store.{Cell, Dead, Unset, Set, cell_at, opened}
 use Rattle.bc_core.specs.Outcome.{State, Outcome, Done, Ended, Going, Wild, Ending, ZeroDivide, Run, wild, ends, followed, then_do, choose, taken, in_turn, content_of_cell, read, written, write, left, with_cells, outweighed, second_side, both, Round, Again, Leave, next_round, rounds, repeated}
-use Rattle.bc_core.specs.Value.{Context, Sense, has_call, truth_of_value, given, operated, operator_truth, sense, values, value, truth, assign}
+use Rattle.bc_core.specs.Value.{Context, Sense, has_call, truth_of_value, given, operator_truth, sense, values, assign}
 use Rattle.bc_core.specs.Exit.{Exit, Past, Broke, Looped, LeftCases, Returned, Resulted, Jumped, onward}
 use Rattle.bc_core.specs.Lists.{Entry, Beginning, AtCase, AtDefault, AtLabel, from_entry, behind_list, listed, behind_cases, switched, met, meets_case, meets_default, meets_label, entry_of}
 use Rattle.bc_core.specs.Loop.{LoopRound, back, leave, behind_body, while_loop, repeat_loop, repeat_while_loop, for_loop, agrees, end_relation}
 use Rattle.bc_core.specs.Command.{initialise_one, initialise, declare, perform, perform_block, perform_items, step_of_for}
-use Rattle.bc_core.specs.Primitive.{Primitive, primitive_work, primitive_frame, Select, ReadByte, WriteByte, Find, EndStream, byte_of_string, bytes_of_string, string_of, on_streams, read_next}
-use Rattle.bc_core.specs.Map.{Map}
+use Rattle.bc_core.specs.Primitive.{Primitive, primitive_work, primitive_frame, Select, ReadByte, WriteByte, Find, EndStream, byte_of_string, bytes_of_string, string_of, on_streams}
 use Rattle.bc_core.specs.Start.{Placed, placed, start_cells}
-use Rattle.bc_core.specs.Meaning as meanings
-use Rattle.bc_core.specs.Meaning.{Call as Calling, routine_value, valof_value, valofs_from, place_in, context_in, body_value, passed, with_arguments, in_frame, Callee, OfSection, OfLibrary, callee, enter, calls, Result, result_of, run_of, meaning}
+use Rattle.bc_core.specs.Meaning.{Call as Calling, routine_value, valof_value, valofs_from, place_in, context_in, body_value, passed, Callee, OfSection, OfLibrary, callee, enter, calls, result_of, run_of}
 use Rattle.bc_core.specs.Laws.{Longer, Tidy, Further, MoreTurnsGoFurther}
 use Rattle.bc_core.proofs.Outputs.{longer_refl, longer_then, select_longer, read_longer, write_longer, end_longer}
-use Rattle.bc_core.proofs.Calm.{CalmRun, IsCalm, calm, no_left, no_right}
+use Rattle.bc_core.proofs.Calm.{CalmRun, IsCalm, calm, no_right}
 use Rattle.bc_core.proofs.Tidiness.{TidyRun, tidy_done, tidy_ends, tidy_wild, tidy_read, tidy_write, tidy_calls}
 
 -- the same state with d more turns

@@ -1,8 +1,7 @@
 -- Worked examples of the meaning. The expected values are from the language's rules.
-use Rattle.std.specs.Prelude.{ℕ, ◌≡◌, ◌+◌, List, [], ◌∷◌, ◌++◌, Option, Some, None, true, false, replicate}
+use Rattle.std.specs.Prelude.{ℕ, ◌≡◌, List, [], ◌∷◌, Option, Some, None, true, false}
 use Rattle.std.proofs.Common.{refl}
-use Rattle.bc_word.specs.declared.operator.Op.{Op}
-use Rattle.bc_word.specs.declared.operator.Op.TheVariants.{Add, Subtract, Multiply, Divide, Remainder, Less, Equal, And, Or, ShiftLeft}
+use Rattle.bc_word.specs.declared.operator.Op.TheVariants.{Add, Subtract, Multiply, Divide, Remainder, Less, Equal, And, ShiftLeft}
 use Rattle.bc_step.specs.StreamStart.{start_streams}
 use Rattle.bc_step.specs.Streams.{Content}
 use Rattle.bc_core.specs.Tree.{Exp, Num, Frame, Glob, Place, Load, Neg, Not, Bin, Cond, Call, Valof, Args, no_argument, argument}
@@ -12,7 +11,7 @@ use Rattle.bc_core.specs.Store.{Cell, Dead, Unset, Set}
 use Rattle.bc_core.specs.Outcome.{State, Outcome, Done, Finished, ZeroDivide, wild}
 use Rattle.bc_core.specs.Outcome as outcomes
 use Rattle.bc_core.specs.Value.{Context, value, truth, assign}
-use Rattle.bc_core.specs.Start.{Placed, placed, cells_from}
+use Rattle.bc_core.specs.Start.{placed, cells_from}
 use Rattle.bc_core.specs.Meaning.{Result, Ended, Going, Wild, meaning_over}
 
 -- Expressions, in a frame at 0 whose cells at 2 and 3 hold 7 and 65,535, whose cell at 4 is unset, and with no other live cell

@@ -6,7 +6,7 @@ use Rattle.bc_core.specs.Commands.{Place, Code, Routine, Body, Gives, Does, Core
 use Rattle.bc_core.specs.Level.{level_behind_parameters}
 use Rattle.bc_core.specs.Layout.{frame_size}
 use Rattle.bc_core.specs.Map.{Map}
-use Rattle.bc_core.specs.Store.{Cell, Unset, Set, closed}
+use Rattle.bc_core.specs.Store.{Cell, Unset, Set}
 use Rattle.bc_core.specs.Outcome.{State, Outcome, Done, Run, Ending, Finished, wild, then_do, choose, in_turn, left}
 use Rattle.bc_core.specs.Outcome as outcomes
 use Rattle.bc_core.specs.Value.{Context, value}

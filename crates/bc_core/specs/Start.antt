@@ -1,6 +1,6 @@
 -- The store as a run begins.
-use Rattle.std.specs.Prelude.{ℕ, zero, suc, ◌+◌, ◌-◌, ◌==◌, ◌&&◌, nat_le, nat_lt, true, false, List, [], ◌∷◌, length, slice_get, Option, Some, None}
-use Rattle.bc_core.specs.Commands.{Place, Code, Routine, Core}
+use Rattle.std.specs.Prelude.{ℕ, zero, suc, ◌+◌, ◌-◌, ◌==◌, ◌&&◌, nat_le, nat_lt, true, false, List, [], ◌∷◌, slice_get, Option, Some, None}
+use Rattle.bc_core.specs.Commands.{Place, Code, Core}
 use Rattle.bc_core.specs.Store.{Cell, Dead, Set}
 use Rattle.bc_core.specs.Words.{data_words}
 use Rattle.bc_core.specs.Primitive.{primitives, address_among}

@@ -5,7 +5,7 @@ use Rattle.bc_word.specs.declared.operator.Op.TheVariants.{And, Or}
 use Rattle.bc_word.specs.Words.{value_of, negated, complemented}
 use Rattle.bc_core.specs.Tree.{Exp, Num, Frame, Glob, Place, Load, Neg, Not, Bin, Cond, Call, Valof, Args, no_argument, argument, count}
 use Rattle.bc_core.specs.Level.{operand_level, argument_level, routine_level, side_level}
-use Rattle.bc_core.specs.Outcome.{Outcome, Done, Run, ZeroDivide, ends, then_do, choose, read, write, both}
+use Rattle.bc_core.specs.Outcome.{Done, Run, ZeroDivide, ends, then_do, choose, read, write, both}
 
 -- whether a call or a VALOF stands in an expression
 abbrev pub has_call : Exp → Bool

@@ -1,5 +1,5 @@
 -- What the program's trees stand for.
-use Rattle.std.specs.Prelude.{ℕ, Bool, List, [], ◌∷◌, map, Option}
+use Rattle.std.specs.Prelude.{List, [], ◌∷◌, map}
 use Rattle.bc_core.specs.declared.expression.CoreExp as expressions
 use Rattle.bc_core.specs.declared.expression.CoreExp.{CoreExp, Row_of-CoreExp, end_of-CoreExp, more_of-CoreExp}
 use Rattle.bc_core.specs.declared.expression.Root.{Root}

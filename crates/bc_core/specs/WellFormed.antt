@@ -4,7 +4,7 @@ use Rattle.bc_core.specs.Tree.{Exp, Frame, Glob, Place, Load, Neg, Not, Bin, Con
 use Rattle.bc_core.specs.Tree as tree
 use Rattle.bc_core.specs.Commands.{Variable, Initial, Vector, Command, Block, block, Items, no_item, command, case, default, label, Routine, Body, Gives, Does, Code, Text, Valof, Core}
 use Rattle.bc_core.specs.Commands as commands
-use Rattle.bc_core.specs.Level.{level_behind_parameters, operand_level, argument_level, routine_level, side_level, cells_of, cells_of_all, cells_declared, level_in_for}
+use Rattle.bc_core.specs.Level.{level_behind_parameters, operand_level, argument_level, routine_level, side_level, cells_of_all, cells_declared, level_in_for}
 use Rattle.bc_core.specs.Layout.{frame_size}
 
 abbrev mutual

@@ -1,14 +1,14 @@
 -- Agreement of cells and store from one moment to the next.
-use Rattle.std.proofs.Common.{◌≡◌, ◌≢◌, ◌⊎◌, inl, inr, ⊎_elim, ℕ, zero, suc, ◌+◌, ◌<◌, ◌≤◌, List, [], ◌∷◌, ◌++◌, length, refl, sym, ap, ◌∙◌, subst, arith}
-use Rattle.std.specs.Prelude.{slice_index, slice_set}
+use Rattle.std.proofs.Common.{◌≡◌, ◌≢◌, ◌⊎◌, inl, inr, ⊎_elim, ℕ, ◌+◌, ◌<◌, ◌≤◌, List, [], ◌∷◌, length, refl, sym, ap, ◌∙◌, arith}
+use Rattle.std.specs.Prelude.{slice_set}
 use Rattle.std.proofs.lemmas.Bool.{cases_lt}
-use Rattle.std.proofs.lemmas.List.{length-set, get_or-set_other, get_or-set_same}
+use Rattle.std.proofs.lemmas.List.{length-set, get_or-set_other}
 use Rattle.bc_item.specs.declared.item.Item.{Item}
 use Rattle.bc_item.specs.Sizes.{size}
 use Rattle.bc_item.specs.Assembled.{words_of_item}
-use Rattle.bc_core.specs.Store.{Cell, Dead, Unset, Set, cell_at}
+use Rattle.bc_core.specs.Store.{Cell, Dead, Set, cell_at}
 use Rattle.bc_simulation.specs.Agreement.{Holds, Keeps}
-use Rattle.bc_simulation.specs.CodeAt.{HasWords, StandsAt, HasItems, words, IsCode}
+use Rattle.bc_simulation.specs.CodeAt.{HasWords, HasItems, words, IsCode}
 
 pub keeps_refl : (top : ℕ) (cells : List Cell) (store : List ℕ) → Keeps top cells store cells store
 keeps_refl top cells store = record { dead = λ a lt d. d; same = λ a lt d. refl }
@@ -40,7 +40,7 @@ differ n k = ⊎_elim (λ lt. inl (λ e. omega arith)) (λ ge. ⊎_elim (λ lt. 
 pub holds_held : (top a v : ℕ) (cells : List Cell) (m : List ℕ) → Holds top cells m → cell_at cells a ≡ Dead → Holds top cells (slice_set m a v)
 holds_held top a v cells m h d = record {
   agrees = λ n w e. ⊎_elim (λ ne. get_or-set_other m a n v 0 ne ∙ h.agrees n w e)
-    (λ eq. let never : Dead ≡ Set w = sym d ∙ ap (λ k. cell_at cells k) (sym eq) ∙ e in cc) (differ n a);
+      (λ eq. let never : Dead ≡ Set w = sym d ∙ ap (λ k. cell_at cells k) (sym eq) ∙ e in cc) (differ n a);
   above = h.above;
   whole = length-set m a v ∙ h.whole;
   short = h.short;
@@ -64,6 +64,8 @@ code_kept address top c items c0 c1 m0 m1 sizes k code = record {
 } where
   all : (c : ℕ) (items : List Item) → ((a : ℕ) → c ≤ a → a < c + words items → cell_at c0 a ≡ Dead) → c + words items ≤ top → HasItems address m0 c items → HasItems address m1 c items
   all c [] d le h = tt
-  all c (i ∷ is) d le h =
-      (words_kept top c (words_of_item address i) c0 c1 m0 m1 k (λ a lo hi. d a lo (omega (arith, sizes i))) (omega (arith, sizes i)) h.0, h.1,
-       all (c + size i) is (λ a lo hi. d a (omega arith) (omega arith)) (omega arith) h.2)
+  all c (i ∷ is) d le h = (
+    words_kept top c (words_of_item address i) c0 c1 m0 m1 k (λ a lo hi. d a lo (omega (arith, sizes i))) (omega (arith, sizes i)) h.0,
+    h.1,
+    all (c + size i) is (λ a lo hi. d a (omega arith) (omega arith)) (omega arith) h.2,
+  )

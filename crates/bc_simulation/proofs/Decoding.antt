@@ -1,25 +1,20 @@
 -- What the machine does at the words of an operation.
-use Rattle.std.proofs.Common.{◌≡◌, ℕ, zero, suc, ◌+◌, ◌*◌, ◌/◌, ◌%◌, ◌<◌, ◌≤◌, ◌==◌, List, [], ◌∷◌, Bool, true, false, Option, Some, None, refl, sym, ap, ◌∙◌, subst, arith, length}
+use Rattle.std.proofs.Common.{◌≡◌, ℕ, ◌+◌, ◌*◌, ◌/◌, ◌%◌, ◌<◌, ◌≤◌, ◌==◌, List, [], ◌∷◌, Bool, true, false, refl, sym, ap, ◌∙◌, arith}
 use Rattle.std.specs.Prelude.{slice_index, cond, nat_le}
-use Rattle.std.proofs.lemmas.Bool.{cases_lt}
 use Rattle.std.proofs.lemmas.Bool.Decides.{nat_tests}
-use Rattle.bc_item.specs.declared.item.Item.{Item}
 use Rattle.bc_item.specs.declared.item.Item.TheVariants.{Operation}
 use Rattle.bc_item.specs.declared.item.Base.{Base}
 use Rattle.bc_item.specs.declared.item.Base.TheVariants as bases
 use Rattle.bc_item.specs.declared.item.Function.{Function}
 use Rattle.bc_item.specs.declared.item.Function.TheVariants as functions
-use Rattle.bc_item.specs.Sizes.{size, operation_size}
-use Rattle.bc_item.specs.Assembled.{function_number, base_bit, instruction, words_of_item, operation_words}
+use Rattle.bc_item.specs.Sizes.{operation_size}
+use Rattle.bc_item.specs.Assembled.{function_number, base_bit, instruction, words_of_item}
 use Rattle.bc_step.specs.declared.state.Registers.{Registers}
-use Rattle.bc_step.specs.Streams.{Content}
-use Rattle.bc_step.specs.State.{State, state}
+use Rattle.bc_step.specs.State.{State}
 use Rattle.bc_step.specs.Instruction as steps
 use Rattle.bc_step.specs.Instruction.{code_of, has_bit, function_of}
-use Rattle.bc_step.specs.Operand.{next, address_of, based, operand_of, behind}
-use Rattle.bc_step.specs.Effect.{Effect}
+use Rattle.bc_step.specs.Operand.{next, based}
 use Rattle.bc_step.specs.Step.{step, step_at, perform}
-use Rattle.bc_simulation.specs.Leads.{machine}
 use Rattle.bc_simulation.specs.CodeAt.{HasWords}
 
 abbrev bit : Bool → ℕ
@@ -106,7 +101,7 @@ by_number functions.Execute = refl
 
 -- a step, once the parts of its code are known
 of_parts : (code word : ℕ) (f : steps.Function) (i p g l : Bool) (low : ℕ) (s : State) → function_of code ≡ f → has_bit code 8 ≡ i → has_bit code 4 ≡ p → has_bit code 2 ≡ g → has_bit code 1 ≡ l → word % 512 ≡ low
-  → step_at code word s ≡ perform f (let at = based p g s.registers (cond l (slice_index s.store (next s.registers.c)) low) in cond i (slice_index s.store at) at) (record s.registers { c = cond l (next (next s.registers.c)) (next s.registers.c) }) s
+    → step_at code word s ≡ perform f (let at = based p g s.registers (cond l (slice_index s.store (next s.registers.c)) low) in cond i (slice_index s.store at) at) (record s.registers { c = cond l (next (next s.registers.c)) (next s.registers.c) }) s
 of_parts code word f i p g l low s hf h8 h4 h2 h1 hw =
     let at : Bool → Bool → Bool → ℕ → ℕ = λ q h k n. based q h s.registers (cond k (slice_index s.store (next s.registers.c)) n) in
     let d : Bool → Bool → Bool → Bool → ℕ → ℕ = λ j q h k n. cond j (slice_index s.store (at q h k n)) (at q h k n) in
@@ -136,7 +131,7 @@ based_is address bases.Label n r h = absurd (h refl)
 
 -- the step at an instruction's word, short or long
 stepped : (f : Function) (i : Bool) (b : Base) (l : Bool) (low : ℕ) (s : State) → low < 512 → slice_index s.store s.registers.c ≡ instruction f i b (512 * bit l + low)
-  → step s ≡ perform (machine_function f) (let at = based (is_p b) (is_g b) s.registers (cond l (slice_index s.store (next s.registers.c)) low) in cond i (slice_index s.store at) at) (record s.registers { c = cond l (next (next s.registers.c)) (next s.registers.c) }) s
+    → step s ≡ perform (machine_function f) (let at = based (is_p b) (is_g b) s.registers (cond l (slice_index s.store (next s.registers.c)) low) in cond i (slice_index s.store at) at) (record s.registers { c = cond l (next (next s.registers.c)) (next s.registers.c) }) s
 unfolding step
 stepped f i b l low s h e =
     let n = function_number f in
@@ -148,12 +143,12 @@ stepped f i b l low s h e =
     let c : code_of word ≡ code n i p g l = ap (λ z. z / 512) is ∙ code_at n (bit i) (bit p) (bit g) (bit l) low hi hp hg hl h in
     let w : word % 512 ≡ low = ap (λ z. z % 512) is ∙ low_at n (bit i) (bit p) (bit g) (bit l) low h in
     of_parts (code_of word) word (machine_function f) i p g l low s
-      (ap function_of c ∙ ap function_by (function_at n (bit i) (bit p) (bit g) (bit l) hi hp hg hl) ∙ by_number f)
-      (is_one i _ (ap (λ z. (z / 8) % 2) c ∙ bit_8 n (bit i) (bit p) (bit g) (bit l) hi hp hg hl))
-      (is_one p _ (ap (λ z. (z / 4) % 2) c ∙ bit_4 n (bit i) (bit p) (bit g) (bit l) hi hp hg hl))
-      (is_one g _ (ap (λ z. (z / 2) % 2) c ∙ bit_2 n (bit i) (bit p) (bit g) (bit l) hi hp hg hl))
-      (is_one l _ (ap (λ z. (z / 1) % 2) c ∙ bit_1 n (bit i) (bit p) (bit g) (bit l) hi hp hg hl))
-      w
+    (ap function_of c ∙ ap function_by (function_at n (bit i) (bit p) (bit g) (bit l) hi hp hg hl) ∙ by_number f)
+    (is_one i _ (ap (λ z. (z / 8) % 2) c ∙ bit_8 n (bit i) (bit p) (bit g) (bit l) hi hp hg hl))
+    (is_one p _ (ap (λ z. (z / 4) % 2) c ∙ bit_4 n (bit i) (bit p) (bit g) (bit l) hi hp hg hl))
+    (is_one g _ (ap (λ z. (z / 2) % 2) c ∙ bit_2 n (bit i) (bit p) (bit g) (bit l) hi hp hg hl))
+    (is_one l _ (ap (λ z. (z / 1) % 2) c ∙ bit_1 n (bit i) (bit p) (bit g) (bit l) hi hp hg hl))
+    w
 
 next_is : (c : ℕ) → c + 1 < 65536 → next c ≡ c + 1
 next_is c h = omega arith
@@ -164,7 +159,7 @@ Executes address f i b n s =
     step s ≡ perform (machine_function f) (operand_at address i b n s.registers.p s.store) (record s.registers { c = s.registers.c + operation_size b n }) s
 
 executes_short : (address : ℕ → ℕ) (f : Function) (i : Bool) (b : Base) (n : ℕ) (s : State) → (b ≡ bases.Label → ⊥) → n < 512 → s.registers.c + 1 < 65536 → slice_index s.store s.registers.c ≡ instruction f i b n
-  → step s ≡ perform (machine_function f) (operand_at address i b n s.registers.p s.store) (record s.registers { c = s.registers.c + 1 }) s
+    → step s ≡ perform (machine_function f) (operand_at address i b n s.registers.p s.store) (record s.registers { c = s.registers.c + 1 }) s
 executes_short address f i b n s not_label small fits e =
     let zero_bit : 512 * 0 + n ≡ n = omega arith in
     stepped f i b false n s small (e ∙ ap (instruction f i b) (sym zero_bit))
@@ -172,7 +167,7 @@ executes_short address f i b n s not_label small fits e =
     ∙ ap (λ c. perform (machine_function f) (operand_at address i b n s.registers.p s.store) (record s.registers { c = c }) s) (next_is s.registers.c fits)
 
 executes_long : (address : ℕ → ℕ) (f : Function) (i : Bool) (b : Base) (n at : ℕ) (s : State) → s.registers.c + 2 < 65536 → slice_index s.store s.registers.c ≡ instruction f i b 512 → slice_index s.store (s.registers.c + 1) ≡ n → based (is_p b) (is_g b) s.registers n ≡ at
-  → step s ≡ perform (machine_function f) (cond i (slice_index s.store at) at) (record s.registers { c = s.registers.c + 2 }) s
+    → step s ≡ perform (machine_function f) (cond i (slice_index s.store at) at) (record s.registers { c = s.registers.c + 2 }) s
 executes_long address f i b n at s fits e e1 is =
     let c = s.registers.c in
     let zero_low : 0 < 512 = omega arith in
@@ -185,8 +180,8 @@ executes_long address f i b n at s fits e e1 is =
     ∙ ap (λ z. perform (machine_function f) (cond i (slice_index s.store at) at) (record s.registers { c = z }) s) two
 
 by_length : (address : ℕ → ℕ) (f : Function) (i : Bool) (b : Base) (n : ℕ) (s : State) (short : Bool) → (b ≡ bases.Label → ⊥) → nat_le n 511 ≡ short
-  → HasWords s.store s.registers.c (cond short (instruction f i b n ∷ []) (instruction f i b 512 ∷ n ∷ [])) → s.registers.c + cond short 1 2 < 65536
-  → step s ≡ perform (machine_function f) (operand_at address i b n s.registers.p s.store) (record s.registers { c = s.registers.c + cond short 1 2 }) s
+    → HasWords s.store s.registers.c (cond short (instruction f i b n ∷ []) (instruction f i b 512 ∷ n ∷ [])) → s.registers.c + cond short 1 2 < 65536
+    → step s ≡ perform (machine_function f) (operand_at address i b n s.registers.p s.store) (record s.registers { c = s.registers.c + cond short 1 2 }) s
 by_length address f i b n s true not_label e h fits = let small : n < 512 = grind (arith, nat_tests) in executes_short address f i b n s not_label small fits h.0
 by_length address f i b n s false not_label e h fits = executes_long address f i b n (value_at address b n s.registers.p) s fits h.0 h.1.0 (based_is address b n s.registers not_label)
 

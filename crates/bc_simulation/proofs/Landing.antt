@@ -1,5 +1,5 @@
 -- Stretches of the machine's run, one behind another.
-use Rattle.std.proofs.Common.{◌≡◌, ℕ, zero, suc, ◌+◌, ◌≤◌, ◌<◌, List, Bool, true, false, Option, Some, None, refl, sym, ap, ◌∙◌, subst, arith}
+use Rattle.std.proofs.Common.{◌≡◌, ℕ, suc, List, Bool, true, false, Some, None, refl, ap, ◌∙◌, arith}
 use Rattle.bc_step.specs.declared.state.End.{End}
 use Rattle.bc_step.specs.declared.state.End.TheVariants.{BudgetSpent}
 use Rattle.bc_step.specs.Streams.{Content}

@@ -1,12 +1,11 @@
 -- An operand is read in no step and changes nothing: it is the value of its expression.
 use Rattle.std.proofs.Common.{◌≡◌, ℕ, ◌+◌, ◌%◌, List, Bool, true, false, not, Option, Some, None, refl, sym, ap, ◌∙◌, subst, arith}
 use Rattle.std.specs.Prelude.{slice_index, cond}
-use Rattle.bc_word.specs.declared.operator.Op.{Op}
 use Rattle.bc_word.specs.declared.operator.Op.TheVariants as operators
 use Rattle.bc_item.specs.declared.item.Base.{Base}
 use Rattle.bc_item.specs.declared.item.Base.TheVariants as bases
 use Rattle.bc_core.specs.declared.operands.Operand.{Operand}
-use Rattle.bc_core.specs.Tree.{Exp, Num, Frame, Glob, Place, Load, Neg, Not, Bin, Cond, Call, Valof}
+use Rattle.bc_core.specs.Tree.{Exp, Num, Frame, Glob, Place, Load, Bin}
 use Rattle.bc_core.specs.Operand.{operand_of, content_of, sum_operand, moved, direct}
 use Rattle.bc_core.specs.Store.{Cell, Dead, Unset, Set, cell_at}
 use Rattle.bc_core.specs.Outcome as outcomes
