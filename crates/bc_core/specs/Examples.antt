@@ -1,5 +1,5 @@
 -- Worked examples of the meaning. The expected values are from the language's rules.
-use Rattle.std.specs.Prelude.{ℕ, ◌≡◌, List, [], ◌∷◌, Option, Some, None, true, false}
+use Rattle.std.specs.Prelude.{ℕ, Bool, ◌≡◌, List, [], ◌∷◌, Option, Some, None, true, false}
 use Rattle.std.proofs.Common.{refl}
 use Rattle.bc_word.specs.declared.operator.Op.TheVariants.{Add, Subtract, Multiply, Divide, Remainder, Less, Equal, And, ShiftLeft}
 use Rattle.bc_step.specs.StreamStart.{start_streams}
@@ -11,6 +11,9 @@ use Rattle.bc_core.specs.Store.{Cell, Dead, Unset, Set}
 use Rattle.bc_core.specs.Outcome.{State, Outcome, Done, Finished, ZeroDivide, wild}
 use Rattle.bc_core.specs.Outcome as outcomes
 use Rattle.bc_core.specs.Value.{Context, value, truth, assign}
+use Rattle.bc_core.specs.Layout.{frame_size}
+use Rattle.bc_core.specs.WellFormed.{is_core}
+use Rattle.bc_core.specs.Words.{string_words}
 use Rattle.bc_core.specs.Start.{placed, cells_from}
 use Rattle.bc_core.specs.Meaning.{Result, Ended, Going, Wild, meaning_over}
 
@@ -264,6 +267,23 @@ goto_backward :
     run (block ((Initial (Num 0) ∷ []) ∷ []) (label 0 (list (set_to 2 (Bin Add (at 2) (Num 1)) ∷ c.If true (Bin Less (at 2) (Num 3)) (commands (c.Goto 0 ∷ [])) ∷ print_digit (at 2) ∷ [])))) ≡ printed (51 ∷ [])
 goto_backward = refl
 
+-- WRCH(RDCH()) twice over the input `h`, and then at its end, where RDCH gives -1
+abbrev echo : Command
+echo = print (call (Load (Glob 13)) [])
+
+reads_input :
+    (let core : Core = record { places = routine (Some 1) 0 (Does (commands (echo ∷ echo ∷ []))) ∷ []; valofs = [] } in
+    let program = placed (core ∷ []) ((546 ∷ []) ∷ []) in
+    meaning_over (cells_from 590 0 program) program 560 (start_streams ((73 ∷ [], 104 ∷ []) ∷ []) ((79 ∷ []) ∷ [])) 100) ≡ printed (104 ∷ 255 ∷ [])
+reads_input = refl
+
+-- FINDOUTPUT("O") is 1, FINDOUTPUT("P") is 0
+finds_output : run_with (c.Text (79 ∷ []) ∷ []) [] (commands (print_digit (call (Load (Glob 16)) (Place 2 ∷ [])) ∷ [])) 100 ≡ printed (49 ∷ [])
+finds_output = refl
+
+finds_none : run_with (c.Text (80 ∷ []) ∷ []) [] (commands (print_digit (call (Load (Glob 16)) (Place 2 ∷ [])) ∷ [])) 100 ≡ printed (48 ∷ [])
+finds_none = refl
+
 -- FINISH in a routine that is called
 finish : run_with (routine None 0 (Does (commands (c.Finish ∷ []))) ∷ []) [] (commands (c.Call (call (Place 2) []) ∷ print (Num 65) ∷ [])) 100 ≡ printed []
 finish = refl
@@ -271,3 +291,43 @@ finish = refl
 -- no turn is left for START itself
 no_turns : run_with [] [] (commands []) 0 ≡ Going ([] ∷ [])
 no_turns = refl
+
+-- Frames, data and what is well formed
+
+-- `LET A,B = 1,2; A := A+B`: the frame has 6 cells
+frame_of_sum : frame_size [] (record { global = None; parameters = 0; body = Does (let_in (Initial (Num 1) ∷ Initial (Num 2) ∷ []) (set_to 2 (Bin Add (at 2) (at 3)) ∷ [])) }) ≡ 6
+frame_of_sum = refl
+
+-- `FOR I = 1 TO 3 DO WRCH(I)`: the frame has 7 cells
+frame_of_for : frame_size [] (record { global = None; parameters = 0; body = Does (commands (c.For (Num 1) (Num 3) 1 (commands (print (at 2) ∷ [])) ∷ [])) }) ≡ 7
+frame_of_for = refl
+
+-- `LET V = VEC 32764` just fits
+greatest_frame : frame_size [] (record { global = None; parameters = 0; body = Does (let_in (Vector 32764 ∷ []) []) }) ≡ 32768
+greatest_frame = refl
+
+-- "AB" and ""
+packed_string : string_words (65 ∷ 66 ∷ []) ≡ 577 ∷ 16896 ∷ []
+packed_string = refl
+
+packed_empty : string_words [] ≡ 0 ∷ []
+packed_empty = refl
+
+abbrev fits : Block → Bool
+fits b = let core : Core = record { places = routine (Some 1) 0 (Does b) ∷ []; valofs = [] } in is_core core
+
+break_in_loop : fits (commands (c.Repeat (commands (c.Break ∷ [])) ∷ [])) ≡ true
+break_in_loop = refl
+
+break_alone : fits (commands (c.Break ∷ [])) ≡ false
+break_alone = refl
+
+-- a GOTO into a nested block
+goto_inwards : fits (block [] (command (c.Nested (block [] (label 0 no_item))) (command (c.Goto 0) no_item))) ≡ false
+goto_inwards = refl
+
+no_such_place : fits (commands (c.Call (call (Place 2) []) ∷ [])) ≡ false
+no_such_place = refl
+
+no_such_valof : fits (commands (print (Valof 0) ∷ [])) ≡ false
+no_such_valof = refl
