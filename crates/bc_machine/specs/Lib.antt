@@ -1,4 +1,8 @@
+pub mod FileContent
+pub mod Known
+pub mod MemoryContent
+pub mod Names
+pub mod Ran
+pub mod Refusal
 pub mod Rose
 pub mod Steps
-pub mod Ran
-pub mod Places

@@ -2,15 +2,20 @@
 #![tactic(auto)]
 
 mod faults;
-mod image;
+mod files;
 mod instructions;
 mod machine;
+mod memory;
+mod names;
 mod operations;
 mod store;
 mod streams;
 
+pub use bc_image::{Image, Labels, Places, SegmentPlace, Words};
 pub use bc_step::{End, Side};
 pub use faults::{DeviceFault, StreamsError};
-pub use image::{Image, Labels, Places, SegmentPlace, Words};
+pub use files::FileStreams;
 pub use machine::Machine;
+pub use memory::MemoryStreams;
+pub use names::Named;
 pub use streams::Streams;
