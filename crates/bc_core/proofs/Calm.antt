@@ -6,13 +6,8 @@ use Rattle.bc_word.specs.Words.{value_of}
 use Rattle.bc_core.specs.Tree.{Exp, Num, Frame, Glob, Place, Load, Neg, Not, Bin, Cond, Call, Valof}
 use Rattle.bc_core.specs.Store.{Cell, Dead, Unset, Set, cell_at}
 use Rattle.bc_core.specs.Outcome.{State, Outcome, Done, Ended, Going, Wild, Run, followed, then_do, choose, content_of_cell, outweighed, second_side}
+use Rattle.bc_core.specs.Laws.{IsCalm, CallFreeIsCalm}
 use Rattle.bc_core.specs.Value.{Context, Sense, has_call, truth_of_value, given, operated, operator_truth, sense}
-
-abbrev pub IsCalm : {A : Type 0} → State → Outcome A → Type 0
-IsCalm st (Done x st1) = st ≡ st1
-IsCalm st (Ended e streams) = Unit {0}
-IsCalm st (Going streams) = ⊥
-IsCalm st Wild = Unit {0}
 
 pub record CalmRun {A : Type 0} (r : Run A) : Type 0 where
   pub from : (st : State) → IsCalm st (r st)
@@ -90,3 +85,6 @@ calm C (Cond c x y) h p s =
     calm_value _ (calm_then _ _ (calm C c (no_left _ _ cxy) p s).1 (λ t. calm_choose t _ _ (calm C x (no_right _ _ cxy) p s).0 (calm C y (no_right _ _ h) p s).0))
 calm C (Call es f) h p s = cc
 calm C (Valof n) h p s = cc
+
+pub call_free_is_calm : CallFreeIsCalm
+call_free_is_calm C e h p s st = let c = calm C e h p s in (c.0.from st, c.1.from st)

@@ -21,9 +21,9 @@ use Rattle.bc_core.specs.Command.{initialise_one, initialise, declare, perform, 
 use Rattle.bc_core.specs.Primitive.{Primitive, primitive_work, primitive_frame, Select, ReadByte, WriteByte, Find, EndStream, byte_of_string, bytes_of_string, string_of, on_streams}
 use Rattle.bc_core.specs.Start.{Placed, placed, start_cells}
 use Rattle.bc_core.specs.Meaning.{Call as Calling, routine_value, valof_value, valofs_from, place_in, context_in, body_value, passed, Callee, OfSection, OfLibrary, callee, enter, calls, result_of, run_of}
-use Rattle.bc_core.specs.Laws.{Longer, Tidy, Further, MoreTurnsGoFurther}
+use Rattle.bc_core.specs.Laws.{IsCalm, Longer, Tidy, Further, MoreTurnsGoFurther}
 use Rattle.bc_core.proofs.Outputs.{longer_refl, longer_then, select_longer, read_longer, write_longer, end_longer}
-use Rattle.bc_core.proofs.Calm.{CalmRun, IsCalm, calm, no_right}
+use Rattle.bc_core.proofs.Calm.{CalmRun, calm, no_right}
 use Rattle.bc_core.proofs.Tidiness.{TidyRun, tidy_done, tidy_ends, tidy_wild, tidy_read, tidy_write, tidy_calls}
 
 -- the same state with d more turns

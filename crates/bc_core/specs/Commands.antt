@@ -63,7 +63,8 @@ pub record Valof : Type 0 where
   pub level : ℕ
   pub body : Block
 
--- a resolved section: its places, labelled 1, 2, .. in text order, and its VALOFs, numbered 0, 1, .. in text order
+-- a resolved section: its places, labelled 1, 2, .. in text order, and its VALOFs, numbered 0, 1, .. in text
+-- order
 pub record Core : Type 0 where
   pub places : List Place
   pub valofs : List Valof

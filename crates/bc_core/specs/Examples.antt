@@ -17,7 +17,8 @@ use Rattle.bc_core.specs.Words.{string_words}
 use Rattle.bc_core.specs.Start.{placed, cells_from}
 use Rattle.bc_core.specs.Meaning.{Result, Ended, Going, Wild, meaning_over}
 
--- Expressions, in a frame at 0 whose cells at 2 and 3 hold 7 and 65,535, whose cell at 4 is unset, and with no other live cell
+-- Expressions, in a frame at 0 whose cells at 2 and 3 hold 7 and 65,535, whose cell at 4 is unset, and with no
+-- other live cell
 
 abbrev no_stream : Content
 no_stream = start_streams [] []

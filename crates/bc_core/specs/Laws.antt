@@ -7,6 +7,8 @@ use Rattle.bc_core.specs.Map.{Map}
 use Rattle.bc_core.specs.Store.{Cell, Dead, Unset, Set, cell_at}
 use Rattle.bc_core.specs.Outcome.{State, Outcome, Done, Ending}
 use Rattle.bc_core.specs.Outcome as outcomes
+use Rattle.bc_core.specs.Tree.{Exp}
+use Rattle.bc_core.specs.Value.{Context, has_call, value, truth}
 use Rattle.bc_core.specs.Start.{Placed}
 use Rattle.bc_core.specs.Meaning.{Result, Ended, Going, Wild, meaning, calls}
 
@@ -29,7 +31,8 @@ Longer [] [] = Unit {0}
 Longer (old ∷ olds) (new ∷ news) = ((more : List ℕ) × (new ≡ old ++ more)) × Longer olds news
 Longer _ _ = ⊥
 
--- what a run leaves behind that began with these cells and streams, and above this address with no live cell: longer outputs, and where it goes on behind its part of the source, the same live cells
+-- what a run leaves behind that began with these cells and streams, and above this address with no live cell:
+-- longer outputs, and where it goes on behind its part of the source, the same live cells
 abbrev pub Tidy : {A : Type 0} → ℕ → List Cell → Content → Outcome A → Type 0
 Tidy top cells streams (Done x st) = Longer (output_of streams) (output_of st.streams) × (DeadFrom top cells → SameLive cells st.cells)
 Tidy top cells streams (outcomes.Ended e streams1) = Longer (output_of streams) (output_of streams1)
@@ -41,6 +44,19 @@ abbrev pub CallsAreTidy : Type 0
 CallsAreTidy =
     (program : List Placed) (n a : ℕ) (arguments : List ℕ) (frame : ℕ) (st : State)
     → Tidy frame st.cells st.streams (calls program n a arguments frame st)
+
+-- a run that goes on behind its part of the source in the state in which it began, or has ended, or is wild
+abbrev pub IsCalm : {A : Type 0} → State → Outcome A → Type 0
+IsCalm st (Done x st1) = st ≡ st1
+IsCalm st (outcomes.Ended e streams) = Unit {0}
+IsCalm st (outcomes.Going streams) = ⊥
+IsCalm st outcomes.Wild = Unit {0}
+
+-- an expression without call and VALOF changes nothing and takes no turn, as a value and as a test
+abbrev pub CallFreeIsCalm : Type 0
+CallFreeIsCalm =
+    (C : Context) (e : Exp) → has_call e ≡ false → (p s : ℕ) (st : State)
+    → IsCalm st (value C e p s st) × IsCalm st (truth C e p s st)
 
 -- with more turns a run that has ended is the same, and one that goes on has a longer output, if it isn't wild
 abbrev pub Further : Result → Result → Type 0

@@ -101,12 +101,14 @@ enter call (Some (OfSection section r)) vs f =
 enter call (Some (OfLibrary primitive)) vs f =
     in_frame f primitive_frame (with_arguments 1 (f + 2) vs (primitive_work primitive f))
 
--- calls that nest at most n deep; it is given one more than the turns that are left, and each call takes one, so that it never runs out before the turns do
+-- calls that nest at most n deep; it is given one more than the turns that are left, and each call takes one,
+-- so that it never runs out before the turns do
 abbrev pub calls : List Placed → ℕ → Call
 calls program zero a vs f st = outcomes.Going st.streams
 calls program (suc n) a vs f st = enter (calls program n) (callee program a) vs f st
 
--- what a run comes to: it ended with this output, or would go on and has this output so far, or met a wild cell
+-- what a run comes to: it ended with this output, or would go on and has this output so far, or met a wild
+-- cell
 pub data Result : Type 0 where
   Ended : List (List ℕ) → Ending → Result
   Going : List (List ℕ) → Result

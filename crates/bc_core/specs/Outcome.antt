@@ -13,7 +13,8 @@ pub data Ending : Type 0 where
   Finished : Ending
   ZeroDivide : Ending
 
--- a value and the state after it; or the run ended; or it would go on, and no turn is left; or it met a wild cell
+-- a value and the state after it; or the run ended; or it would go on, and no turn is left; or it met a wild
+-- cell
 pub data Outcome (A : Type 0) : Type 0 where
   Done : A → State → Outcome A
   Ended : Ending → Content → Outcome A
@@ -79,7 +80,8 @@ left n a Wild = Wild
 abbrev pub with_cells : {A : Type 0} → ℕ → ℕ → Run A → Run A
 with_cells n a r st = left n a (r (record st { cells = opened n a st.cells }))
 
--- two sides, left to right: where neither holds a call or VALOF, a wild second side outweighs a zero divisor in the first
+-- two sides, left to right: where neither holds a call or VALOF, a wild second side outweighs a zero divisor
+-- in the first
 abbrev pub outweighed : {A B : Type 0} → Ending → Content → Outcome A → Outcome B
 outweighed e streams (Done x st) = Ended e streams
 outweighed e streams (Ended e1 streams1) = Ended e streams
@@ -105,7 +107,8 @@ abbrev pub next_round : {A B : Type 0} → (A → Run B) → Round A B → Run B
 next_round again (Again x) = again x
 next_round again (Leave y) = Done y
 
--- at most n rounds; it is given one more than the turns that are left, and a round that comes again has taken a turn, so that it never runs out before the turns do
+-- at most n rounds; it is given one more than the turns that are left, and a round that comes again has taken
+-- a turn, so that it never runs out before the turns do
 abbrev pub rounds : {A B : Type 0} → ℕ → (A → Run (Round A B)) → A → Run B
 rounds zero f x st = Going st.streams
 rounds (suc n) f x st = followed (f x st) (next_round (rounds n f))

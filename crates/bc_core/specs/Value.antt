@@ -18,7 +18,8 @@ has_call (Call es f) = true
 has_call (Valof n) = true
 has_call _ = false
 
--- what an expression stands among: the address of each label, what a call of a value with arguments does in a new frame, and what a VALOF does, by its number, in a frame at a level
+-- what an expression stands among: the address of each label, what a call of a value with arguments does in a
+-- new frame, and what a VALOF does, by its number, in a frame at a level
 pub record Context : Type 0 where
   pub place : ℕ → ℕ
   pub call : ℕ → List ℕ → ℕ → Run ℕ

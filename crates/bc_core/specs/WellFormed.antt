@@ -1,4 +1,5 @@
--- What every section keeps: its labels, numbers and jump targets exist, and its frames and roots are no larger than allowed.
+-- What every section keeps: its labels, numbers and jump targets exist, and its frames and roots are no larger
+-- than allowed.
 use Rattle.std.specs.Prelude.{ℕ, ◌+◌, ◌==◌, ◌&&◌, ◌||◌, not, nat_le, nat_lt, Bool, true, false, List, [], ◌∷◌, ◌++◌, map, length, slice_get, Option, Some, None}
 use Rattle.bc_core.specs.Tree.{Exp, Frame, Glob, Place, Load, Neg, Not, Bin, Cond, Call, Args, no_argument, argument, count}
 use Rattle.bc_core.specs.Tree as tree
@@ -25,7 +26,8 @@ abbrev mutual
 abbrev pub most_nodes : ℕ
 most_nodes = 1048576
 
--- what a body stands among: how many places there are, the least number of a VALOF in it, and the level of each VALOF
+-- what a body stands among: how many places there are, the least number of a VALOF in it, and the level of
+-- each VALOF
 pub record Around : Type 0 where
   pub places : ℕ
   pub first : ℕ

@@ -1,4 +1,5 @@
--- The code of a value by four rules: push an operand, add an operand, an operator through B, an operator with both operands held.
+-- The code of a value by four rules: push an operand, add an operand, an operator through B, an operator with
+-- both operands held.
 use Rattle.std.proofs.Common.{◌≡◌, ℕ, ◌+◌, ◌%◌, ◌≤◌, ◌<◌, ◌||◌, List, [], ◌∷◌, ◌++◌, length, Bool, true, false, not, Option, Some, None, refl, ap, ◌∙◌, subst, arith}
 use Rattle.std.specs.Prelude.{slice_index, slice_set, cond, nat_le}
 use Rattle.std.proofs.lemmas.List.{get_or-set_other, get_or-set_same}

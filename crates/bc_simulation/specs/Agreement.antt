@@ -9,7 +9,8 @@ pub record Holds (top : ℕ) (cells : List Cell) (store : List ℕ) : Type 0 whe
   pub whole : length store ≡ 65536
   pub short : length cells ≤ 65536
 
--- cells below the top that were dead are dead still, and as they were in the store: so held values, links and code last
+-- cells below the top that were dead are dead still, and as they were in the store: so held values, links and
+-- code last
 pub record Keeps (top : ℕ) (cells : List Cell) (store : List ℕ) (cells1 : List Cell) (store1 : List ℕ) : Type 0 where
   pub dead : (a : ℕ) → a < top → cell_at cells a ≡ Dead → cell_at cells1 a ≡ Dead
   pub same : (a : ℕ) → a < top → cell_at cells a ≡ Dead → slice_index store1 a ≡ slice_index store a

@@ -14,8 +14,10 @@ use Rattle.bc_simulation.specs.Leads.{machine, Leads, StopsAt}
 use Rattle.bc_simulation.specs.Agreement.{Holds, Keeps}
 use Rattle.bc_simulation.specs.CodeAt.{IsCode, words}
 
--- The machine, which was at x with t turns left, is behind the code with the value in A, and, where it is a push, with
--- what A was in B; the cells and the store agree again. Or it ended, or is going on, as the source; of a wild source
+-- The machine, which was at x with t turns left, is behind the code with the value in A, and, where it is a
+-- push, with
+-- what A was in B; the cells and the store agree again. Or it ended, or is going on, as the source; of a wild
+-- source
 -- nothing is said.
 abbrev pub Lands : (top : ℕ) → List Cell → List ℕ → (push : Bool) → (was end p : ℕ) → State → ℕ → Outcome ℕ → Type 0
 Lands top cells store push was end p x t (outcomes.Done v st) =

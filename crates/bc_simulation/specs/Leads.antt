@@ -9,7 +9,8 @@ use Rattle.bc_step.specs.Run.{runs}
 abbrev pub machine : (a b c p : ℕ) → List ℕ → Content → State
 machine a b c p store streams = state (record { a = a; b = b; c = c; p = p }) store streams
 
--- From x, with t turns left for the source, the machine comes to y, where t1 are left. What it does in k instructions
+-- From x, with t turns left for the source, the machine comes to y, where t1 are left. What it does in k
+-- instructions
 -- from y on, it does in some more from x on: more by at least one for each turn between.
 pub record Leads (x : State) (t : ℕ) (y : State) (t1 : ℕ) : Type 0 where
   pub by : (k : ℕ) → (j : ℕ) × (k + t ≤ j + t1) × (runs j x ≡ runs k y)
