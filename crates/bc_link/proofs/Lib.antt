@@ -5,3 +5,4 @@ pub mod Seen
 pub mod Lengths
 pub mod Unset
 pub mod Growing
+pub mod Standing

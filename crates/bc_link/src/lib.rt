@@ -3,11 +3,14 @@
 
 mod draft;
 mod label_table;
+pub mod laws;
 mod layout;
 mod link_error;
 mod linker;
 mod repeats;
 mod store;
+#[cfg(test)]
+mod tests;
 
 pub use bc_image::{Image, Labels, Places, SegmentPlace, Words};
 pub use bc_item::{Base, Function, GlobalNumber, Item, Segment};
