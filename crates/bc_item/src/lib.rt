@@ -3,6 +3,7 @@
 
 mod global_number;
 mod item;
+pub mod laws;
 mod segment;
 
 pub use global_number::GlobalNumber;

@@ -38,6 +38,7 @@ impl Segment {
     pub fn into_items(self) -> Vec<Item>
         ensures { result.items ≡ self }
     {
-        self.items
+        let Segment { items: kept } = self;
+        kept
     }
 }
