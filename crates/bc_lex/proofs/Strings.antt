@@ -1,5 +1,5 @@
 -- The turns of the loop that reads a string.
-use Rattle.std.proofs.Common.{◌≡◌, ◌∙◌, refl, sym, ap, arith, ℕ, suc, ◌+◌, ◌-◌, ◌<◌, List, drop, drop-drop, Result}
+use Rattle.std.proofs.Common.{◌≡◌, arith, ℕ, suc, ◌+◌, ◌-◌, ◌<◌, List, drop, drop-drop, Result}
 use Rattle.bc_lex.specs.declared.fault.Fault.{Fault}
 use Rattle.bc_lex.specs.declared.quoted.Quoted.{Quoted}
 use Rattle.bc_lex.specs.declared.quoted.Quoted.TheVariants as quoted

@@ -6,7 +6,7 @@ use Rattle.bc_lex.specs.declared.error.LexError.TheVariants as errors
 use Rattle.bc_lex.specs.declared.reading.Place.{Place}
 use Rattle.bc_lex.specs.Lexeme.{◌>>=◌}
 use Rattle.bc_lex.specs.Files.{File}
-use Rattle.bc_lex.specs.Lexing.{Fails, Found, End, Token, Get, Deeper, item_of, pushed, place_at, found_on, rest_of, file_of, deeper_of}
+use Rattle.bc_lex.specs.Lexing.{Fails, Found, Deeper, item_of, found_on, rest_of, file_of, deeper_of}
 
 -- where one reading's faults are another's
 pub Fails-through : {Y Z : Type 0} (e : LexError) (r : Result Y LexError) (s : Result Z LexError) → ((x : LexError) → r ≡ Err x → s ≡ Err x) → Fails e r → Fails e s

@@ -1,10 +1,11 @@
 -- Blanks, line breaks and comments in front of a list of bytes, read from left to right.
-use Rattle.std.specs.Prelude.{ℕ, zero, suc, ◌+◌, Bool, false, not, ◌==◌, ◌&&◌, ◌||◌, List, [], ◌∷◌, length, drop, Option, Some, None, option_map, Result, Ok, Err, cond, if◌then◌else◌}
+use Rattle.std.specs.Prelude.{ℕ, zero, suc, ◌+◌, Bool, false, not, ◌==◌, ◌&&◌, List, [], ◌∷◌, length, drop, Option, Some, None, option_map, Result, Ok, Err, if◌then◌else◌}
 use Rattle.std.specs.List.{prefix_len}
 use Rattle.bc_lex.specs.declared.fault.Fault.{Fault}
 use Rattle.bc_lex.specs.declared.fault.FaultKind.TheVariants as faults
 use Rattle.bc_lex.specs.Bytes.{is_space}
-use Rattle.bc_lex.specs.Reading.{begins, fault_at}
+use Rattle.bc_lex.specs.Gaps.{begins, opens_line, opens_block}
+use Rattle.bc_lex.specs.Reading.{fault_at}
 
 -- whether a block comment ends in front
 abbrev pub ends_comment : List ℕ → Bool
@@ -22,8 +23,8 @@ line_of = prefix_len (λ b. not (b == 10))
 abbrev pub blank_of : List ℕ → Option ℕ
 blank_of [] = Some 0
 blank_of (b ∷ bs) =
-    if ((b == 47) && begins 47 bs) || ((b == 124) && begins 124 bs) then Some (2 + line_of (drop 1 bs))
-    else (if (b == 47) && begins 42 bs then option_map (λ n. 2 + n) (closing_from 0 (drop 1 bs))
+    if opens_line (b ∷ bs) then Some (2 + line_of (drop 1 bs))
+    else (if opens_block (b ∷ bs) then option_map (λ n. 2 + n) (closing_from 0 (drop 1 bs))
     else (if is_space b then Some 1 else Some 0))
 
 -- goes on behind at bytes, by what stands in front of the rest

@@ -1,12 +1,12 @@
 -- The lexeme in front of a list of bytes, read from left to right.
-use Rattle.std.specs.Prelude.{◌≡◌, ℕ, ◌+◌, Bool, true, false, ◌==◌, ◌||◌, nat_lt, List, [], ◌∷◌, length, take, drop, Option, Some, None, Result, Ok, Err, if◌then◌else◌}
+use Rattle.std.specs.Prelude.{◌≡◌, ℕ, ◌+◌, ◌==◌, ◌||◌, nat_lt, List, [], ◌∷◌, length, take, drop, Option, Some, None, Result, Ok, Err, if◌then◌else◌}
 use Rattle.std.specs.List.{prefix_len}
 use Rattle.bc_token.specs.declared.symbol.Symbol.{Symbol}
-use Rattle.bc_token.specs.declared.symbol.Symbol.TheVariants as symbol
 use Rattle.bc_token.specs.Spelling.{symbol_of}
 use Rattle.bc_token.specs.Token.{Kind, Sign, Name, Number, Character, String}
 use Rattle.bc_lex.specs.declared.fault.Fault.{Fault}
 use Rattle.bc_lex.specs.declared.fault.FaultKind.TheVariants as faults
+use Rattle.bc_lex.specs.Tags.{has_tag}
 use Rattle.bc_lex.specs.Bytes.{is_letter, is_digit, is_name_byte}
 use Rattle.bc_lex.specs.Reading.{fault_at, number_of, string_of, character_of}
 
@@ -19,12 +19,6 @@ abbrev pub ◌>>=◌ : {A B E : Type 0} → Result A E → (A → Result B E) �
 abbrev pub Gives : {X Y E : Type 0} → (X → Y) → Result X E → Result Y E → Type 0
 Gives view (Ok x) read = read ≡ Ok (view x)
 Gives view (Err e) read = read ≡ Err e
-
--- whether a tag may follow a symbol
-abbrev pub has_tag : Symbol → Bool
-has_tag symbol.OpenSection = true
-has_tag symbol.CloseSection = true
-has_tag _ = false
 
 -- what a text is that begins with a letter
 abbrev pub named : List ℕ → Option Symbol → Kind

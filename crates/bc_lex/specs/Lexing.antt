@@ -1,14 +1,13 @@
 -- The tokens of a file, read from left to right, with the first fault that is met.
-use Rattle.std.specs.Prelude.{◌≡◌, ℕ, zero, suc, ◌+◌, ◌-◌, Bool, true, false, ◌==◌, ◌||◌, nat_lt, nat_eq, List, [], ◌∷◌, ◌++◌, length, take, drop, Option, Some, None, Result, Ok, Err, if◌then◌else◌}
-use Rattle.std.specs.List.{list_any}
-use Rattle.bc_token.specs.declared.symbol.Symbol.{Symbol}
+use Rattle.std.specs.Prelude.{◌≡◌, ℕ, zero, suc, ◌+◌, ◌-◌, Bool, true, false, ◌==◌, ◌||◌, nat_lt, List, [], ◌∷◌, ◌++◌, length, take, drop, Option, Some, None, Result, Ok, Err, if◌then◌else◌}
 use Rattle.bc_token.specs.declared.symbol.Symbol.TheVariants as symbol
 use Rattle.bc_token.specs.Token.{Kind, Sign, Lexeme}
 use Rattle.bc_lex.specs.declared.fault.Fault.{Fault}
 use Rattle.bc_lex.specs.declared.error.LexError.{LexError}
 use Rattle.bc_lex.specs.declared.error.LexError.TheVariants as errors
 use Rattle.bc_lex.specs.declared.reading.Place.{Place}
-use Rattle.bc_lex.specs.Reading.{begins, string_of}
+use Rattle.bc_lex.specs.Reading.{string_of}
+use Rattle.bc_lex.specs.Gaps.{begins, breaks}
 use Rattle.bc_lex.specs.Blank.{gap_of}
 use Rattle.bc_lex.specs.Lexeme.{◌>>=◌, lexeme_of}
 use Rattle.bc_lex.specs.Files.{File, text_of, source_from}
@@ -55,15 +54,21 @@ lexeme_at file text at = located file at (lexeme_of (drop at text)) >>= λ x. Ok
 abbrev pub part : List ℕ → ℕ → ℕ → List ℕ
 part text from to = take (to - from) (drop from text)
 
+-- the file that a string names, from a place to another
+abbrev pub named_on : List File → ℕ → List ℕ → ℕ → ℕ → ℕ → Result (ℕ × ℕ) LexError
+named_on files file text start quote behind =
+    found_or (errors.GetMissing file start) (source_from (part text quote behind) 0 files) >>= λ named. Ok (named, behind)
+
+-- the file that a GET at start names, with what stands at a place as its string
+abbrev pub target_on : List File → ℕ → List ℕ → ℕ → ℕ → Result (ℕ × ℕ) LexError
+target_on files file text start quote =
+    if begins 34 (drop quote text)
+    then string_end_of file text quote >>= named_on files file text start quote
+    else Err (errors.GetMissing file start)
+
 -- the file that a GET names, from start to end, and the place behind its string
 unfoldable pub target_of : List File → ℕ → List ℕ → ℕ → ℕ → Result (ℕ × ℕ) LexError
-target_of files file text start end =
-    skipped file text end >>= λ quote.
-      if begins 34 (drop quote text)
-      then string_end_of file text quote >>= (λ behind.
-        found_or (errors.GetMissing file start) (source_from (part text quote behind) 0 files) >>= (λ named.
-          Ok (named, behind)))
-      else Err (errors.GetMissing file start)
+target_of files file text start end = skipped file text end >>= target_on files file text start
 
 -- what comes first behind a place: the end, a token, or a GET with its place, the file that it names, and the place
 -- behind its string
@@ -76,9 +81,6 @@ abbrev pub is_get : Kind → Bool
 is_get (Sign symbol.Get) = true
 is_get _ = false
 
-abbrev pub breaks : List ℕ → Bool
-breaks = list_any (λ b. b == 10)
-
 -- what a lexeme from start to end gives, behind a place
 unfoldable pub item_by : List File → ℕ → List ℕ → Place → ℕ → Kind × ℕ → Result Found LexError
 item_by files file text place start x =
@@ -86,13 +88,12 @@ item_by files file text place start x =
     then target_of files file text start x.1 >>= (λ t. Ok (Get start t.0 t.1))
     else Ok (Token (record { kind = x.0; text = part text start x.1; file = file; start = start; end = x.1; line_before = place.line || breaks (part text place.at start) }))
 
+abbrev pub item_on : List File → ℕ → List ℕ → Place → ℕ → Result Found LexError
+item_on files file text place start =
+    if start == length text then Ok End else lexeme_at file text start >>= item_by files file text place start
+
 unfoldable pub item_of : List File → ℕ → Place → Result Found LexError
-item_of files file place =
-    let text = text_of files file in
-    skipped file text place.at >>= λ start.
-      if start == length text
-      then Ok End
-      else lexeme_at file text start >>= item_by files file text place start
+item_of files file place = skipped file (text_of files file) place.at >>= item_on files file (text_of files file) place
 
 -- one more token
 abbrev pub pushed : Lexeme → List Lexeme → Result (List Lexeme) LexError

@@ -6,3 +6,9 @@ pub mod Files
 pub mod Errors
 pub mod Lexing
 pub mod Found
+pub mod Gaps
+pub mod Quotes
+pub mod Tags
+pub mod Lexemes
+pub mod Faults
+pub mod Tokens

@@ -1,20 +1,16 @@
 -- What stands in front of a list of bytes, read from left to right.
-use Rattle.std.specs.Prelude.{◌≡◌, ℕ, zero, suc, ◌+◌, ◌*◌, ◌≤◌, Bool, true, false, not, ◌==◌, nat_lt, List, [], ◌∷◌, length, take, drop, Option, Some, None, is_some, unwrap_or, Result, Ok, Err, cond, if◌then◌else◌}
+use Rattle.std.specs.Prelude.{ℕ, zero, suc, ◌+◌, ◌*◌, ◌≤◌, ◌==◌, nat_lt, List, [], ◌∷◌, length, take, drop, Option, Some, None, is_some, unwrap_or, Result, Ok, Err, if◌then◌else◌}
 use Rattle.std.specs.List.{prefix_len}
 use Rattle.bc_lex.specs.declared.fault.Fault.{Fault}
 use Rattle.bc_lex.specs.declared.fault.FaultKind.{FaultKind}
 use Rattle.bc_lex.specs.declared.fault.FaultKind.TheVariants as faults
 use Rattle.bc_lex.specs.declared.quoted.Quoted.{Quoted}
 use Rattle.bc_lex.specs.declared.quoted.Quoted.TheVariants as quoted
+use Rattle.bc_lex.specs.Gaps.{begins}
 use Rattle.bc_lex.specs.Bytes.{digit_of, escaped}
 
 abbrev pub fault_at : FaultKind → ℕ → Fault
 fault_at kind at = record { kind = kind; at = at }
-
--- whether a list begins with a byte, and the list behind its first byte
-abbrev pub begins : ℕ → List ℕ → Bool
-begins b [] = false
-begins b (c ∷ cs) = c == b
 
 -- the value of digits so far, and of those to come
 abbrev pub value_from : ℕ → ℕ → List ℕ → Option ℕ
@@ -76,10 +72,12 @@ string_from (suc k) at bs = string_on (string_from k) at bs (quoted_of 34 bs)
 unfoldable pub string_of : List ℕ → Result ℕ Fault
 string_of bs = string_from 256 1 (drop 1 bs)
 
+-- a character constant, by what stands behind its first sign
+abbrev pub character_by : List ℕ → Quoted → Result (ℕ × ℕ) Fault
+character_by bs quoted.Closed = Err (fault_at faults.Unterminated 0)
+character_by bs quoted.Cut = Err (fault_at faults.Unterminated 0)
+character_by bs quoted.BadEscape = Err (fault_at faults.BadEscape 1)
+character_by bs (quoted.Character v n) = if begins 39 (drop (1 + n) bs) then Ok (v, n + 2) else Err (fault_at faults.Unterminated 0)
+
 abbrev pub character_of : List ℕ → Result (ℕ × ℕ) Fault
-character_of bs = elim (quoted_of 39 (drop 1 bs)) [
-    quoted.Closed ↦ Err (fault_at faults.Unterminated 0)
-  | quoted.Cut ↦ Err (fault_at faults.Unterminated 0)
-  | quoted.BadEscape ↦ Err (fault_at faults.BadEscape 1)
-  | quoted.Character v n ↦ (if begins 39 (drop (1 + n) bs) then Ok (v, n + 2) else Err (fault_at faults.Unterminated 0))
-  ]
+character_of bs = character_by bs (quoted_of 39 (drop 1 bs))

@@ -1,6 +1,7 @@
 ghost use Rattle.std.specs.Prelude.{◌≡◌, ◌<◌, ◌≤◌, length, IfOk, IfErr};
 ghost use Rattle.bc_token.specs.Token.{kind_of};
-ghost use Rattle.bc_lex.specs.Lexeme.{has_tag as with_tag, named, word_of, sign_of, lexeme_of, Gives};
+ghost use Rattle.bc_lex.specs.Tags.{has_tag as with_tag};
+ghost use Rattle.bc_lex.specs.Lexeme.{named, word_of, sign_of, lexeme_of, Gives};
 
 use crate::byte::is_letter;
 use crate::fault::{Fault, FaultKind};

@@ -1,8 +1,10 @@
-ghost use Rattle.std.specs.Prelude.{◌≡◌, ◌<◌, ◌≤◌, length, IfOk, IsTrue};
-ghost use Rattle.bc_token.specs.Token.{kind_of, lexeme_of, lexemes_of};
+ghost use Rattle.std.specs.Prelude.{◌≡◌, ◌<◌, ◌≤◌, ◌⊎◌, List, length, IfOk, IfErr, MatchResult, IsTrue};
+ghost use Rattle.bc_token.specs.Token.{Lexeme, kind_of, lexeme_of, lexemes_of};
 ghost use Rattle.bc_lex.specs.Files.{files_of, text_of};
-ghost use Rattle.bc_lex.specs.Lexing.{Reads, skipped, string_end_of, lexeme_at, target_of, breaks, is_get as is_get_word, item_of, pushed, file_of, deeper_of, read_of};
-ghost use Rattle.bc_lex.specs.Reading.{begins};
+ghost use Rattle.bc_lex.specs.Lexing.{Reads, skipped, string_end_of, lexeme_at, target_of, is_get as is_get_word, item_of, pushed, file_of, deeper_of, read_of};
+ghost use Rattle.bc_lex.specs.Gaps.{begins, breaks};
+ghost use Rattle.bc_lex.specs.declared.error.LexError.{LexError};
+ghost use Rattle.bc_lex.specs.Tokens.{HasTokens, HasFault};
 ghost use Rattle.bc_lex.specs.Found.{found, IsWithin};
 
 use crate::blank::gap;
@@ -221,20 +223,43 @@ fn read_file<'s>(
     Ok(())
 }
 
-/// The tokens of a source, the file `main` of the sources, each GET replaced by the tokens of the file that it names:
-/// the first source of that name counts.
-///
-/// Errors: the first fault in reading order, or `Memory` where an allocation was refused.
+/// What is read of a source.
 #[tactic(auto, unfolding(crate::specs::Lexing::read_of))]
-pub fn lex<'s>(
-    alloc: Global,
-    sources: &[Source<'s>],
-    main: usize,
-) -> Result<Vec<Token<'s>>, LexError>
+fn read<'s>(alloc: Global, sources: &[Source<'s>], main: usize) -> Result<Vec<Token<'s>>, LexError>
     requires { main < length sources.now }
     ensures { Reads (λ v. lexemes_of v.items) result (read_of (files_of sources.now) main) }
 {
     let mut tokens = Vec::new(alloc);
     read_file(sources, MOST_LEVELS, main, false, &mut tokens)?;
     Ok(tokens)
+}
+
+/// The tokens of a source, whose index among the sources is `main`: at most 60,000. Each GET and its string stand for
+/// the tokens of the file that the string names, the first source of that name; up to eight GETs may lead to a file.
+/// The tokens' texts are slices of their files, and nothing is copied.
+///
+/// # Errors
+///
+/// The first fault in reading order, with its file and its offset, or `Memory` where an allocation was refused.
+pub fn lex<'s>(
+    alloc: Global,
+    sources: &[Source<'s>],
+    main: usize,
+) -> Result<Vec<Token<'s>>, LexError>
+    requires { main < length sources.now }
+
+    // The tokens are those of the definition, and at most 60,000.
+    ensures tokens { IfOk result (λ v. HasTokens (files_of sources.now) main (lexemes_of v.items)) }
+    ensures few { IfOk result (λ v. length (lexemes_of v.items) ≤ 60000) }
+
+    // A fault is the first one of the definition.
+    ensures fault { IfErr result (λ e. (e ≡ LexError.Memory) ⊎ HasFault (files_of sources.now) main e) }
+
+    // What has tokens gives no other answer than these, and what has a fault none but this, unless memory ran out.
+    ensures only_tokens { (tokens : List Lexeme) → HasTokens (files_of sources.now) main tokens →
+        MatchResult result (λ v. lexemes_of v.items ≡ tokens) (λ e. e ≡ LexError.Memory) }
+    ensures only_fault { (first : LexError) → HasFault (files_of sources.now) main first →
+        MatchResult result (λ v. ⊥) (λ e. (e ≡ first) ⊎ (e ≡ LexError.Memory)) }
+{
+    read(alloc, sources, main)
 }

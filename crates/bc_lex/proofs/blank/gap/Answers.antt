@@ -1,4 +1,4 @@
-use Rattle.std.proofs.Common.{◌≡◌, ◌-◌, arith, ap, length, length-drop, drop-drop, Some, None}
+use Rattle.std.proofs.Common.{arith, length, Some, None}
 use Rattle.bc_lex.proofs.Loops.{gap_turn, gap_goes_on}
 use Rattle.bc_lex.proofs.blank.gap.Goals as goal
 

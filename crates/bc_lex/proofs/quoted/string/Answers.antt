@@ -1,4 +1,4 @@
-use Rattle.std.proofs.Common.{◌≡◌, ◌-◌, arith, ap, length, length-drop}
+use Rattle.std.proofs.Common.{◌≡◌, ◌-◌, arith}
 use Rattle.bc_lex.specs.declared.quoted.Quoted.TheVariants as quoted
 use Rattle.bc_lex.proofs.Strings.{string_turn, string_goes_on}
 use Rattle.bc_lex.proofs.quoted.string.Goals as goal

@@ -1,4 +1,4 @@
-use Rattle.std.proofs.Common.{◌≡◌, sym, arith, ◌-◌, true, length}
+use Rattle.std.proofs.Common.{sym, length}
 use Rattle.std.proofs.lemmas.Result.{err_from_is_err_and}
 use Rattle.bc_token.specs.Token.{lexeme_of, lexemes_of}
 use Rattle.bc_lex.specs.Files.{files_of, text_of}
@@ -42,13 +42,13 @@ pub loop-preserved : goal.loop-preserved
 loop-preserved t c =
     let files = files_of c.args.sources.now in
     elim c.match-branch-2.branch [
-      in-Token+in_ok-push-in-Token w ↦
-        let h = turn_found (deeper_of files c.args.levels) files c.args.file (length (text_of files c.args.file)) c.loop.counter c.loop.place (lexemes_of c.loop.tokens.items) _ (Token (lexeme_of w.in-Token.token)) (rw c.text_at-end.ensures at c.loop-test.true) (rw w.in-Token.is at c.in_ok-find_item.ensures.value) c.loop.invariant.read in
-        let within = rw w.in-Token.is at c.in_ok-find_item.ensures.within in
-        rw (w.place-is, w.tokens-is) record { within = within; read = bind_goes_on _ _ _ _ h w.in_ok-push-in-Token.ensures }
-    | in-Get+else-levels-eq0+in_ok-read_file-in-Get w ↦
-        let h = turn_found (deeper_of files c.args.levels) files c.args.file (length (text_of files c.args.file)) c.loop.counter c.loop.place (lexemes_of c.loop.tokens.items) _ (Get w.in-Get.start w.in-Get.named w.in-Get.behind) (rw c.text_at-end.ensures at c.loop-test.true) (rw w.in-Get.is at c.in_ok-find_item.ensures.value) c.loop.invariant.read in
-        let s = rw (deeper_of-suc files c.args.levels c.args.file w.in-Get.start w.in-Get.named (lexemes_of c.loop.tokens.items) w.if-levels-eq0.false) at h in
-        let within = rw w.in-Get.is at c.in_ok-find_item.ensures.within in
-        rw (w.place-is, w.tokens-is) record { within = within.1; read = bind_goes_on _ _ _ _ s w.in_ok-read_file-in-Get.ensures }
+      | in-Token+in_ok-push-in-Token w ↦
+          let h = turn_found (deeper_of files c.args.levels) files c.args.file (length (text_of files c.args.file)) c.loop.counter c.loop.place (lexemes_of c.loop.tokens.items) _ (Token (lexeme_of w.in-Token.token)) (rw c.text_at-end.ensures at c.loop-test.true) (rw w.in-Token.is at c.in_ok-find_item.ensures.value) c.loop.invariant.read in
+          let within = rw w.in-Token.is at c.in_ok-find_item.ensures.within in
+          rw (w.place-is, w.tokens-is) record { within = within; read = bind_goes_on _ _ _ _ h w.in_ok-push-in-Token.ensures }
+      | in-Get+else-levels-eq0+in_ok-read_file-in-Get w ↦
+          let h = turn_found (deeper_of files c.args.levels) files c.args.file (length (text_of files c.args.file)) c.loop.counter c.loop.place (lexemes_of c.loop.tokens.items) _ (Get w.in-Get.start w.in-Get.named w.in-Get.behind) (rw c.text_at-end.ensures at c.loop-test.true) (rw w.in-Get.is at c.in_ok-find_item.ensures.value) c.loop.invariant.read in
+          let s = rw (deeper_of-suc files c.args.levels c.args.file w.in-Get.start w.in-Get.named (lexemes_of c.loop.tokens.items) w.if-levels-eq0.false) at h in
+          let within = rw w.in-Get.is at c.in_ok-find_item.ensures.within in
+          rw (w.place-is, w.tokens-is) record { within = within.1; read = bind_goes_on _ _ _ _ s w.in_ok-read_file-in-Get.ensures }
     ]

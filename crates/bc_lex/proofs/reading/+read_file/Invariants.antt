@@ -11,5 +11,5 @@ abbrev pub invariant-loop : goal.invariant-loop
 invariant-loop l = record {
   within : l.place.at ≤ length (text_of (files_of l.sources) l.file);
   read : rest_of (deeper_of (files_of l.sources) l.levels) (files_of l.sources) l.file (length (text_of (files_of l.sources) l.file) - l.counter) l.place (lexemes_of l.tokens.items)
-    ≡ file_of (deeper_of (files_of l.sources) l.levels) (files_of l.sources) l.file l.line (lexemes_of l.initial.tokens.items)
+      ≡ file_of (deeper_of (files_of l.sources) l.levels) (files_of l.sources) l.file l.line (lexemes_of l.initial.tokens.items);
 }
