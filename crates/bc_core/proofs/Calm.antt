@@ -5,7 +5,8 @@ use Rattle.bc_word.specs.declared.operator.Op.TheVariants as operators
 use Rattle.bc_word.specs.Words.{value_of}
 use Rattle.bc_core.specs.Tree.{Exp, Num, Frame, Glob, Place, Load, Neg, Not, Bin, Cond, Call, Valof}
 use Rattle.bc_core.specs.Store.{Cell, Dead, Unset, Set, cell_at}
-use Rattle.bc_core.specs.Outcome.{State, Outcome, Done, Ended, Going, Wild, Run, followed, then_do, choose, content_of_cell, outweighed, second_side}
+use Rattle.bc_step.specs.Streams.{Content}
+use Rattle.bc_core.specs.Outcome.{Ending, ZeroDivide, State, Outcome, Done, Ended, Going, Wild, Run, followed, then_do, choose, content_of_cell, outweighed, second_side}
 use Rattle.bc_core.specs.Laws.{IsCalm, CallFreeIsCalm}
 use Rattle.bc_core.specs.Value.{Context, Sense, has_call, truth_of_value, given, operated, operator_truth, sense}
 
@@ -19,7 +20,7 @@ calm_then : {A B : Type 0} (r : Run A) (f : A → Run B) → CalmRun r → ((x :
 calm_then {A = A} {B = B} r f h k = record { from = λ st. joined st (r st) (h.from st) } where
   joined : (st : State) (o : Outcome A) → IsCalm st o → IsCalm st (followed o f)
   joined st (Done x st1) c = subst (λ z. IsCalm st (f x z)) c ((k x).from st)
-  joined st (Ended e streams) c = tt
+  joined st (Ended e streams) c = c
   joined st (Going streams) c = c
   joined st Wild c = tt
 
@@ -33,20 +34,19 @@ calm_cell Unset st = tt
 calm_cell (Set w) st = refl
 
 calm_given : (v : Option ℕ) → CalmRun (given v)
-calm_given None = record { from = λ st. tt }
+calm_given None = record { from = λ st. (refl, refl) }
 calm_given (Some v) = calm_done v
 
 calm_operated : (op : Op) (a b : Run ℕ) → CalmRun a → CalmRun b → CalmRun (operated op false a b)
 calm_operated op a b h k = record { from = λ st. sides st (a st) (h.from st) } where
-  weighed : (st : State) (e : _) (streams : _) (o : Outcome ℕ) → IsCalm st (outweighed {A = ℕ} {B = ℕ} e streams o)
-  weighed st e streams (Done y st2) = tt
-  weighed st e streams (Ended e2 streams2) = tt
-  weighed st e streams (Going streams2) = tt
-  weighed st e streams Wild = tt
-
+  weighed : (st : State) (e : Ending) (streams : Content) (o : Outcome ℕ) → (e ≡ ZeroDivide) × (streams ≡ st.streams) → IsCalm st (outweighed {A = ℕ} {B = ℕ} e streams o)
+  weighed st e streams (Done y st2) c = c
+  weighed st e streams (Ended e2 streams2) c = c
+  weighed st e streams (Going streams2) c = c
+  weighed st e streams Wild c = tt
   sides : (st : State) (o : Outcome ℕ) → IsCalm st o → IsCalm st (second_side false o b (λ x y. given (value_of op x y)) st)
   sides st (Done x st1) c = subst (λ z. IsCalm st (followed (b z) (λ y. given (value_of op x y)))) c ((calm_then b (λ y. given (value_of op x y)) k (λ y. calm_given (value_of op x y))).from st)
-  sides st (Ended e streams) c = weighed st e streams (b st)
+  sides st (Ended e streams) c = weighed st e streams (b st) c
   sides st (Going streams) c = c
   sides st Wild c = tt
 

@@ -45,10 +45,11 @@ CallsAreTidy =
     (program : List Placed) (n a : ℕ) (arguments : List ℕ) (frame : ℕ) (st : State)
     → Tidy frame st.cells st.streams (calls program n a arguments frame st)
 
--- a run that goes on behind its part of the source in the state in which it began, or has ended, or is wild
+-- a run that goes on behind its part of the source in the state in which it began, or ends there by a zero
+-- divisor, or is wild
 abbrev pub IsCalm : {A : Type 0} → State → Outcome A → Type 0
 IsCalm st (Done x st1) = st ≡ st1
-IsCalm st (outcomes.Ended e streams) = Unit {0}
+IsCalm st (outcomes.Ended e streams) = (e ≡ outcomes.ZeroDivide) × (streams ≡ st.streams)
 IsCalm st (outcomes.Going streams) = ⊥
 IsCalm st outcomes.Wild = Unit {0}
 

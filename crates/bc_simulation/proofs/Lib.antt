@@ -3,3 +3,4 @@ pub mod Agreeing
 pub mod Landing
 pub mod Operands
 pub mod Slice
+pub mod Exchange

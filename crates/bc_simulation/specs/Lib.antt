@@ -3,3 +3,4 @@ pub mod Agreement
 pub mod CodeAt
 pub mod Lands
 pub mod Rules
+pub mod Free

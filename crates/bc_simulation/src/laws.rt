@@ -1,5 +1,6 @@
 //! Laws of the simulation. Each is the contract of a function that does nothing.
 
+ghost use Rattle.bc_simulation.specs.Free.{FreeOperandsExchange};
 ghost use Rattle.bc_simulation.specs.Rules.{PushIsValue, OperandIsPushed, OperandIsAdded, OperatesThroughB, OperatesOnHeld};
 
 /// Code that gives a value and leaves B as A was also gives the value alone.
@@ -26,4 +27,10 @@ pub fn operates_through_b()
 /// give the operator's value.
 pub fn operates_on_held()
     ensures { OperatesOnHeld }
+{}
+
+/// Where an operator's operands are free, that is neither holds a call or VALOF, or one is a number or
+/// an address, the right one worked out first gives the same, or the source is wild.
+pub fn free_operands_exchange()
+    ensures { FreeOperandsExchange }
 {}
