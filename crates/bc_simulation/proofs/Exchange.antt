@@ -5,13 +5,13 @@ use Rattle.bc_word.specs.declared.operator.Op.{Op}
 use Rattle.bc_word.specs.declared.operator.Op.TheVariants as operators
 use Rattle.bc_word.specs.Words.{value_of}
 use Rattle.bc_core.specs.declared.operands.Operand.{Operand}
-use Rattle.bc_core.specs.Tree.{Exp, Num, Frame, Glob, Place, Load, Neg, Not, Bin, Cond, Call, Valof}
+use Rattle.bc_core.specs.Tree.{Exp, Num, Frame, Glob, Place, Load, Bin}
 use Rattle.bc_core.specs.Operand.{operand_of, content_of, sum_operand, moved}
 use Rattle.bc_core.specs.Outcome.{State, Outcome, Done, Ended, Going, Wild, Run, followed, then_do, outweighed, second_side}
 use Rattle.bc_core.specs.Value.{Context, has_call, given, value}
 use Rattle.bc_core.specs.Laws.{IsCalm}
 use Rattle.bc_core.proofs.Calm.{calm, no_left, no_right}
-use Rattle.bc_simulation.specs.Free.{is_direct, are_free, exchanged, SameUnlessWild, FreeOperandsExchange}
+use Rattle.bc_simulation.specs.Free.{is_direct, exchanged, SameUnlessWild, FreeOperandsExchange}
 
 not_direct : (o : Option Operand) → None ≡ o → is_direct o ≡ true → ⊥
 not_direct None e h = cc
