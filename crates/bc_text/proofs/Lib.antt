@@ -8,3 +8,4 @@ pub mod Feeding
 pub mod Fronts
 pub mod Printed
 pub mod TextLaws
+pub mod Examples

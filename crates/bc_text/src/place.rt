@@ -12,6 +12,7 @@ use bc_item::{Base, Function, GlobalNumber, Item};
 use bc_word::Word;
 
 /// Whether the byte separates items and is none of a comment's.
+#[inline]
 pub fn is_blank(byte: u8) -> bool
     ensures { result ≡ is_blank byte }
 {
@@ -19,6 +20,7 @@ pub fn is_blank(byte: u8) -> bool
 }
 
 /// Whether a `-` may stand behind the head.
+#[inline]
 pub fn allows_minus(head: &Head) -> bool
     ensures { result ≡ allows head.now 45 }
 {
@@ -30,6 +32,7 @@ pub fn allows_minus(head: &Head) -> bool
 }
 
 /// The greatest number behind the head, where it has no sign.
+#[inline]
 pub fn limit(head: &Head) -> u16
     ensures { result ≡ limit head.now }
 {
@@ -41,6 +44,7 @@ pub fn limit(head: &Head) -> u16
 }
 
 /// The head that a letter begins.
+#[inline]
 pub fn head_of(byte: u8) -> Option<Head>
     ensures { result ≡ head_of byte }
 {
@@ -66,6 +70,7 @@ pub fn head_of(byte: u8) -> Option<Head>
 }
 
 /// The head with one letter more.
+#[inline]
 pub fn longer(head: &Head, byte: u8) -> Option<Head>
     ensures { result ≡ longer head.now byte }
 {
@@ -97,6 +102,7 @@ pub fn longer(head: &Head, byte: u8) -> Option<Head>
 }
 
 /// The number with one digit more, unless that takes it out of range. Its first byte stands at `from`.
+#[inline]
 pub fn with_digit(
     head: &Head,
     from: u64,
@@ -126,6 +132,7 @@ pub fn with_digit(
 }
 
 /// What a byte makes behind a head.
+#[inline]
 pub fn behind_head(head: &Head, byte: u8, at: u64) -> Result<Place, TextError>
     ensures is { result ≡ behind_head head.now byte at }
     ensures in_range { IfOk result (λ place. IsTrue (is_in_range place)) }
@@ -146,6 +153,7 @@ pub fn behind_head(head: &Head, byte: u8, at: u64) -> Result<Place, TextError>
 }
 
 /// What a byte makes behind the `-` of a number.
+#[inline]
 pub fn behind_minus(head: &Head, from: u64, byte: u8, at: u64) -> Result<Place, TextError>
     ensures is { result ≡ behind_minus head.now from byte at }
     ensures in_range { IfOk result (λ place. IsTrue (is_in_range place)) }
@@ -158,6 +166,7 @@ pub fn behind_minus(head: &Head, from: u64, byte: u8, at: u64) -> Result<Place, 
 }
 
 /// What a byte makes between items, where it is not the `Z` of a segment's end.
+#[inline]
 pub fn between(byte: u8, at: u64) -> Result<Place, TextError>
     ensures is { result ≡ between byte at }
     ensures in_range { IfOk result (λ place. IsTrue (is_in_range place)) }
@@ -178,6 +187,7 @@ pub fn between(byte: u8, at: u64) -> Result<Place, TextError>
 }
 
 /// What a byte makes behind the number of a global.
+#[inline]
 pub fn behind_global(number: GlobalNumber, byte: u8, at: u64) -> Result<Place, TextError>
     ensures is { result ≡ behind_global number byte at }
     ensures in_range { IfOk result (λ place. IsTrue (is_in_range place)) }
@@ -190,6 +200,7 @@ pub fn behind_global(number: GlobalNumber, byte: u8, at: u64) -> Result<Place, T
 }
 
 /// The word of a number with or without sign.
+#[inline]
 fn word_of(negative: bool, value: u16) -> Word
     ensures { result ≡ word_of negative value }
 {
@@ -201,6 +212,7 @@ fn word_of(negative: bool, value: u16) -> Word
 }
 
 /// What stands there where the digits of a number are at an end.
+#[inline]
 pub fn ended_number(head: &Head, negative: bool, value: u16) -> Ended
     requires { IsTrue (nat_le value (limit head.now)) }
     ensures { result ≡ ended_number head.now negative value }

@@ -48,6 +48,7 @@ impl Progress {
     }
 
     /// The place that a byte leads to, where it leads to one.
+    #[inline]
     fn go_to(&mut self, place: Result<Place, TextError>) -> Result<(), TextError>
         requires { IfOk place (λ place. IsTrue (is_in_range place)) }
         ensures { Reaches result (progress_of self.new) (placed_at (progress_of self.old) place) }
@@ -62,6 +63,7 @@ impl Progress {
     }
 
     /// A byte where an item may begin.
+    #[inline]
     fn begin(&mut self, byte: u8, at: u64) -> Result<(), TextError>
         ensures { Reaches result (progress_of self.new) (begun (progress_of self.old) byte at) }
     {
@@ -73,6 +75,7 @@ impl Progress {
     }
 
     /// The byte behind a number's digits, with what they made.
+    #[inline]
     fn end_number(&mut self, ended: Ended, byte: u8, at: u64) -> Result<(), TextError>
         ensures { Reaches result (progress_of self.new) (behind_number (progress_of self.old) ended byte at) }
     {
@@ -86,6 +89,7 @@ impl Progress {
     }
 
     /// One byte more.
+    #[inline]
     #[tactic(auto, unfolding(crate::specs::Steps::step))]
     fn take(&mut self, byte: u8) -> Result<(), TextError>
         ensures { Reaches result (progress_of self.new) (step (progress_of self.old) byte) }
