@@ -1,0 +1,2 @@
+pub mod Unwinding
+pub mod Stepping

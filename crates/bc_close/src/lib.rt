@@ -1,0 +1,8 @@
+//! Closed lists: section brackets lose their tags, and line breaks become semicolons.
+#![tactic(auto)]
+
+mod closing;
+mod fault;
+
+pub use closing::{ClosedList, close};
+pub use fault::CloseFault;
