@@ -18,7 +18,8 @@ use Rattle.bc_step.specs.declared.state.End.TheVariants as machine_ends
 use Rattle.bc_step.specs.Streams.{Content}
 use Rattle.bc_step.specs.State.{State}
 use Rattle.bc_step.specs.Effect.{running}
-use Rattle.bc_step.specs.Operation.{operation_of, Operate}
+use Rattle.bc_step.specs.Operation.{operation_of}
+use Rattle.bc_step.specs.declared.operation.Operation.TheVariants.{Operate}
 use Rattle.bc_step.specs.Execute.{execute, with_value}
 use Rattle.bc_step.specs.Step.{step, perform}
 use Rattle.bc_core.specs.declared.operands.Operand.{Operand}
