@@ -6,8 +6,6 @@ use crate::faults::{DeviceFault, StreamsError};
 use crate::names::{HasName, Named, chosen, number_of, number_of_first, refusal};
 use crate::streams::Streams;
 use bc_step::Side;
-
-
 use bc_word::{Memory, Word};
 use std::alloc::Global;
 use std::io::{Read, Write};

@@ -18,7 +18,7 @@ pub returns-in-Output : goal.returns-in-Output
 returns-in-Output g c = λ known.
     let f = c.args.self.now in
     let same_length : length f.outputs.items ≡ length (map g.W.Write.contents f.writers.items) =
-        sym f.outputs.ok.0 ∙ sym f.same_length ∙ f.writers.ok.0 ∙ sym (length-map f.writers.items g.W.Write.contents) in
+    sym f.outputs.ok.0 ∙ sym f.same_length ∙ f.writers.ok.0 ∙ sym (length-map f.writers.items g.W.Write.contents) in
     rw (c.in-Output.is, c.number_of-in-Output.ensures, c.as_slice-in-Output.ensures.value)
     (ap (λ names. number_or_none (position_from (λ known. bytes_eq known c.args.name.now) 1 names))
     (sym (names_of_outputs f.outputs.items (map g.W.Write.contents f.writers.items) same_length)))

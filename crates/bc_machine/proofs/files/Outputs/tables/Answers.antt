@@ -11,7 +11,7 @@ loop-output-preserved g c =
     let writers = c.loop-output.writers in
     let w = c.in-Some.output.device in
     let same_length : length names.items ≡ length (map contents writers.items) =
-        sym names.ok.0 ∙ sym c.loop-output.invariant.same_length ∙ writers.ok.0 ∙ sym (length-map writers.items contents) in
+    sym names.ok.0 ∙ sym c.loop-output.invariant.same_length ∙ writers.ok.0 ∙ sym (length-map writers.items contents) in
     record {
       content =
           rw (c.in_ok-push.ensures.items, c.in_ok-push-2.ensures.items, map-append contents writers.items (w ∷ []))
