@@ -3,6 +3,7 @@
 
 mod closing;
 mod fault;
+pub mod laws;
 
 pub use closing::{ClosedList, close};
 pub use fault::CloseFault;

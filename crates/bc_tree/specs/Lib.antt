@@ -3,6 +3,7 @@ pub mod Tree
 pub mod View
 pub mod Operators
 pub mod Spelling
+pub mod Canonical
 pub mod Height
 pub mod Size
 pub mod Laws
