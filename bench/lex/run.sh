@@ -1,6 +1,6 @@
 #!/usr/bin/env bash
 # The time of `lex` over a generated source of a million bytes, beside that of a C loop that only classifies the
-# bytes, and over one of half the length: the best of seven runs of each, taken in turn. Prints the rates and ratios.
+# bytes, and over one of half the length: the best of forty runs of each, taken in turn. Prints the rates and ratios.
 #
 # The program is built in a workspace of its own outside the repository, with copies of the crates, since it is
 # no crate of the repository: in $BENCH_WORK, or else in a folder of the system's for temporary files.
@@ -25,7 +25,7 @@ python3 make_source.py 500000 >"$work/half"
 program="$work/crates/lex_bench/out/lex_bench"
 tokens=$("$program" <"$work/whole" | cut -d' ' -f2)
 whole=0 half=0 loop=0
-for _ in 1 2 3 4 5 6 7; do
+for _ in $(seq 40); do
     w=$("$program" <"$work/whole" | cut -d' ' -f1)
     h=$("$program" <"$work/half" | cut -d' ' -f1)
     c=$("$work/classify" <"$work/whole" | cut -d' ' -f1)

@@ -121,12 +121,15 @@ store_is_whole segments =
     let g = length-globals_of segments in
     let code = words_from 520 segments ++ zeros segments in
     let parts : store_of segments ≡ low ++ (globals_of segments ++ code) = store-parts segments ∙ append_assoc low (globals_of segments) code in
-    let cells : take 512 (globals_of segments ++ code) ≡ globals_of segments = ap (λ n. take n (globals_of segments ++ code)) (sym g) ∙ take-append_seam (globals_of segments) code in
-    (ap (take 3) parts, ap (λ s. take 512 (drop 8 s)) parts ∙ cells, λ fits.
-      let l = length-front segments in
-      let w = length-words_from 520 segments in
-      let z = length-replicate {A = ℕ} (65536 - stack_base_of segments) 0 in
-      let a = length-append (low ++ globals_of segments) code in
-      let b = length-append (words_from 520 segments) (zeros segments) in
-      let e = ap length (store-parts segments) in
-      omega arith)
+    let cells : take 512 (globals_of segments ++ code) ≡ globals_of segments = ap (λ n. take n (globals_of segments ++ code)) (sym g) ∙ take-append_seam (globals_of segments) code in (
+      ap (take 3) parts,
+      ap (λ s. take 512 (drop 8 s)) parts ∙ cells,
+      λ fits.
+          let l = length-front segments in
+          let w = length-words_from 520 segments in
+          let z = length-replicate {A = ℕ} (65536 - stack_base_of segments) 0 in
+          let a = length-append (low ++ globals_of segments) code in
+          let b = length-append (words_from 520 segments) (zeros segments) in
+          let e = ap length (store-parts segments) in
+          omega arith,
+    )

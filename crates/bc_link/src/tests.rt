@@ -46,8 +46,20 @@ fn one_label(rt: HostRuntime) -> Result<(), Fail> {
     let items = [label(1), operation(Function::Load, false, Base::Label, 1)];
     let image = linked(rt.alloc(), &[&items])??;
     assert_eq!(rt; image.words.as_slice().len(), 65_536);
-    for (address, word) in [(0, 5121), (1, 49_154), (2, 57_366), (9, 0), (520, 512), (521, 520), (522, 0)] {
-        assert_eq!(rt; image.words.get(Word::new(address)).get(), word, "at {address}");
+    for (address, word) in [
+        (0, 5121),
+        (1, 49_154),
+        (2, 57_366),
+        (9, 0),
+        (520, 512),
+        (521, 520),
+        (522, 0),
+    ] {
+        assert_eq!(rt;
+            image.words.get(Word::new(address)).get(),
+            word,
+            "at {address}"
+        );
     }
     assert_eq!(rt; image.stack_base.get(), 522);
     assert_eq!(rt; image.places.as_slice().len(), 1);
@@ -69,8 +81,18 @@ fn two_segments(rt: HostRuntime) -> Result<(), Fail> {
         setting(100).ok_or("a global")?,
     ];
     let image = linked(rt.alloc(), &[&first, &second])??;
-    for (address, word) in [(520, 321), (521, 16_896), (522, 1792), (523, 2048), (108, 523)] {
-        assert_eq!(rt; image.words.get(Word::new(address)).get(), word, "at {address}");
+    for (address, word) in [
+        (520, 321),
+        (521, 16_896),
+        (522, 1792),
+        (523, 2048),
+        (108, 523),
+    ] {
+        assert_eq!(rt;
+            image.words.get(Word::new(address)).get(),
+            word,
+            "at {address}"
+        );
     }
     assert_eq!(rt; image.stack_base.get(), 524);
     Ok(())
@@ -82,13 +104,25 @@ fn refusals(rt: HostRuntime) -> Result<(), Fail> {
     let alloc = rt.alloc();
     let global = setting(14).ok_or("a global")?;
     let twice = [label(1), label(1), data_label(7)];
-    assert_eq!(rt; linked(alloc, &[&twice])?.err(), Some(LinkError::LabelTwice(0, Word::new(1))));
+    assert_eq!(rt;
+        linked(alloc, &[&twice])?.err(),
+        Some(LinkError::LabelTwice(0, Word::new(1)))
+    );
     let unset = [data_label(7)];
-    assert_eq!(rt; linked(alloc, &[&[], &unset])?.err(), Some(LinkError::LabelUnset(1, Word::new(7))));
+    assert_eq!(rt;
+        linked(alloc, &[&[], &unset])?.err(),
+        Some(LinkError::LabelUnset(1, Word::new(7)))
+    );
     let sets = [label(1), global];
     let number = GlobalNumber::new(14).ok_or("a global")?;
-    assert_eq!(rt; linked(alloc, &[&unset, &sets, &sets])?.err(), Some(LinkError::GlobalTwice(number)));
-    assert_eq!(rt; linked(alloc, &[&sets, &twice, &sets])?.err(), Some(LinkError::LabelTwice(1, Word::new(1))));
+    assert_eq!(rt;
+        linked(alloc, &[&unset, &sets, &sets])?.err(),
+        Some(LinkError::GlobalTwice(number))
+    );
+    assert_eq!(rt;
+        linked(alloc, &[&sets, &twice, &sets])?.err(),
+        Some(LinkError::LabelTwice(1, Word::new(1)))
+    );
     Ok(())
 }
 
@@ -103,6 +137,36 @@ fn too_large(rt: HostRuntime) -> Result<(), Fail> {
     let image = linked(alloc, &[items.as_slice()])??;
     assert_eq!(rt; image.stack_base.get(), 65_472);
     items.push(data_label(7))?;
-    assert_eq!(rt; linked(alloc, &[items.as_slice()])?.err(), Some(LinkError::TooLarge));
+    assert_eq!(rt;
+        linked(alloc, &[items.as_slice()])?.err(),
+        Some(LinkError::TooLarge)
+    );
     Ok(())
+}
+
+/// What linking `1 LL1` behind a segment that sets a global answers; none where the items themselves had no memory.
+fn grown(alloc: alloc::Global) -> Option<Result<Image, LinkError>> {
+    let load = [label(1), operation(Function::Load, false, Base::Label, 1)];
+    let sets = [label(1), setting(14)?];
+    let mut segments = Vec::new(alloc);
+    for items in [sets.as_slice(), load.as_slice()] {
+        let items = Vec::from_slice(alloc, items).ok()?;
+        segments.push(Segment::new(items)).ok()?;
+    }
+    Some(link(alloc, segments.as_slice()))
+}
+
+#[test]
+fn growth_is_given(rt: HostRuntime) {
+    assert!(rt; matches!(&grown(rt.alloc()), Some(Ok(_))));
+}
+
+#[test]
+fn refused_growth_is_memory(rt: HostRuntime) {
+    assert!(rt;
+        matches!(
+            &grown(rt.alloc()),
+            None | Some(Ok(_)) | Some(Err(LinkError::Memory))
+        )
+    );
 }

@@ -5,6 +5,8 @@
 mod library;
 mod primitive;
 mod running;
+#[cfg(test)]
+mod tests;
 
 pub use library::{BLIB, LIBHDR};
 pub use primitive::primitives;

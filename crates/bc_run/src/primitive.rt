@@ -74,7 +74,17 @@ pub fn primitives(alloc: alloc::Global) -> Result<Segment, Memory>
     items.extend_from_slice(&[label(6), argument(), execute(29), execute(4)])?;
     items.extend_from_slice(&[label(7), execute(33), nought(), execute(4)])?;
     items.extend_from_slice(&[label(8), execute(34), nought(), execute(4)])?;
-    items.extend_from_slice(&[setting(11, 1), setting(12, 2), setting(13, 3), setting(14, 4)])?;
-    items.extend_from_slice(&[setting(15, 5), setting(16, 6), setting(17, 7), setting(18, 8)])?;
+    items.extend_from_slice(&[
+        setting(11, 1),
+        setting(12, 2),
+        setting(13, 3),
+        setting(14, 4),
+    ])?;
+    items.extend_from_slice(&[
+        setting(15, 5),
+        setting(16, 6),
+        setting(17, 7),
+        setting(18, 8),
+    ])?;
     Ok(Segment::new(items))
 }

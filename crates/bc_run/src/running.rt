@@ -10,7 +10,6 @@ use bc_text::{Reader, TextError};
 use bc_word::Memory;
 use std::alloc::Global;
 use std::io::Read;
-
 use thiserror::Error;
 
 /// Why a text was not run.
@@ -86,10 +85,7 @@ fn read_text<R: Read + Drop>(alloc: Global, mut text: R) -> Result<Vec<Segment>,
 }
 
 /// The segments with the primitives in front of them.
-pub fn behind_primitives(
-    alloc: Global,
-    mut segments: Vec<Segment>,
-) -> Result<Vec<Segment>, Memory>
+pub fn behind_primitives(alloc: Global, mut segments: Vec<Segment>) -> Result<Vec<Segment>, Memory>
     ensures { IfOk result (λ all. all.items ≡ behind segments.items) }
 {
     segments.insert(0, primitives(alloc)?)?;

@@ -22,5 +22,5 @@ returns-clause-run g c =
     let after = g.S.Streams.failures c.run.new.streams in
     let last = held_state c.run.new.self new in
     let ran : RanFrom None told tells c.args.steps (held_state c.in_ok-machine.machine old) last c.run.result before after =
-        subst (λ (e : Option End). RanFrom e told tells c.args.steps (held_state c.in_ok-machine.machine old) last c.run.result before after) c.in_ok-machine.ensures.running c.run.ensures.run in
+    subst (λ (e : Option End). RanFrom e told tells c.args.steps (held_state c.in_ok-machine.machine old) last c.run.result before after) c.in_ok-machine.ensures.running c.run.ensures.run in
     (segments, last, c.in_ok-read_text.ensures.read, sym (ap refusal_of all) ∙ c.in_ok-image.ensures.accepted, refl, subst (λ (s : State). Ran told tells c.args.steps s last c.run.result before after) begun ran)
