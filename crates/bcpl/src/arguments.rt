@@ -160,6 +160,7 @@ fn program<'a>(alloc: Global) -> Result<Command<'a>, AllocError> {
         .after_help(
             "With no words at all, the INTCODE text on standard input is run for at most 1,000,000 instructions,\nwith an empty input.\n\nExample:\n  echo '1 L65 SP4 LIG14 K2 X4 G1L1 Z' | bcpl",
         )
+        .bin_name("bcpl")?
         .no_binary_name(true)
         .subcommand_required(true)
         .subcommand(build_command(alloc)?)?

@@ -7,6 +7,8 @@ mod devices;
 mod failure;
 mod loading;
 mod output;
+#[cfg(test)]
+mod tests;
 
 use crate::commands::command;
 use std::env;
