@@ -10,6 +10,8 @@ mod names;
 mod operations;
 mod store;
 mod streams;
+#[cfg(test)]
+mod tests;
 
 pub use bc_image::{Image, Labels, Places, SegmentPlace, Words};
 pub use bc_step::{End, Side};
