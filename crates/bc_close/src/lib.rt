@@ -7,3 +7,6 @@ pub mod laws;
 
 pub use closing::{ClosedList, close};
 pub use fault::CloseFault;
+
+#[cfg(test)]
+mod tests;
