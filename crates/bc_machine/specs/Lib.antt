@@ -1,3 +1,4 @@
+pub mod Examples
 pub mod FileContent
 pub mod Known
 pub mod MemoryContent

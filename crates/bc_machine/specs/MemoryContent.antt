@@ -1,6 +1,6 @@
 -- What streams in memory hold.
-use Rattle.std.specs.Prelude.{ℕ, ◌+◌, ◌==◌, List, [], ◌∷◌, map, filter, drop, length}
-use Rattle.bc_step.specs.Streams.{Input, Output, Content}
+use Rattle.std.specs.Prelude.{ℕ, ◌+◌, ◌==◌, List, [], ◌∷◌, map, filter, drop, length, ◌++◌, Bool, true, false, Option, Some, None, cond}
+use Rattle.bc_step.specs.Streams.{Input, Output, Content, numbered}
 use Rattle.bc_machine.specs.declared.names.Named.{Named}
 use Rattle.bc_machine.specs.declared.memory.MemoryInput.{MemoryInput}
 use Rattle.bc_machine.specs.declared.memory.MemoryOutput.{MemoryOutput}
@@ -34,3 +34,16 @@ memory_written m = m.written.items
 -- how many bytes of output there is room for
 abbrev pub memory_room : MemoryStreams → ℕ
 memory_room m = m.room
+
+-- an open output takes the byte, another drops it
+abbrev pub written_to : Option MemoryOutput → ℕ → ℕ → List (ℕ × ℕ) → List (ℕ × ℕ)
+written_to None number byte written = written
+written_to (Some o) number byte written = cond o.ended written (written ++ (number, byte) ∷ [])
+
+-- what was written, when one byte more was written to the selected output
+abbrev pub written_after : ℕ → MemoryStreams → List (ℕ × ℕ)
+written_after byte m = written_to (numbered m.outputs.items m.output) m.output byte m.written.items
+
+-- how often the room was found spent
+abbrev pub memory_failures : MemoryStreams → ℕ
+memory_failures m = m.failures

@@ -180,13 +180,16 @@ impl MemoryStreams {
 }
 
 impl Streams for MemoryStreams {
-    ghost use Rattle.bc_machine.specs.MemoryContent.{memory_content};
+    ghost use Rattle.std.specs.Prelude.{◌≡◌, ◌≤◌, OnOk, OnErr, length};
+    ghost use Rattle.bc_step.specs.StreamCalls.{after_write};
+    ghost use Rattle.bc_machine.specs.Rose.{Rose};
+    ghost use Rattle.bc_machine.specs.MemoryContent.{memory_content, memory_failures, memory_written, memory_room, written_after};
 
     ghost content = { memory_content };
 
     ghost known = { λ m. Unit {0} };
 
-    ghost failures = { λ m. m.failures };
+    ghost failures = { memory_failures };
 
     fn find(&self, side: Side, name: &[u8]) -> Word {
         match side {
@@ -210,8 +213,17 @@ impl Streams for MemoryStreams {
         Ok(input.next_byte())
     }
 
+    /// A byte that is dropped needs no room; for any other, `DeviceFault` comes just where the room is
+    /// spent.
     #[tactic(auto, unfolding(crate::specs::Rose::Rose))]
-    fn write(&mut self, byte: u8) -> Result<(), DeviceFault> {
+    fn write(&mut self, byte: u8) -> Result<(), DeviceFault>
+        ensures ok { OnOk result (memory_content self.new ≡ after_write byte (memory_content self.old)) }
+        ensures err { OnErr result (memory_content self.new ≡ memory_content self.old) }
+        ensures failed { OnErr result (Rose (memory_failures self.old) (memory_failures self.new)) }
+        ensures counted { memory_failures self.old ≤ memory_failures self.new }
+        ensures written { OnOk result (memory_written self.new ≡ written_after byte self.old) }
+        ensures room { OnErr result (memory_room self.old ≤ length (memory_written self.old)) }
+    {
         if self.output == 0 {
             return Ok(());
         }

@@ -5,7 +5,7 @@ use Rattle.bc_machine.proofs.MemoryOutputs.{numbered_output, memory_outputs-more
 use Rattle.bc_machine.proofs.memory.MemoryStreamsStreams.write.Goals as goal
 
 pub returns-then-index-clause-ok : goal.returns-then-index-clause-ok
-returns-then-index-clause-ok c = λ _.
+returns-then-index-clause-ok c =
     let m = c.args.self.now in
     let within : m.output ≤ length m.outputs.items = omega (arith, m.output_exists, m.outputs.ok.0) in
     let outputs = memory_outputs 1 m.written.items m.outputs.items in
@@ -14,7 +14,7 @@ returns-then-index-clause-ok c = λ _.
     (numbered_output m.output m.written.items m.outputs.items o (omega arith) within c.index.ensures) c.if-index.true
 
 pub returns-then-is_ok-clause-ok : goal.returns-then-is_ok-clause-ok
-returns-then-is_ok-clause-ok c = λ _.
+returns-then-is_ok-clause-ok c =
     let m = c.args.self.now in
     let within : m.output ≤ length m.outputs.items = omega (arith, m.output_exists, m.outputs.ok.0) in
     let inputs = map memory_input m.inputs.items in
