@@ -32,8 +32,11 @@ opens_block (b ∷ bs) = (b == 47) && begins 42 bs
 
 -- a blank, a line break, or a whole comment
 pub data IsBlank : List ℕ → List ℕ → Type 0 where
+  -- a blank or a line break
   Space : (b : ℕ) (after : List ℕ) → is_space b ≡ true → IsBlank (b ∷ []) after
+  -- a comment to the end of the line
   Line : (b c : ℕ) (text after : List ℕ) → opens_line (b ∷ c ∷ []) ≡ true → breaks text ≡ false → AtLineEnd after → IsBlank (b ∷ c ∷ text) after
+  -- a comment to the next closing sign
   Block : (text after : List ℕ) → (Holds (codes "*/") (text ++ codes "*") → ⊥) → IsBlank (codes "/*" ++ (text ++ codes "*/")) after
 
 -- blanks, line breaks and comments in a row

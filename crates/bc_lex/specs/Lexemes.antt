@@ -29,8 +29,11 @@ value_behind base n (b ∷ bs) = value_behind base (n * base + unwrap_or (digit_
 
 -- digits of a base behind the base's prefix
 pub data IsNumber : List ℕ → List ℕ → ℕ → Type 0 where
+  -- 12
   Decimal : (b : ℕ) (bs after : List ℕ) → list_all (is_digit_of 10) (b ∷ bs) ≡ true → Ends (is_digit_of 10) after → IsNumber (b ∷ bs) after (value_behind 10 0 (b ∷ bs))
+  -- #17
   Octal : (b : ℕ) (bs after : List ℕ) → list_all (is_digit_of 8) (b ∷ bs) ≡ true → Ends (is_digit_of 8) after → IsNumber (35 ∷ b ∷ bs) after (value_behind 8 0 (b ∷ bs))
+  -- #X1F
   Hexadecimal : (b : ℕ) (bs after : List ℕ) → list_all (is_digit_of 16) (b ∷ bs) ≡ true → Ends (is_digit_of 16) after → IsNumber (35 ∷ 88 ∷ b ∷ bs) after (value_behind 16 0 (b ∷ bs))
 
 -- no letter begins a text
@@ -48,10 +51,17 @@ pub record IsSign (text after : List ℕ) (s : Symbol) : Type 0 where
 
 -- the text of a token, what follows it, and what the token is
 pub data IsLexeme : List ℕ → List ℕ → Kind → Type 0 where
+  -- a name that is reserved
   Word : (text after : List ℕ) (s : Symbol) → IsName text → Ends is_name_byte after → symbol_of text ≡ Some s → IsLexeme text after (Sign s)
+  -- any other name
   Named : (text after : List ℕ) → IsName text → Ends is_name_byte after → symbol_of text ≡ None → IsLexeme text after (Name text)
+  -- a number of at most 65,535
   Numeral : (text after : List ℕ) (n : ℕ) → IsNumber text after n → n ≤ 65535 → IsLexeme text after (Number n)
+  -- a character constant: one character between two '
   Constant : (text after : List ℕ) (c : ℕ) → IsCharacter 39 text c → IsLexeme (39 ∷ (text ++ 39 ∷ [])) after (Character c)
+  -- a string: fewer than 256 characters between two "
   Literal : (text after cs : List ℕ) → Spells 34 text cs → length cs < 256 → IsLexeme (34 ∷ (text ++ 34 ∷ [])) after (String (34 ∷ (text ++ 34 ∷ [])))
+  -- a sign that takes no tag
   Marked : (text after : List ℕ) (s : Symbol) → IsSign text after s → has_tag s ≡ false → IsLexeme text after (Sign s)
+  -- a section bracket with its whole tag
   Bracket : (text tag after : List ℕ) (s : Symbol) → symbol_of text ≡ Some s → has_tag s ≡ true → list_all is_name_byte tag ≡ true → Ends is_name_byte after → IsLexeme (text ++ tag) after (Sign s)
