@@ -4,8 +4,10 @@
 #![tactic(auto)]
 
 pub mod laws;
+mod operation;
 mod state;
 mod streams;
 
+pub use operation::Operation;
 pub use state::{End, Registers};
 pub use streams::Side;

@@ -158,6 +158,7 @@ same-≡ a b = (
 
 -- the spelling that a symbol is written with spells it
 pub symbol_of-spelling_of : (s : Symbol) → symbol_of (spelling_of s) ≡ Some s
+unfolding symbol_of
 symbol_of-spelling_of symbol.And = refl
 symbol_of-spelling_of symbol.Be = refl
 symbol_of-spelling_of symbol.Break = refl

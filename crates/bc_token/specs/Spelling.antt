@@ -163,5 +163,5 @@ symbol_in [] text = None
 symbol_in (row ∷ rows) text = cond (pointwise nat_eq row.0 text) (Some row.1) (symbol_in rows text)
 
 -- the symbol that a text spells
-abbrev pub symbol_of : List ℕ → Option Symbol
+unfoldable pub symbol_of : List ℕ → Option Symbol
 symbol_of text = symbol_in spellings text

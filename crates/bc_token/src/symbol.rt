@@ -493,6 +493,7 @@ impl Symbol {
     }
 
     /// The symbol with this spelling, or `None` where the text spells none.
+    #[tactic(auto, unfolding(crate::specs::Spelling::symbol_of))]
     pub fn spelled(text: &[u8]) -> Option<Symbol>
         ensures { result ≡ symbol_of text.now }
     {

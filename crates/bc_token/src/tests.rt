@@ -1,5 +1,4 @@
 use crate::{Symbol, Token, TokenKind};
-use bc_word::Word;
 use std::test::Fail;
 
 /// Every spelling of the language's reserved words and signs.
@@ -57,7 +56,7 @@ fn tokens_are_compared_by_what_they_say(rt: HostRuntime) -> Result<(), Fail> {
         line_before: false,
     };
     assert!(rt; first == second);
-    assert!(rt; TokenKind::Number(Word::new(7)) != TokenKind::Character(Word::new(7)));
+    assert!(rt; TokenKind::Number(7) != TokenKind::Character(7));
     assert!(rt; TokenKind::Symbol(Symbol::Plus) != TokenKind::String(b"\"+\""));
     Ok(())
 }

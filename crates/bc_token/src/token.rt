@@ -1,5 +1,4 @@
 use crate::symbol::Symbol;
-use bc_word::Word;
 
 /// What a token is.
 #[derive(Clone, Copy, Debug, PartialEq, Eq)]
@@ -8,10 +7,10 @@ pub enum TokenKind<'s> {
     Symbol(Symbol),
     /// A name, as it is spelled.
     Name(&'s [u8]),
-    /// A number, with its value.
-    Number(Word),
-    /// A character constant, with the byte between its signs.
-    Character(Word),
+    /// A number: the word of its value.
+    Number(u16),
+    /// A character constant: the word of the byte between its signs.
+    Character(u16),
     /// A string, as it is spelled, with the signs around it.
     String(&'s [u8]),
 }

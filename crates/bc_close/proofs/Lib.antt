@@ -1,0 +1,3 @@
+pub mod Unwinding
+pub mod Stepping
+pub mod Weights

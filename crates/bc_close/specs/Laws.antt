@@ -1,0 +1,9 @@
+-- What holds of every closed list.
+use Rattle.std.specs.Prelude.{◌≡◌, ℕ, ◌≤◌, List, length, Result, Ok}
+use Rattle.bc_token.specs.Token.{Lexeme}
+use Rattle.bc_tree.specs.Size.{weight}
+use Rattle.bc_close.specs.Closing.{Placed, closed_list, parts_in}
+
+-- a closed list has no more parts than tokens, section brackets that close and line breaks not counted
+abbrev pub ClosedIsShort : Type 0
+ClosedIsShort = (ts : List Lexeme) (ps : List Placed) → closed_list ts ≡ Ok ps → weight (parts_in ps) ≤ length ts

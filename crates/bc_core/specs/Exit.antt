@@ -1,0 +1,21 @@
+-- Where control goes from a command.
+use Rattle.std.specs.Prelude.{ℕ}
+use Rattle.bc_core.specs.Outcome.{Done, Run}
+
+-- past it, or to where BREAK, LOOP, ENDCASE, RETURN, RESULTIS or GOTO sends it
+pub data Exit : Type 0 where
+  Past : Exit
+  Broke : Exit
+  Looped : Exit
+  LeftCases : Exit
+  Returned : Exit
+  Resulted : ℕ → Exit
+  Jumped : ℕ → Exit
+
+abbrev pub past : Unit {0} → Run Exit
+past u = Done Past
+
+-- the commands that follow are done where control goes past
+abbrev pub onward : Run Exit → Exit → Run Exit
+onward rest Past = rest
+onward rest x = Done x

@@ -1,0 +1,117 @@
+-- What a run of a part of the source comes to.
+use Rattle.std.specs.Prelude.{ℕ, zero, suc, Bool, true, false, List, slice_set}
+use Rattle.bc_step.specs.Streams.{Content}
+use Rattle.bc_core.specs.Store.{Cell, Dead, Unset, Set, cell_at, opened, closed}
+
+-- the cells, what the streams hold, and the turns that are left
+pub record State : Type 0 where
+  pub cells : List Cell
+  pub streams : Content
+  pub turns : ℕ
+
+pub data Ending : Type 0 where
+  Finished : Ending
+  ZeroDivide : Ending
+
+-- a value and the state after it; or the run ended; or it would go on, and no turn is left; or it met a wild
+-- cell
+pub data Outcome (A : Type 0) : Type 0 where
+  Done : A → State → Outcome A
+  Ended : Ending → Content → Outcome A
+  Going : Content → Outcome A
+  Wild : Outcome A
+
+abbrev pub Run : Type 0 → Type 0
+Run A = State → Outcome A
+
+abbrev pub wild : {A : Type 0} → Run A
+wild st = Wild
+
+abbrev pub ends : {A : Type 0} → Ending → Run A
+ends ending st = Ended ending st.streams
+
+-- a run, and what is done with its value
+abbrev pub followed : {A B : Type 0} → Outcome A → (A → Run B) → Outcome B
+followed (Done x st) f = f x st
+followed (Ended e streams) f = Ended e streams
+followed (Going streams) f = Going streams
+followed Wild f = Wild
+
+abbrev pub then_do : {A B : Type 0} → Run A → (A → Run B) → Run B
+then_do r f st = followed (r st) f
+
+abbrev pub choose : {A : Type 0} → Bool → Run A → Run A → Run A
+choose true this that st = this st
+choose false this that st = that st
+
+-- a run that takes a turn
+abbrev pub taken : {A : Type 0} → ℕ → Run A → Run A
+taken zero r st = Going st.streams
+taken (suc n) r st = r (record st { turns = n })
+
+abbrev pub in_turn : {A : Type 0} → Run A → Run A
+in_turn r st = taken st.turns r st
+
+-- reading a cell that isn't live or is unset is wild
+abbrev pub content_of_cell : Cell → Run ℕ
+content_of_cell Dead st = Wild
+content_of_cell Unset st = Wild
+content_of_cell (Set w) st = Done w st
+
+abbrev pub read : ℕ → Run ℕ
+read a st = content_of_cell (cell_at st.cells a) st
+
+-- writing a cell that isn't live is wild
+abbrev pub written : Cell → ℕ → ℕ → Run (Unit {0})
+written Dead a w st = Wild
+written Unset a w st = Done tt (record st { cells = slice_set st.cells a (Set w) })
+written (Set old) a w st = Done tt (record st { cells = slice_set st.cells a (Set w) })
+
+abbrev pub write : ℕ → ℕ → Run (Unit {0})
+write a w st = written (cell_at st.cells a) a w st
+
+-- a run within which n cells from this address on are live, unset as it begins
+abbrev pub left : {A : Type 0} → ℕ → ℕ → Outcome A → Outcome A
+left n a (Done x st) = Done x (record st { cells = closed n a st.cells })
+left n a (Ended e streams) = Ended e streams
+left n a (Going streams) = Going streams
+left n a Wild = Wild
+
+abbrev pub with_cells : {A : Type 0} → ℕ → ℕ → Run A → Run A
+with_cells n a r st = left n a (r (record st { cells = opened n a st.cells }))
+
+-- two sides, left to right: where neither holds a call or VALOF, a wild second side outweighs a zero divisor
+-- in the first
+abbrev pub outweighed : {A B : Type 0} → Ending → Content → Outcome A → Outcome B
+outweighed e streams (Done x st) = Ended e streams
+outweighed e streams (Ended e1 streams1) = Ended e streams
+outweighed e streams (Going streams1) = Ended e streams
+outweighed e streams Wild = Wild
+
+abbrev pub second_side : {A B C : Type 0} → (calls : Bool) → Outcome A → Run B → (A → B → Run C) → Run C
+second_side calls (Done x st1) second f st = followed (second st1) (f x)
+second_side false (Ended e streams) second f st = outweighed e streams (second st)
+second_side true (Ended e streams) second f st = Ended e streams
+second_side calls (Going streams) second f st = Going streams
+second_side calls Wild second f st = Wild
+
+abbrev pub both : {A B C : Type 0} → (calls : Bool) → Run A → Run B → (A → B → Run C) → Run C
+both calls first second f st = second_side calls (first st) second f st
+
+-- rounds until one of them leaves
+pub data Round (A B : Type 0) : Type 0 where
+  Again : A → Round A B
+  Leave : B → Round A B
+
+abbrev pub next_round : {A B : Type 0} → (A → Run B) → Round A B → Run B
+next_round again (Again x) = again x
+next_round again (Leave y) = Done y
+
+-- at most n rounds; it is given one more than the turns that are left, and a round that comes again has taken
+-- a turn, so that it never runs out before the turns do
+abbrev pub rounds : {A B : Type 0} → ℕ → (A → Run (Round A B)) → A → Run B
+rounds zero f x st = Going st.streams
+rounds (suc n) f x st = followed (f x st) (next_round (rounds n f))
+
+abbrev pub repeated : {A B : Type 0} → (A → Run (Round A B)) → A → Run B
+repeated f x st = rounds (suc st.turns) f x st

@@ -1,0 +1,23 @@
+-- When a run of the machine does what a meaning says.
+use Rattle.std.specs.Prelude.{ℕ, ◌≡◌, ◌≤◌, List}
+use Rattle.bc_step.specs.declared.state.End.{End}
+use Rattle.bc_step.specs.declared.state.End.TheVariants as ends
+use Rattle.bc_step.specs.State.{State}
+use Rattle.bc_step.specs.StreamCalls.{output_of}
+use Rattle.bc_step.specs.Run.{runs}
+use Rattle.bc_core.specs.Outcome.{Ending, Finished, ZeroDivide}
+use Rattle.bc_core.specs.Meaning.{Result, Ended, Going, Wild}
+
+abbrev pub end_of : Ending → End
+end_of Finished = ends.Finished
+end_of ZeroDivide = ends.ZeroDivide
+
+-- after m instructions the machine has this end, or is still running, with this output
+abbrev pub IsAt : State → ℕ → End → List (List ℕ) → Type 0
+IsAt s m end output = let r = runs m s in (r.1 ≡ end) × (output_of r.0.streams ≡ output)
+
+-- of a meaning in n turns; nothing is said of a wild run
+abbrev pub Same : Result → ℕ → State → Type 0
+Same (Ended output ending) n s = (m : ℕ) × IsAt s m (end_of ending) output
+Same (Going output) n s = (m : ℕ) × (n ≤ m) × IsAt s m ends.BudgetSpent output
+Same Wild n s = Unit {0}

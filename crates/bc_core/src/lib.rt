@@ -1,0 +1,22 @@
+//! Resolved trees, and what they mean.
+#![tactic(auto)]
+
+mod command;
+mod copies;
+mod expression;
+mod find_operand;
+pub mod laws;
+mod operands;
+mod sections;
+#[cfg(test)]
+mod tests;
+
+pub use bc_item::Base;
+pub use command::{
+    Block, Body, Command, Condition, Declaration, ListItem, Place, Routine, Valof, Variable,
+};
+pub use copies::{copy, copy_expression};
+pub use expression::{CoreExp, Root};
+pub use find_operand::{constant, operand};
+pub use operands::Operand;
+pub use sections::Core;

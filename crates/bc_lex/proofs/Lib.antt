@@ -1,0 +1,15 @@
+pub mod Strings
+pub mod Loops
+pub mod Turns
+pub mod Runs
+pub mod Quoting
+pub mod Gapping
+pub mod Numbering
+pub mod ByteKinds
+pub mod Shapes
+pub mod Lexemic
+pub mod LexemicBack
+pub mod Naming
+pub mod Sound
+pub mod Complete
+pub mod Answering

@@ -1,0 +1,67 @@
+-- What a token is, by its text and by what follows it in its file: each goes on as far as it can.
+use Rattle.std.specs.Prelude.{◌≡◌, ◌≢◌, ℕ, ◌+◌, ◌*◌, ◌<◌, ◌≤◌, Bool, true, false, List, [], ◌∷◌, ◌++◌, length, Some, None, is_some, unwrap_or}
+use Rattle.std.specs.List.{list_all}
+use Rattle.bc_token.specs.declared.symbol.Symbol.{Symbol}
+use Rattle.bc_token.specs.Spelling.{symbol_of}
+use Rattle.bc_token.specs.Token.{Kind, Sign, Name, Number, Character, String}
+use Rattle.bc_lex.specs.Bytes.{is_letter, is_name_byte, digit_of}
+use Rattle.bc_lex.specs.Gaps.{opens_line, opens_block}
+use Rattle.bc_lex.specs.Quotes.{IsCharacter, Spells}
+use Rattle.bc_lex.specs.Tags.{has_tag}
+
+-- bytes of a kind end here: the file does, or another byte comes
+abbrev pub Ends : (ℕ → Bool) → List ℕ → Type 0
+Ends test [] = Unit {0}
+Ends test (b ∷ bs) = test b ≡ false
+
+-- a letter, and letters, digits and dots
+abbrev pub IsName : List ℕ → Type 0
+IsName [] = ⊥
+IsName (b ∷ bs) = (is_letter b ≡ true) × (list_all is_name_byte bs ≡ true)
+
+abbrev pub is_digit_of : ℕ → ℕ → Bool
+is_digit_of base b = is_some (digit_of base b)
+
+-- the value of digits behind those of a value
+abbrev pub value_behind : ℕ → ℕ → List ℕ → ℕ
+value_behind base n [] = n
+value_behind base n (b ∷ bs) = value_behind base (n * base + unwrap_or (digit_of base b) 0) bs
+
+-- digits of a base behind the base's prefix
+pub data IsNumber : List ℕ → List ℕ → ℕ → Type 0 where
+  -- 12
+  Decimal : (b : ℕ) (bs after : List ℕ) → list_all (is_digit_of 10) (b ∷ bs) ≡ true → Ends (is_digit_of 10) after → IsNumber (b ∷ bs) after (value_behind 10 0 (b ∷ bs))
+  -- #17
+  Octal : (b : ℕ) (bs after : List ℕ) → list_all (is_digit_of 8) (b ∷ bs) ≡ true → Ends (is_digit_of 8) after → IsNumber (35 ∷ b ∷ bs) after (value_behind 8 0 (b ∷ bs))
+  -- #X1F
+  Hexadecimal : (b : ℕ) (bs after : List ℕ) → list_all (is_digit_of 16) (b ∷ bs) ≡ true → Ends (is_digit_of 16) after → IsNumber (35 ∷ 88 ∷ b ∷ bs) after (value_behind 16 0 (b ∷ bs))
+
+-- no letter begins a text
+abbrev pub NoLetter : List ℕ → Type 0
+NoLetter [] = Unit {0}
+NoLetter (b ∷ bs) = is_letter b ≡ false
+
+-- the longest spelling of a sign in front, where no comment begins
+pub record IsSign (text after : List ℕ) (s : Symbol) : Type 0 where
+  pub spelled : symbol_of text ≡ Some s
+  pub sign : NoLetter text
+  pub longest : (more rest : List ℕ) → more ≢ [] → after ≡ more ++ rest → symbol_of (text ++ more) ≡ None
+  pub line : opens_line (text ++ after) ≡ false
+  pub block : opens_block (text ++ after) ≡ false
+
+-- the text of a token, what follows it, and what the token is
+pub data IsLexeme : List ℕ → List ℕ → Kind → Type 0 where
+  -- a name that is reserved
+  Word : (text after : List ℕ) (s : Symbol) → IsName text → Ends is_name_byte after → symbol_of text ≡ Some s → IsLexeme text after (Sign s)
+  -- any other name
+  Named : (text after : List ℕ) → IsName text → Ends is_name_byte after → symbol_of text ≡ None → IsLexeme text after (Name text)
+  -- a number of at most 65,535
+  Numeral : (text after : List ℕ) (n : ℕ) → IsNumber text after n → n ≤ 65535 → IsLexeme text after (Number n)
+  -- a character constant: one character between two '
+  Constant : (text after : List ℕ) (c : ℕ) → IsCharacter 39 text c → IsLexeme (39 ∷ (text ++ 39 ∷ [])) after (Character c)
+  -- a string: fewer than 256 characters between two "
+  Literal : (text after cs : List ℕ) → Spells 34 text cs → length cs < 256 → IsLexeme (34 ∷ (text ++ 34 ∷ [])) after (String (34 ∷ (text ++ 34 ∷ [])))
+  -- a sign that takes no tag
+  Marked : (text after : List ℕ) (s : Symbol) → IsSign text after s → has_tag s ≡ false → IsLexeme text after (Sign s)
+  -- a section bracket with its whole tag
+  Bracket : (text tag after : List ℕ) (s : Symbol) → symbol_of text ≡ Some s → has_tag s ≡ true → list_all is_name_byte tag ≡ true → Ends is_name_byte after → IsLexeme (text ++ tag) after (Sign s)

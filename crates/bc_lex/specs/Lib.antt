@@ -1,0 +1,14 @@
+pub mod Bytes
+pub mod Reading
+pub mod Blank
+pub mod Lexeme
+pub mod Files
+pub mod Errors
+pub mod Lexing
+pub mod Found
+pub mod Gaps
+pub mod Quotes
+pub mod Tags
+pub mod Lexemes
+pub mod Faults
+pub mod Tokens

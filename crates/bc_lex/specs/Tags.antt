@@ -1,0 +1,9 @@
+-- The symbols behind which a tag may stand.
+use Rattle.std.specs.Prelude.{Bool, true, false}
+use Rattle.bc_token.specs.declared.symbol.Symbol.{Symbol}
+use Rattle.bc_token.specs.declared.symbol.Symbol.TheVariants as symbol
+
+abbrev pub has_tag : Symbol → Bool
+has_tag symbol.OpenSection = true
+has_tag symbol.CloseSection = true
+has_tag _ = false

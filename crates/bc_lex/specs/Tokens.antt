@@ -1,0 +1,98 @@
+-- The tokens of a source, and the first fault of one that has none.
+use Rattle.std.specs.Prelude.{◌≡◌, ◌≢◌, ℕ, zero, suc, ◌+◌, ◌<◌, ◌≤◌, Bool, true, false, ◌||◌, List, [], ◌∷◌, ◌++◌, ◌⊎◌, length, slice_get, Some, codes}
+use Rattle.bc_token.specs.declared.symbol.Symbol.TheVariants as symbol
+use Rattle.bc_token.specs.Token.{Kind, Sign, Lexeme}
+use Rattle.bc_lex.specs.declared.fault.FaultKind.{FaultKind}
+use Rattle.bc_lex.specs.declared.error.LexError.{LexError}
+use Rattle.bc_lex.specs.declared.error.LexError.TheVariants as errors
+use Rattle.bc_lex.specs.Bytes.{is_space, is_name_byte}
+use Rattle.bc_lex.specs.Gaps.{breaks, begins, opens_line, opens_block, IsGap}
+use Rattle.bc_lex.specs.Quotes.{Spells}
+use Rattle.bc_lex.specs.Lexemes.{Ends, IsLexeme}
+use Rattle.bc_lex.specs.Faults.{IsFaulty}
+use Rattle.bc_lex.specs.Files.{File, text_of}
+use Rattle.bc_lex.specs.Errors.{error_of}
+
+-- the index of the first file of a name
+pub record IsFirstNamed (files : List File) (name : List ℕ) (i : ℕ) : Type 0 where
+  pub text : List ℕ
+  pub there : slice_get files i ≡ Some (record { name = name; text = text })
+  pub first : (j : ℕ) (other : File) → j < i → slice_get files j ≡ Some other → other.name ≢ name
+
+-- no file has the name
+abbrev pub IsUnnamed : List File → List ℕ → Type 0
+IsUnnamed files name = (j : ℕ) (other : File) → slice_get files j ≡ Some other → other.name ≢ name
+
+-- neither a blank nor a comment nor a string begins here
+abbrev pub IsNoString : List ℕ → Type 0
+IsNoString [] = Unit {0}
+IsNoString (b ∷ bs) = (is_space b ≡ false) × (opens_line (b ∷ bs) ≡ false) × (opens_block (b ∷ bs) ≡ false) × (b ≢ 34)
+
+-- what is faulty behind a GET in place of its string
+abbrev pub IsFaultyString : List ℕ → FaultKind → ℕ → Type 0
+IsFaultyString bytes kind at = ((begins 34 bytes ≡ true) ⊎ (opens_block bytes ≡ true)) × IsFaulty bytes kind at
+
+-- a GET with its string, of these texts, and what follows it
+pub record IsGet (gap string after name : List ℕ) : Type 0 where
+  pub text : List ℕ
+  pub quotes : string ≡ 34 ∷ (text ++ 34 ∷ [])
+  pub spelled : Spells 34 text name
+  pub short : length name < 256
+  pub space : IsGap gap (string ++ after)
+  pub word : Ends is_name_byte (gap ++ (string ++ after))
+
+-- how the reading of a text ends
+pub data Ending : Type 0 where
+  Whole : Ending
+  Faulty : LexError → Ending
+
+-- the token of a text at a place
+abbrev pub token : ℕ → ℕ → Bool → Kind → List ℕ → Lexeme
+token file start line kind text = record { kind = kind; text = text; file = file; start = start; end = start + length text; line_before = line }
+
+-- Reads levels file before at line bytes tokens ending: the bytes stand in a file, from an offset to its end. So many
+-- tokens come before them, and line says whether a line break stands between the last of these (or the start) and
+-- them. GETs may nest so many levels more. They have these tokens, up to their end or to the first fault.
+pub data Reads (files : List File) : ℕ → ℕ → ℕ → ℕ → Bool → List ℕ → List Lexeme → Ending → Type 0 where
+  -- Nothing but a gap is left: no token.
+  End : (levels file before at : ℕ) (line : Bool) (gap : List ℕ) → IsGap gap [] → Reads files levels file before at line gap [] Whole
+  -- A gap and a token, and what follows. A line break in the gap stands before the token.
+  Next : (levels file before at : ℕ) (line : Bool) (gap text after : List ℕ) (kind : Kind) (tokens : List Lexeme) (ending : Ending) → IsGap gap (text ++ after) → IsLexeme text after kind → kind ≢ Sign symbol.Get → before < 60000
+      → Reads files levels file (before + 1) (at + length gap + length text) false after tokens ending
+      → Reads files levels file before at line (gap ++ (text ++ after)) (token file (at + length gap) (line || breaks gap) kind text ∷ tokens) ending
+  -- The token behind a gap is one too many.
+  TooMany : (levels file before at : ℕ) (line : Bool) (gap text after : List ℕ) (kind : Kind) → IsGap gap (text ++ after) → IsLexeme text after kind → kind ≢ Sign symbol.Get → 60000 ≤ before
+      → Reads files levels file before at line (gap ++ (text ++ after)) [] (Faulty (errors.TooManyTokens file (at + length gap)))
+  -- Behind a gap stands something faulty.
+  Fault : (levels file before at : ℕ) (line : Bool) (gap bytes : List ℕ) (kind : FaultKind) (behind : ℕ) → IsGap gap bytes → IsFaulty bytes kind behind
+      → Reads files levels file before at line (gap ++ bytes) [] (Faulty (error_of kind file (at + length gap + behind)))
+  -- A gap and a GET with its string: first the tokens of the named file, which begins behind a line break, then those of
+  -- what follows, which does so too. The named file may hold GETs of one level less.
+  Get : (levels file before at : ℕ) (line : Bool) (gap space string after name : List ℕ) (named : ℕ) (inner tokens : List Lexeme) (ending : Ending) → IsGap gap (codes "GET" ++ (space ++ (string ++ after))) → IsGet space string after name → IsFirstNamed files name named
+      → Reads files levels named before 0 true (text_of files named) inner Whole
+      → Reads files (suc levels) file (before + length inner) (at + length gap + 3 + length space + length string) true after tokens ending
+      → Reads files (suc levels) file before at line (gap ++ (codes "GET" ++ (space ++ (string ++ after)))) (inner ++ tokens) ending
+  -- The same, where the named file has a fault: this one.
+  GetFault : (levels file before at : ℕ) (line : Bool) (gap space string after name : List ℕ) (named : ℕ) (inner : List Lexeme) (e : LexError) → IsGap gap (codes "GET" ++ (space ++ (string ++ after))) → IsGet space string after name → IsFirstNamed files name named
+      → Reads files levels named before 0 true (text_of files named) inner (Faulty e)
+      → Reads files (suc levels) file before at line (gap ++ (codes "GET" ++ (space ++ (string ++ after)))) inner (Faulty e)
+  -- A GET where no more GETs may nest.
+  GetTooDeep : (file before at : ℕ) (line : Bool) (gap space string after name : List ℕ) (named : ℕ) → IsGap gap (codes "GET" ++ (space ++ (string ++ after))) → IsGet space string after name → IsFirstNamed files name named
+      → Reads files zero file before at line (gap ++ (codes "GET" ++ (space ++ (string ++ after)))) [] (Faulty (errors.GetTooDeep file (at + length gap)))
+  -- A GET whose string names no file.
+  GetUnnamed : (levels file before at : ℕ) (line : Bool) (gap space string after name : List ℕ) → IsGap gap (codes "GET" ++ (space ++ (string ++ after))) → IsGet space string after name → IsUnnamed files name
+      → Reads files levels file before at line (gap ++ (codes "GET" ++ (space ++ (string ++ after)))) [] (Faulty (errors.GetMissing file (at + length gap)))
+  -- A GET behind which something else than a string stands.
+  GetNoString : (levels file before at : ℕ) (line : Bool) (gap space after : List ℕ) → IsGap gap (codes "GET" ++ (space ++ after)) → Ends is_name_byte (space ++ after) → IsGap space after → IsNoString after
+      → Reads files levels file before at line (gap ++ (codes "GET" ++ (space ++ after))) [] (Faulty (errors.GetMissing file (at + length gap)))
+  -- A GET behind which a comment or a string is faulty.
+  GetFaulty : (levels file before at : ℕ) (line : Bool) (gap space bytes : List ℕ) (kind : FaultKind) (behind : ℕ) → IsGap gap (codes "GET" ++ (space ++ bytes)) → Ends is_name_byte (space ++ bytes) → IsGap space bytes → IsFaultyString bytes kind behind
+      → Reads files levels file before at line (gap ++ (codes "GET" ++ (space ++ bytes))) [] (Faulty (error_of kind file (at + length gap + 3 + length space + behind)))
+
+-- the token list of a source, at most 60,000 tokens
+abbrev pub HasTokens : List File → ℕ → List Lexeme → Type 0
+HasTokens files main tokens = Reads files 8 main 0 0 false (text_of files main) tokens Whole
+
+-- the first fault of a source, with its file and its offset
+abbrev pub HasFault : List File → ℕ → LexError → Type 0
+HasFault files main e = (tokens : List Lexeme) × Reads files 8 main 0 0 false (text_of files main) tokens (Faulty e)

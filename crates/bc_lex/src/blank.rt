@@ -1,0 +1,63 @@
+ghost use Rattle.std.specs.Prelude.{◌≡◌, ◌≤◌, length, IfOk, IfErr, IfSome};
+ghost use Rattle.bc_lex.specs.Blank.{ends_comment, closing_from, blank_of, gap_of};
+
+use crate::byte::is_space;
+use crate::fault::{Fault, FaultKind};
+use crate::run::{behind, line_bytes};
+
+/// Whether a block comment ends in front.
+fn closes(bytes: &[u8]) -> bool
+    ensures { result ≡ ends_comment bytes.now }
+{
+    matches!(bytes, [b'*', b'/', ..])
+}
+
+/// How many bytes the rest of a block comment has, with its closing sign, or `None` where it is not closed.
+fn closing(bytes: &[u8]) -> Option<usize>
+    ensures value { result ≡ closing_from 0 bytes.now }
+    ensures within { IfSome result (λ n. n ≤ length bytes.now) }
+{
+    for at in 0..bytes.len() {
+        if closes(behind(bytes, at)) {
+            return Some(at + 2);
+        }
+    }
+    None
+}
+
+/// How many bytes the blank, the line break or the comment in front has, 0 where none stands there, or `None` where
+/// a comment is not closed.
+fn blank(bytes: &[u8]) -> Option<usize>
+    ensures value { result ≡ blank_of bytes.now }
+    ensures within { IfSome result (λ n. n ≤ length bytes.now) }
+{
+    match bytes {
+        [b'/', b'/', ..] | [b'|', b'|', ..] => Some(2 + line_bytes(behind(bytes, 2))),
+        [b'/', b'*', ..] => closing(behind(bytes, 2)).map(|count| 2 + count),
+        [byte, ..] if is_space(*byte) => Some(1),
+        _ => Some(0),
+    }
+}
+
+/// How many bytes of blanks, line breaks and comments stand in front.
+#[tactic(auto, unfolding(crate::specs::Blank::gap_of))]
+pub fn gap(bytes: &[u8]) -> Result<usize, Fault>
+    ensures value { result ≡ gap_of bytes.now }
+    ensures within { IfOk result (λ n. n ≤ length bytes.now) }
+    ensures fault { IfErr result (λ f. f.at ≤ length bytes.now) }
+{
+    let mut at = 0;
+    for _ in 0..bytes.len() {
+        match blank(behind(bytes, at)) {
+            Some(0) => return Ok(at),
+            Some(count) => at += count,
+            None => {
+                return Err(Fault {
+                    kind: FaultKind::Unterminated,
+                    at,
+                });
+            }
+        }
+    }
+    Ok(at)
+}

@@ -1,0 +1,20 @@
+//! From the texts of sources to their tokens.
+#![tactic(auto)]
+
+mod blank;
+mod byte;
+mod error;
+mod fault;
+mod lexeme;
+mod number;
+mod quoted;
+mod reading;
+mod run;
+mod source;
+#[cfg(test)]
+mod tests;
+
+pub use bc_token::{Symbol, Token, TokenKind};
+pub use error::LexError;
+pub use reading::lex;
+pub use source::Source;

@@ -1,0 +1,69 @@
+ghost use Rattle.std.specs.Prelude.{◌≡◌, ◌<◌, ◌≤◌, length, IfOk, IfSome};
+ghost use Rattle.bc_lex.specs.Reading.{quoted_of};
+ghost use Rattle.bc_lex.specs.Files.{files_of, text_of, is_closed, same_of, names_of, source_from};
+
+use crate::quoted::{Quoted, next_quoted};
+use crate::run::behind;
+
+/// A text that can be read, and the name by which a GET finds it.
+#[derive(Clone, Copy, Debug)]
+pub struct Source<'s> {
+    pub name: &'s [u8],
+    pub text: &'s [u8],
+}
+
+/// How many bytes this character has in front in a string, or `None` where another stands there or none.
+fn same_character(expected: u8, bytes: &[u8]) -> Option<usize>
+    ensures value { result ≡ same_of expected bytes.now }
+    ensures within { IfSome result (λ n. n ≤ length bytes.now) }
+{
+    match next_quoted(b'"', bytes) {
+        Quoted::Character(byte, count) if byte == expected => Some(count),
+        _ => None,
+    }
+}
+
+/// Whether the string ends in front.
+fn closes(bytes: &[u8]) -> bool
+    ensures { result ≡ is_closed (quoted_of 34 bytes.now) }
+{
+    matches!(next_quoted(b'"', bytes), Quoted::Closed)
+}
+
+/// Whether the string, which stands with its signs, spells the name.
+#[tactic(auto, unfolding(crate::specs::Files::names_of))]
+fn names(string: &[u8], name: &[u8]) -> bool
+    requires { 0 < length string.now }
+    ensures { result ≡ names_of string.now name.now }
+{
+    let mut at = 1;
+    for expected in name {
+        match same_character(*expected, behind(string, at)) {
+            Some(count) => at += count,
+            None => return false,
+        }
+    }
+    closes(behind(string, at))
+}
+
+/// The index of the first source that has the name that the string spells.
+pub fn source_named(sources: &[Source], string: &[u8]) -> Option<usize>
+    requires { 0 < length string.now }
+    ensures value { result ≡ source_from string.now 0 (files_of sources.now) }
+    ensures within { IfSome result (λ i. i < length sources.now) }
+{
+    for (index, source) in sources.iter().enumerate() {
+        if names(string, source.name) {
+            return Some(index);
+        }
+    }
+    None
+}
+
+/// The text of the source at an index.
+pub fn text_at<'s>(sources: &[Source<'s>], index: usize) -> &'s [u8]
+    requires { index < length sources.now }
+    ensures { result.now ≡ text_of (files_of sources.now) index }
+{
+    sources[index].text
+}

@@ -1,0 +1,148 @@
+//! The parts of an image, segment by segment.
+
+ghost use Rattle.std.specs.Prelude.{◌≡◌, ◌+◌, ◌-◌, ◌≤◌, ◌++◌, ◌∷◌, [], None, vec_len, length, replicate, OnOk, IfOk, IfErr, find, is_none};
+ghost use Rattle.std.specs.List.{filter_map};
+ghost use Rattle.bc_image.specs.Places.{address_in};
+ghost use Rattle.bc_item.specs.Sizes.{size_of_all};
+ghost use Rattle.bc_link.specs.Labels.{labels_of, uses_of, use_of};
+ghost use Rattle.bc_link.specs.Linked.{IsRefusal};
+ghost use Rattle.bc_link.specs.Store.{boot};
+ghost use Rattle.bc_link.specs.Layout.{stack_base_of};
+ghost use Rattle.bc_link.specs.Refusals.{label_unset_from};
+
+use crate::label_table::LabelTable;
+use crate::layout::{FIRST_ADDRESS, label_places};
+use crate::link_error::LinkError;
+use crate::store::{push_items, set_globals};
+use bc_image::{Image, Places, SegmentPlace, Words};
+use bc_item::{Base, Item, Segment};
+use bc_word::{Memory, Word};
+use std::alloc::Global;
+
+/// The label that the item speaks of.
+fn label_used(item: &Item) -> Option<Word>
+    ensures { result ≡ use_of item.now }
+{
+    match item {
+        Item::DataLabel(label) | Item::Global { label, .. } => Some(*label),
+        Item::Operation { base, number, .. } if *base == Base::Label => Some(*number),
+        _ => None,
+    }
+}
+
+/// The first label that the items speak of and the table lacks.
+fn unset_label(items: &[Item], labels: &LabelTable) -> Option<Word>
+    ensures { result ≡ find (λ m. is_none (address_in m labels.now)) (uses_of items.now) }
+{
+    for item in items {
+        if let Some(label) = label_used(item) {
+            if labels.address(label).is_none() {
+                return Some(label);
+            }
+        }
+    }
+    None
+}
+
+/// The words of `LIG1 K2 X22`: a call of the routine in global 1, and the end of the run.
+fn boot_words(alloc: Global) -> Result<Vec<Word>, Memory>
+    ensures words { IfOk result (λ words. words.items ≡ boot) }
+    ensures length { IfOk result (λ words. vec_len words ≡ 3) }
+{
+    let mut words = Vec::with_capacity(alloc, 65_536)?;
+    words.push(Word::new(5121))?;
+    words.push(Word::new(49_154))?;
+    words.push(Word::new(57_366))?;
+    Ok(words)
+}
+
+/// Puts zeros behind the words, up to this number of words.
+fn fill_up(words: &mut Vec<Word>, length: usize) -> Result<(), Memory>
+    requires { vec_len words.old ≤ length }
+    ensures words { OnOk result (words.new.items ≡ words.old.items ++ replicate (length - vec_len words.old) 0) }
+    ensures length { OnOk result (vec_len words.new ≡ length) }
+{
+    words.resize(length, Word::new(0))?;
+    Ok(())
+}
+
+/// The cells of the globals, the words of the segments and their places, as far as segments were added.
+#[derive(Drop)]
+pub struct Draft {
+    pub globals: Vec<Word>,
+    pub code: Vec<Word>,
+    pub places: Vec<SegmentPlace>,
+}
+
+impl Draft {
+    ghost use Rattle.bc_link.specs.Drafts.{next_start, Added, Becomes, IsUnsetIn, IsImageOf};
+
+    /// No segment was added.
+    fn new(alloc: Global) -> Result<Draft, Memory>
+        ensures globals { IfOk result (λ d. d.globals.items ≡ replicate 512 0) }
+        ensures cells { IfOk result (λ d. vec_len d.globals ≡ 512) }
+        ensures code { IfOk result (λ d. (d.code.items ≡ []) × (vec_len d.code ≡ 0)) }
+        ensures places { IfOk result (λ d. d.places.items ≡ []) }
+    {
+        let mut globals = Vec::with_capacity(alloc, 512)?;
+        globals.resize(512, Word::new(0))?;
+        Ok(Draft {
+            globals,
+            code: Vec::new(alloc),
+            places: Vec::new(alloc),
+        })
+    }
+
+    /// One segment more, whose number is `number`.
+    fn add(&mut self, alloc: Global, number: usize, segment: &Segment) -> Result<(), LinkError>
+        requires room { next_start self.old + size_of_all segment.now ≤ 65472 }
+        requires cells { vec_len self.old.globals ≡ 512 }
+        ensures ok { OnOk result (Added self.old self.new segment.now) }
+        ensures err { IfErr result (IsUnsetIn number segment.now) }
+    {
+        let start = FIRST_ADDRESS + self.code.len() as u16;
+        let items = segment.items();
+        let labels = LabelTable::new(alloc, label_places(alloc, start, items)?)?;
+        if let Some(label) = unset_label(items, &labels) {
+            return Err(LinkError::LabelUnset(number, label));
+        }
+        set_globals(self.globals.as_mut_slice(), items, &labels);
+        push_items(&mut self.code, items, &labels)?;
+        self.places.push(SegmentPlace {
+            start: Word::new(start),
+            labels: labels.into_labels(),
+        })?;
+        Ok(())
+    }
+
+    /// The draft of all these segments.
+    pub fn of(alloc: Global, segments: &[Segment]) -> Result<Draft, LinkError>
+        requires { stack_base_of segments.now ≤ 65472 }
+        ensures ok { IfOk result (λ d. Becomes d (length segments.now) [] segments.now) }
+        ensures err { IfErr result (IsRefusal (label_unset_from 0 segments.now)) }
+    {
+        let mut draft = Draft::new(alloc)?;
+        for (number, segment) in segments.iter().enumerate() {
+            draft.add(alloc, number, segment)?;
+        }
+        Ok(draft)
+    }
+
+    /// The image, whose stack begins behind the last segment.
+    pub fn into_image(self, alloc: Global, stack_base: u16) -> Result<Image, Memory>
+        requires cells { vec_len self.globals ≡ 512 }
+        requires behind { stack_base ≡ next_start self }
+        ensures { IfOk result (λ image. IsImageOf self stack_base image) }
+    {
+        let mut words = boot_words(alloc)?;
+        fill_up(&mut words, 8)?;
+        words.extend_from_slice(self.globals.as_slice())?;
+        words.extend_from_slice(self.code.as_slice())?;
+        fill_up(&mut words, 65_536)?;
+        Ok(Image {
+            words: Words::new(words),
+            stack_base: Word::new(stack_base),
+            places: Places::new(self.places),
+        })
+    }
+}

@@ -1,0 +1,18 @@
+//! The linker: INTCODE segments, assembled one behind another, become the image that the machine starts from.
+#![tactic(auto)]
+
+mod draft;
+mod label_table;
+pub mod laws;
+mod layout;
+mod link_error;
+mod linker;
+mod repeats;
+mod store;
+#[cfg(test)]
+mod tests;
+
+pub use bc_image::{Image, Labels, Places, SegmentPlace, Words};
+pub use bc_item::{Base, Function, GlobalNumber, Item, Segment};
+pub use link_error::LinkError;
+pub use linker::link;

@@ -1,0 +1,9 @@
+pub mod Cases
+pub mod Copied
+pub mod Failures
+pub mod FileOutputs
+pub mod FileSteps
+pub mod MemoryOutputs
+pub mod Refusals
+pub mod Runs
+pub mod Tables

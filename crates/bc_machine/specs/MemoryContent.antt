@@ -1,0 +1,49 @@
+-- What streams in memory hold.
+use Rattle.std.specs.Prelude.{ℕ, ◌+◌, ◌==◌, List, [], ◌∷◌, map, filter, drop, length, ◌++◌, Bool, true, false, Option, Some, None, cond}
+use Rattle.bc_step.specs.Streams.{Input, Output, Content, numbered}
+use Rattle.bc_machine.specs.declared.names.Named.{Named}
+use Rattle.bc_machine.specs.declared.memory.MemoryInput.{MemoryInput}
+use Rattle.bc_machine.specs.declared.memory.MemoryOutput.{MemoryOutput}
+use Rattle.bc_machine.specs.declared.memory.MemoryStreams.{MemoryStreams}
+
+abbrev pub memory_input : MemoryInput → Input
+memory_input i = record { name = i.name.items; rest = drop i.at i.bytes.items; ended = i.ended }
+
+-- the bytes that were written to the output of this number
+abbrev pub bytes_to : ℕ → List (ℕ × ℕ) → List ℕ
+bytes_to number written = map (λ (w : ℕ × ℕ). w.1) (filter (λ (w : ℕ × ℕ). w.0 == number) written)
+
+-- the outputs from this number on
+abbrev pub memory_outputs : ℕ → List (ℕ × ℕ) → List MemoryOutput → List Output
+memory_outputs number written [] = []
+memory_outputs number written (o ∷ os) =
+    record { name = o.name.items; written = bytes_to number written; ended = o.ended } ∷ memory_outputs (number + 1) written os
+
+abbrev pub memory_content : MemoryStreams → Content
+memory_content m = record {
+  inputs = map memory_input m.inputs.items;
+  outputs = memory_outputs 1 m.written.items m.outputs.items;
+  input = m.input;
+  output = m.output;
+}
+
+-- what was written, each byte behind the number of its output
+abbrev pub memory_written : MemoryStreams → List (ℕ × ℕ)
+memory_written m = m.written.items
+
+-- how many bytes of output there is room for
+abbrev pub memory_room : MemoryStreams → ℕ
+memory_room m = m.room
+
+-- an open output takes the byte, another drops it
+abbrev pub written_to : Option MemoryOutput → ℕ → ℕ → List (ℕ × ℕ) → List (ℕ × ℕ)
+written_to None number byte written = written
+written_to (Some o) number byte written = cond o.ended written (written ++ (number, byte) ∷ [])
+
+-- what was written, when one byte more was written to the selected output
+abbrev pub written_after : ℕ → MemoryStreams → List (ℕ × ℕ)
+written_after byte m = written_to (numbered m.outputs.items m.output) m.output byte m.written.items
+
+-- how often the room was found spent
+abbrev pub memory_failures : MemoryStreams → ℕ
+memory_failures m = m.failures

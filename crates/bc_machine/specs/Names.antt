@@ -1,0 +1,18 @@
+-- The names of the streams that are handed in.
+use Rattle.std.specs.Prelude.{ℕ, List, map}
+use Rattle.std.specs.declared.vec.Vec.{Vec}
+use Rattle.std.specs.declared.alloc.Global.{Global}
+use Rattle.bc_machine.specs.declared.names.Named.{Named}
+
+abbrev pub Bytes : Type 0
+Bytes = Vec ℕ Global
+
+abbrev pub names_of : {T : Type 0} → List (Named T) → List (List ℕ)
+names_of {T} named = map (λ (n : Named T). n.name.items) named
+
+abbrev pub bytes_of : List Bytes → List (List ℕ)
+bytes_of names = map (λ (name : Bytes). name.items) names
+
+-- each name and the bytes behind it
+abbrev pub named_bytes : List (Named Bytes) → List (List ℕ × List ℕ)
+named_bytes named = map (λ (n : Named Bytes). (n.name.items, n.device.items)) named

@@ -1,0 +1,32 @@
+use bc_word::Memory;
+use thiserror::Error;
+
+/// A device failed.
+#[derive(Clone, Copy, Debug, PartialEq, Eq, Error)]
+#[error("a device failed")]
+pub struct DeviceFault;
+
+/// Why streams can't be made.
+#[derive(Clone, Copy, Debug, PartialEq, Eq, Error)]
+pub enum StreamsError {
+    /// Two streams of one table have the same name.
+    #[error("a name stands twice in a table of streams")]
+    NameTwice,
+    /// A name has more than 255 bytes.
+    #[error("the name of a stream has more than 255 bytes")]
+    NameTooLong,
+    /// An allocation was refused.
+    #[error("out of memory")]
+    Memory,
+}
+
+impl From<Memory> for StreamsError {
+    ghost use Rattle.std.specs.Prelude.{◌≡◌};
+    ghost use Rattle.bc_machine.specs.declared.faults.StreamsError.TheVariants as faults;
+
+    ghost from_gives = { λ _ e. e ≡ faults.Memory };
+
+    fn from(_refused: Memory) -> StreamsError {
+        StreamsError::Memory
+    }
+}

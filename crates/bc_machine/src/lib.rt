@@ -1,0 +1,23 @@
+//! The interpreter of INTCODE: images, the machine that runs them, and the streams of a run.
+#![tactic(auto)]
+
+mod faults;
+mod files;
+mod instructions;
+mod machine;
+mod memory;
+mod names;
+mod operations;
+mod store;
+mod streams;
+#[cfg(test)]
+mod tests;
+
+pub use bc_image::{Image, Labels, Places, SegmentPlace, Words};
+pub use bc_step::{End, Side};
+pub use faults::{DeviceFault, StreamsError};
+pub use files::FileStreams;
+pub use machine::Machine;
+pub use memory::MemoryStreams;
+pub use names::Named;
+pub use streams::Streams;

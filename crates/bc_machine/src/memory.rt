@@ -1,0 +1,256 @@
+ghost use Rattle.std.specs.Prelude.{◌≡◌, ◌≤◌, [], IfOk, vec_len, vec_capacity};
+
+use crate::faults::{DeviceFault, StreamsError};
+use crate::names::{HasName, Named, chosen, number_of, number_of_first, refusal};
+use crate::streams::Streams;
+use bc_step::Side;
+use bc_word::{Memory, Word};
+use std::alloc::Global;
+
+/// An input that lies in memory.
+#[derive(Drop)]
+struct MemoryInput {
+    name: Vec<u8>,
+    bytes: Vec<u8>,
+    at: usize,
+    ended: bool,
+}
+
+/// The name of an output, and whether it was ended.
+#[derive(Drop)]
+struct MemoryOutput {
+    name: Vec<u8>,
+    ended: bool,
+}
+
+impl HasName for MemoryInput {
+    ghost name_of = { λ i. i.name.items };
+
+    fn name(&self) -> &[u8] {
+        self.name.as_slice()
+    }
+}
+
+impl HasName for MemoryOutput {
+    ghost name_of = { λ o. o.name.items };
+
+    fn name(&self) -> &[u8] {
+        self.name.as_slice()
+    }
+}
+
+impl MemoryInput {
+    ghost use Rattle.std.specs.Prelude.{◌≡◌};
+    ghost use Rattle.bc_step.specs.StreamCalls.{next_byte, behind_byte};
+    ghost use Rattle.bc_machine.specs.MemoryContent.{memory_input};
+
+    /// The next byte, or `None` at the end and after an end.
+    fn next_byte(&mut self) -> Option<u8>
+        ensures byte { result ≡ next_byte self.old.ended (memory_input self.old).rest }
+        ensures after { memory_input self.new ≡ record (memory_input self.old) { rest = behind_byte self.old.ended (memory_input self.old).rest } }
+    {
+        if self.ended || self.at >= self.bytes.len() {
+            return None;
+        }
+        let byte = self.bytes[self.at];
+        self.at += 1;
+        Some(byte)
+    }
+}
+
+impl MemoryInput {
+    ghost use Rattle.std.specs.Prelude.{◌≡◌, IfOk, map};
+    ghost use Rattle.bc_step.specs.StreamStart.{fresh_input};
+    ghost use Rattle.bc_machine.specs.MemoryContent.{memory_input};
+    ghost use Rattle.bc_machine.specs.Names.{named_bytes};
+
+    /// The table of these inputs, of which nothing was read.
+    fn table(alloc: Global, inputs: Vec<Named<Vec<u8>>>) -> Result<Vec<MemoryInput>, Memory>
+        ensures { IfOk result (λ table. map memory_input table.items ≡ map (λ i. fresh_input i.0 i.1) (named_bytes inputs.items)) }
+    {
+        let mut table = Vec::with_capacity(alloc, inputs.len())?;
+        for input in inputs {
+            let Named { name, device } = input;
+            table.push(MemoryInput {
+                name,
+                bytes: device,
+                at: 0,
+                ended: false,
+            })?;
+        }
+        Ok(table)
+    }
+}
+
+impl MemoryOutput {
+    ghost use Rattle.std.specs.Prelude.{◌≡◌, [], IfOk, map};
+    ghost use Rattle.bc_step.specs.StreamStart.{fresh_output};
+    ghost use Rattle.bc_machine.specs.MemoryContent.{memory_outputs};
+    ghost use Rattle.bc_machine.specs.Names.{bytes_of};
+
+    /// The table of outputs of these names, to which nothing was written.
+    fn table(alloc: Global, names: Vec<Vec<u8>>) -> Result<Vec<MemoryOutput>, Memory>
+        ensures { IfOk result (λ table. memory_outputs 1 [] table.items ≡ map fresh_output (bytes_of names.items)) }
+    {
+        let mut table = Vec::with_capacity(alloc, names.len())?;
+        for name in names {
+            table.push(MemoryOutput { name, ended: false })?;
+        }
+        Ok(table)
+    }
+}
+
+/// Room for this many bytes of output.
+fn room_for(alloc: Global, room: usize) -> Result<Vec<(Word, u8)>, Memory>
+    ensures empty { IfOk result (λ written. written.items ≡ []) }
+    ensures room { IfOk result (λ written. room ≤ vec_capacity written) }
+{
+    Ok(Vec::with_capacity(alloc, room)?)
+}
+
+/// Streams in memory: inputs whose bytes are at hand, and one room for the bytes of all outputs.
+#[derive(Drop)]
+pub struct MemoryStreams {
+    inputs: Vec<MemoryInput>,
+    outputs: Vec<MemoryOutput>,
+    written: Vec<(Word, u8)>,
+    room: usize,
+    input: u16,
+    output: u16,
+    failures: u64,
+    ghost input_exists: { input ≤ vec_len inputs },
+    ghost output_exists: { output ≤ vec_len outputs },
+    ghost room_is_there: { room ≤ vec_capacity written },
+    ghost in_room: { vec_len written ≤ room },
+}
+
+impl MemoryStreams {
+    ghost use Rattle.std.specs.Prelude.{◌≡◌, ◌≢◌, ◌≤◌, ℕ, List, map, Some, None, IfOk, IfErr, OnOk, length};
+    ghost use Rattle.bc_step.specs.StreamStart.{start_streams};
+    ghost use Rattle.bc_machine.specs.Refusal.{refusal_of};
+    ghost use Rattle.bc_machine.specs.declared.faults.StreamsError.TheVariants as faults;
+    ghost use Rattle.bc_machine.specs.Names.{names_of, bytes_of, named_bytes};
+    ghost use Rattle.bc_machine.specs.MemoryContent.{memory_content, memory_written, memory_room};
+
+    /// The streams over inputs of these names and bytes and outputs of these names, with input 1 and
+    /// output 1 selected, and room for `room` bytes of output.
+    ///
+    /// The names are looked at in order, the inputs' first: `NameTooLong` comes at one of more than
+    /// 255 bytes, `NameTwice` at one that stands before in its table. `Memory` comes where an
+    /// allocation was refused.
+    pub fn new(
+        alloc: Global,
+        inputs: Vec<Named<Vec<u8>>>,
+        outputs: Vec<Vec<u8>>,
+        room: usize,
+    ) -> Result<MemoryStreams, StreamsError>
+        ensures refused { IfErr result (λ fault. fault ≢ faults.Memory → refusal_of (names_of inputs.items) (bytes_of outputs.items) ≡ Some fault) }
+        ensures accepted { OnOk result (refusal_of (names_of inputs.items) (bytes_of outputs.items) ≡ None) }
+        ensures content { IfOk result (λ streams. memory_content streams ≡ start_streams (named_bytes inputs.items) (bytes_of outputs.items)) }
+        ensures room { IfOk result (λ streams. memory_room streams ≡ room) }
+    {
+        if let Some(fault) = refusal(inputs.as_slice()) {
+            return Err(fault);
+        }
+        if let Some(fault) = refusal(outputs.as_slice()) {
+            return Err(fault);
+        }
+        let inputs = MemoryInput::table(alloc, inputs)?;
+        let outputs = MemoryOutput::table(alloc, outputs)?;
+        let written = room_for(alloc, room)?;
+        let input = number_of_first(inputs.as_slice());
+        let output = number_of_first(outputs.as_slice());
+        Ok(MemoryStreams {
+            inputs,
+            outputs,
+            written,
+            room,
+            input,
+            output,
+            failures: 0,
+        })
+    }
+
+    /// The bytes that were written, in order, each behind the number of its output.
+    pub fn written(&self) -> &[(Word, u8)]
+        ensures { result.now ≡ memory_written self.now }
+    {
+        self.written.as_slice()
+    }
+}
+
+impl Streams for MemoryStreams {
+    ghost use Rattle.std.specs.Prelude.{◌≡◌, ◌≤◌, OnOk, OnErr, length};
+    ghost use Rattle.bc_step.specs.StreamCalls.{after_write};
+    ghost use Rattle.bc_machine.specs.Rose.{Rose};
+    ghost use Rattle.bc_machine.specs.MemoryContent.{memory_content, memory_failures, memory_written, memory_room, written_after};
+
+    ghost content = { memory_content };
+
+    ghost known = { λ m. Unit {0} };
+
+    ghost failures = { memory_failures };
+
+    fn find(&self, side: Side, name: &[u8]) -> Word {
+        match side {
+            Side::Input => number_of(self.inputs.as_slice(), name),
+            Side::Output => number_of(self.outputs.as_slice(), name),
+        }
+    }
+
+    fn select(&mut self, side: Side, number: Word) {
+        match side {
+            Side::Input => self.input = chosen(number, self.inputs.len()),
+            Side::Output => self.output = chosen(number, self.outputs.len()),
+        }
+    }
+
+    fn read(&mut self) -> Result<Option<u8>, DeviceFault> {
+        if self.input == 0 {
+            return Ok(None);
+        }
+        let input = &mut self.inputs[self.input as usize - 1];
+        Ok(input.next_byte())
+    }
+
+    /// A byte that is dropped needs no room; for any other, `DeviceFault` comes just where the room is
+    /// spent.
+    #[tactic(auto, unfolding(crate::specs::Rose::Rose))]
+    fn write(&mut self, byte: u8) -> Result<(), DeviceFault>
+        ensures ok { OnOk result (memory_content self.new ≡ after_write byte (memory_content self.old)) }
+        ensures err { OnErr result (memory_content self.new ≡ memory_content self.old) }
+        ensures failed { OnErr result (Rose (memory_failures self.old) (memory_failures self.new)) }
+        ensures counted { memory_failures self.old ≤ memory_failures self.new }
+        ensures written { OnOk result (memory_written self.new ≡ written_after byte self.old) }
+        ensures room { OnErr result (memory_room self.old ≤ length (memory_written self.old)) }
+    {
+        if self.output == 0 {
+            return Ok(());
+        }
+        if self.outputs[self.output as usize - 1].ended {
+            return Ok(());
+        }
+        let written = (Word::new(self.output), byte);
+        if self.written.len() < self.room && self.written.push(written).is_ok() {
+            return Ok(());
+        }
+        self.failures = self.failures.saturating_add(1);
+        Err(DeviceFault)
+    }
+
+    fn end(&mut self, side: Side) -> Result<(), DeviceFault> {
+        match side {
+            Side::Input => if self.input > 0 {
+                let input = &mut self.inputs[self.input as usize - 1];
+                input.ended = true;
+                self.input = 0;
+            },
+            Side::Output => if self.output > 0 {
+                let output = &mut self.outputs[self.output as usize - 1];
+                output.ended = true;
+                self.output = 0;
+            },
+        }
+        Ok(())
+    }
+}

@@ -1,0 +1,63 @@
+ghost use Rattle.std.specs.Prelude.{◌≡◌, ◌≤◌, ℕ, OnOk, OnErr, IfOk};
+ghost use Rattle.bc_step.specs.Streams.{Content};
+ghost use Rattle.bc_step.specs.StreamCalls.{find_stream, select_stream, read_byte, after_read, after_write, end_stream};
+ghost use Rattle.bc_machine.specs.Rose.{Rose};
+
+use crate::faults::DeviceFault;
+use bc_step::Side;
+use bc_word::Word;
+
+/// The streams of a run: two tables of named inputs and outputs, each numbered from 1, and what is
+/// selected of them.
+///
+/// Contracts see what the streams hold as their content, where that is known, and count how often a
+/// device failed; the count stays at 2^64 - 1.
+pub trait Streams {
+    ghost content: { Self → Content };
+
+    ghost known: { Self → Type 0 };
+
+    ghost failures: { Self → ℕ };
+
+    /// The number of the stream with this name, or 0 where there is none.
+    fn find(&self, side: Side, name: &[u8]) -> Word
+        ensures { known self.now → result ≡ find_stream side name.now (content self.now) };
+
+    /// Selects the stream of this number; a number of no stream selects nothing.
+    fn select(&mut self, side: Side, number: Word)
+        ensures content { known self.old → content self.new ≡ select_stream side number (content self.old) }
+        ensures known { known self.old → known self.new }
+        ensures counted { failures self.new ≡ failures self.old };
+
+    /// The next byte of the selected input, or `None` at its end, after its end, or with nothing
+    /// selected.
+    ///
+    /// `DeviceFault` comes where the device failed; nothing was read then.
+    fn read(&mut self) -> Result<Option<u8>, DeviceFault>
+        ensures byte { IfOk result (λ byte. known self.old → byte ≡ read_byte (content self.old)) }
+        ensures ok { OnOk result (known self.old → content self.new ≡ after_read (content self.old)) }
+        ensures err { OnErr result (known self.old → content self.new ≡ content self.old) }
+        ensures known { known self.old → known self.new }
+        ensures failed { OnErr result (Rose (failures self.old) (failures self.new)) }
+        ensures counted { failures self.old ≤ failures self.new };
+
+    /// Writes a byte to the selected output; it is dropped where none is selected or it was ended.
+    ///
+    /// `DeviceFault` comes where the device failed; nothing was written then.
+    fn write(&mut self, byte: u8) -> Result<(), DeviceFault>
+        ensures ok { OnOk result (known self.old → content self.new ≡ after_write byte (content self.old)) }
+        ensures err { OnErr result (known self.old → content self.new ≡ content self.old) }
+        ensures known { known self.old → known self.new }
+        ensures failed { OnErr result (Rose (failures self.old) (failures self.new)) }
+        ensures counted { failures self.old ≤ failures self.new };
+
+    /// Ends the selected stream for good, and selects nothing.
+    ///
+    /// `DeviceFault` comes where the device failed; the stream is still selected then.
+    fn end(&mut self, side: Side) -> Result<(), DeviceFault>
+        ensures ok { OnOk result (known self.old → content self.new ≡ end_stream side (content self.old)) }
+        ensures err { OnErr result (known self.old → content self.new ≡ content self.old) }
+        ensures known { known self.old → known self.new }
+        ensures failed { OnErr result (Rose (failures self.old) (failures self.new)) }
+        ensures counted { failures self.old ≤ failures self.new };
+}

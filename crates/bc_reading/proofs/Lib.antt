@@ -1,0 +1,4 @@
+pub mod Yields
+pub mod Front
+pub mod Sound
+pub mod Heights

@@ -1,0 +1,48 @@
+-- What reading, linking and running a text answers.
+use Rattle.std.specs.Prelude.{ℕ, ◌≡◌, ◌⊎◌, List, ◌∷◌, ◌++◌, Option, None, Result, Ok, Err, IfSome}
+use Rattle.bc_item.specs.declared.item.Item.{Item}
+use Rattle.bc_step.specs.Streams.{Content}
+use Rattle.bc_step.specs.State.{State, start}
+use Rattle.bc_step.specs.declared.state.End.{End}
+use Rattle.bc_text.specs.Texts.{IsText}
+use Rattle.bc_text.specs.Faults.{IsFaultOf}
+use Rattle.bc_text.specs.declared.text_error.TextError.{TextError}
+use Rattle.bc_text.specs.declared.text_error.TextError.TheVariants as texts
+use Rattle.bc_link.specs.Refusals.{refusal_of}
+use Rattle.bc_link.specs.Linked.{image_of, IsRefusal}
+use Rattle.bc_machine.specs.Ran.{Ran}
+use Rattle.bc_run.specs.Primitives.{primitive_items}
+use Rattle.bc_run.specs.declared.running.RunFault.{RunFault}
+use Rattle.bc_run.specs.declared.running.RunFault.TheVariants as faults
+
+-- The segments of the text that a reader gives to its end. Where the reader tells its bytes, they are these.
+abbrev pub IsTextOf : Option (List ℕ) → List (List Item) → Type 0
+IsTextOf known segments = (bytes : List ℕ) × IfSome known (λ xs. xs ≡ bytes) × IsText bytes segments
+
+-- the first of these bytes are those
+abbrev pub BeginsWith : List ℕ → List ℕ → Type 0
+BeginsWith bytes all = (rest : List ℕ) × (all ≡ bytes ++ rest)
+
+-- What is wrong with the bytes that a reader gave, perhaps before its end, or memory was refused. Where the reader tells
+-- its bytes, they begin with these.
+abbrev pub IsTextFault : Option (List ℕ) → TextError → Type 0
+IsTextFault known fault = (fault ≡ texts.Memory) ⊎ ((bytes : List ℕ) × IfSome known (BeginsWith bytes) × IsFaultOf bytes fault)
+
+-- the segments with the primitives in front of them
+abbrev pub behind : List (List Item) → List (List Item)
+behind segments = primitive_items ∷ segments
+
+-- A fault of a run is that of the text, else that of linking its segments behind the primitives; nothing is said of a
+-- reader that failed and of memory.
+abbrev pub IsRunFault : Option (List ℕ) → RunFault → Type 0
+IsRunFault known faults.Read = Unit {0}
+IsRunFault known faults.Memory = Unit {0}
+IsRunFault known (faults.Text fault) = IsTextFault known fault
+IsRunFault known (faults.Link fault) = (segments : List (List Item)) × IsTextOf known segments × IsRefusal (refusal_of (behind segments)) fault
+
+-- The end of a run: the machine started from the image of the text's segments behind the primitives, and did at most
+-- `steps` instructions.
+abbrev pub IsRunOf : Option (List ℕ) → ℕ → Type 0 → Type 0 → Content → Content → ℕ → ℕ → End → Type 0
+IsRunOf known steps told tells old new before after end =
+    (segments : List (List Item)) × (last : State) × IsTextOf known segments × (refusal_of (behind segments) ≡ None) × (last.streams ≡ new)
+    × Ran told tells steps (start (image_of (behind segments)).words (image_of (behind segments)).stack_base old) last end before after

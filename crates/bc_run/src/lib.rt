@@ -1,0 +1,13 @@
+//! Runs of INTCODE text: the primitives, and a text that is read, linked behind them and run. Beside them the library
+//! of the language, as source.
+#![tactic(auto)]
+
+mod library;
+mod primitive;
+mod running;
+#[cfg(test)]
+mod tests;
+
+pub use library::{BLIB, LIBHDR};
+pub use primitive::primitives;
+pub use running::{RunFault, behind_primitives, run_text};

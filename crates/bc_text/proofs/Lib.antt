@@ -1,0 +1,11 @@
+pub mod Runs
+pub mod States
+pub mod Complete
+pub mod FaultsMet
+pub mod Sound
+pub mod Whole
+pub mod Feeding
+pub mod Fronts
+pub mod Printed
+pub mod TextLaws
+pub mod Examples

@@ -1,0 +1,46 @@
+-- What an item has in front of its last number: which bytes may stand behind it, and which numbers.
+use Rattle.std.specs.Prelude.{ℕ, ◌==◌, ◌≡◌, List, [], ◌∷◌, ◌++◌, Bool, true, false}
+use Rattle.std.specs.List.{list_any}
+use Rattle.bc_item.specs.declared.item.Base.TheVariants as bases
+use Rattle.bc_text.specs.Numbers.{IsNumber}
+use Rattle.bc_text.specs.Letters.{operation_letters}
+use Rattle.bc_text.specs.declared.head.Head.{Head}
+use Rattle.bc_text.specs.declared.head.Head.TheVariants as heads
+
+-- the text is this head
+abbrev pub IsHead : List ℕ → Head → Type 0
+IsHead text heads.Label = text ≡ []
+IsHead text heads.Data = text ≡ 68 ∷ []
+IsHead text heads.DataLabel = text ≡ 68 ∷ 76 ∷ []
+IsHead text heads.Byte = text ≡ 67 ∷ []
+IsHead text (heads.Operation function indirect base) = text ≡ operation_letters function indirect base
+IsHead text heads.Global = text ≡ 71 ∷ []
+IsHead text (heads.GlobalLabel n) = (number : List ℕ) × (text ≡ 71 ∷ number ++ 76 ∷ []) × IsNumber 511 number n
+
+-- the bytes that may stand behind the head beside a digit: `I`, `P`, `G`, `L` and `-`
+abbrev pub others_behind : Head → List ℕ
+others_behind heads.Label = []
+others_behind heads.Data = 76 ∷ 45 ∷ []
+others_behind heads.DataLabel = []
+others_behind heads.Byte = []
+others_behind (heads.Operation function false bases.Number) = 73 ∷ 80 ∷ 71 ∷ 76 ∷ 45 ∷ []
+others_behind (heads.Operation function true bases.Number) = 80 ∷ 71 ∷ 76 ∷ 45 ∷ []
+others_behind (heads.Operation function indirect bases.P) = 45 ∷ []
+others_behind (heads.Operation function indirect bases.G) = 45 ∷ []
+others_behind (heads.Operation function indirect bases.Label) = []
+others_behind heads.Global = []
+others_behind (heads.GlobalLabel n) = []
+
+-- whether this byte, no digit, may stand behind the head
+abbrev pub allows : Head → ℕ → Bool
+allows head byte = list_any (λ other. byte == other) (others_behind head)
+
+-- the greatest number behind the head; one with a `-` goes to 32,768
+abbrev pub limit : Head → ℕ
+limit heads.Label = 65535
+limit heads.Data = 65535
+limit heads.DataLabel = 65535
+limit heads.Byte = 255
+limit (heads.Operation function indirect base) = 65535
+limit heads.Global = 511
+limit (heads.GlobalLabel n) = 65535

@@ -1,0 +1,23 @@
+-- What holds of texts and their faults.
+use Rattle.std.specs.Prelude.{ℕ, ◌≡◌, ◌⊎◌, List, ◌++◌}
+use Rattle.bc_item.specs.declared.item.Item.{Item}
+use Rattle.bc_text.specs.Texts.{IsText, GoesOn}
+use Rattle.bc_text.specs.Faults.{HasFault, IsFaultOf}
+use Rattle.bc_text.specs.declared.text_error.TextError.{TextError}
+
+abbrev pub IsOneText : List ℕ → Type 0
+IsOneText bytes =
+    (segments : List (List Item)) → IsText bytes segments
+    → ((others : List (List Item)) → IsText bytes others → others ≡ segments) × ((fault : TextError) → IsFaultOf bytes fault → ⊥)
+
+abbrev pub HasOneFault : List ℕ → Type 0
+HasOneFault bytes = (one other : TextError) → IsFaultOf bytes one → IsFaultOf bytes other → one ≡ other
+
+abbrev pub IsTextOrFault : List ℕ → Type 0
+IsTextOrFault bytes = ((segments : List (List Item)) × IsText bytes segments) ⊎ ((fault : TextError) × IsFaultOf bytes fault)
+
+-- a fault stays as the bytes go on, and bytes go on to a text or have a fault, never both
+pub record IsFirst (bytes : List ℕ) : Type 0 where
+  pub stays : (fault : TextError) (more : List ℕ) → HasFault bytes fault → HasFault (bytes ++ more) fault
+  pub known : GoesOn bytes ⊎ ((fault : TextError) × HasFault bytes fault)
+  pub apart : (fault : TextError) → HasFault bytes fault → GoesOn bytes → ⊥

@@ -1,0 +1,11 @@
+pub mod Numbers
+pub mod Letters
+pub mod Spelling
+pub mod Texts
+pub mod Heads
+pub mod Faults
+pub mod Printed
+pub mod Steps
+pub mod Reached
+pub mod Reading
+pub mod Laws

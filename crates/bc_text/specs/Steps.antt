@@ -1,0 +1,190 @@
+-- The steps of the reader, one byte after another. They are what its code does and what the laws about
+-- it speak of; what a text and a fault are is said without them.
+use Rattle.std.specs.Prelude.{ℕ, ◌+◌, ◌-◌, ◌*◌, ◌%◌, ◌==◌, List, [], ◌∷◌, ◌++◌, Bool, true, false, ◌&&◌, cond, min, nat_lt, nat_le, Option, Some, None, Result, Ok, Err}
+use Rattle.std.specs.Char.{is_ascii_digit}
+use Rattle.bc_item.specs.declared.item.Item.{Item}
+use Rattle.bc_item.specs.declared.item.Item.TheVariants.{Label, Data, DataLabel, Byte, Operation, Global}
+use Rattle.bc_item.specs.declared.item.Base.TheVariants as bases
+use Rattle.bc_item.specs.declared.item.Function.TheVariants as functions
+use Rattle.bc_text.specs.Letters.{is_blank}
+use Rattle.bc_text.specs.Heads.{allows, limit}
+use Rattle.bc_text.specs.Faults.{capped}
+use Rattle.bc_text.specs.declared.head.Head.{Head}
+use Rattle.bc_text.specs.declared.head.Head.TheVariants as heads
+use Rattle.bc_text.specs.declared.head.Ended.{Ended}
+use Rattle.bc_text.specs.declared.head.Ended.TheVariants as ended
+use Rattle.bc_text.specs.declared.head.Place.{Place}
+use Rattle.bc_text.specs.declared.head.Place.TheVariants as places
+use Rattle.bc_text.specs.declared.text_error.TextError.{TextError}
+use Rattle.bc_text.specs.declared.text_error.TextError.TheVariants as errors
+
+-- What a reader has read: whole segments, the items behind them, where it stands, and how many bytes.
+pub record Progress : Type 0 where
+  pub segments : List (List Item)
+  pub items : List Item
+  pub place : Place
+  pub at : ℕ
+
+abbrev pub start : Progress
+start = record { segments = []; items = []; place = places.Between; at = 0 }
+
+-- the head that a letter begins
+abbrev pub head_of : ℕ → Option Head
+head_of byte =
+    cond (byte == 76) (Some (heads.Operation functions.Load false bases.Number))
+    (cond (byte == 83) (Some (heads.Operation functions.Store false bases.Number))
+    (cond (byte == 65) (Some (heads.Operation functions.Add false bases.Number))
+    (cond (byte == 74) (Some (heads.Operation functions.Jump false bases.Number))
+    (cond (byte == 84) (Some (heads.Operation functions.JumpIfTrue false bases.Number))
+    (cond (byte == 70) (Some (heads.Operation functions.JumpIfFalse false bases.Number))
+    (cond (byte == 75) (Some (heads.Operation functions.Call false bases.Number))
+    (cond (byte == 88) (Some (heads.Operation functions.Execute false bases.Number))
+    (cond (byte == 68) (Some heads.Data)
+    (cond (byte == 67) (Some heads.Byte)
+    (cond (byte == 71) (Some heads.Global) None))))))))))
+
+-- the head with one letter more
+abbrev pub longer : Head → ℕ → Option Head
+longer heads.Data byte = cond (byte == 76) (Some heads.DataLabel) None
+longer (heads.Operation function indirect bases.Number) byte =
+    cond (byte == 73 && cond indirect false true) (Some (heads.Operation function true bases.Number))
+    (cond (byte == 80) (Some (heads.Operation function indirect bases.P))
+    (cond (byte == 71) (Some (heads.Operation function indirect bases.G))
+    (cond (byte == 76) (Some (heads.Operation function indirect bases.Label)) None)))
+longer head byte = None
+
+-- behind the head that a letter made, or the fault that there is none
+abbrev pub behind_letter : Option Head → TextError → Result Place TextError
+behind_letter (Some head) fault = Ok (places.Head head)
+behind_letter None fault = Err fault
+
+-- the greatest number behind the head, with or without sign
+abbrev pub greatest : Head → Bool → ℕ
+greatest head negative = cond negative (min (limit head) 32768) (limit head)
+
+-- a number that is being read is one that may stand behind its head
+abbrev pub is_in_range : Place → Bool
+is_in_range places.Between = true
+is_in_range places.Comment = true
+is_in_range (places.Head head) = true
+is_in_range (places.Minus head from) = true
+is_in_range (places.Digits head from negative value) = nat_le value (limit head)
+
+-- the number, where it is in range
+abbrev pub if_in_range : Head → ℕ → Bool → ℕ → Result Place TextError
+if_in_range head from negative value =
+    cond (nat_lt (greatest head negative) value) (Err (errors.BadNumber from)) (Ok (places.Digits head from negative value))
+
+-- the number with one digit more
+abbrev pub with_digit : Head → ℕ → Bool → ℕ → ℕ → Result Place TextError
+with_digit head from negative value byte = if_in_range head from negative (value * 10 + (byte - 48))
+
+-- what a byte makes behind a head
+abbrev pub behind_head : Head → ℕ → ℕ → Result Place TextError
+behind_head head byte at =
+    cond (is_ascii_digit byte) (with_digit head at false 0 byte)
+    (cond (byte == 45 && allows head 45) (Ok (places.Minus head at))
+    (behind_letter (longer head byte) (errors.BadNumber at)))
+
+-- what a byte makes behind a `-`
+abbrev pub behind_minus : Head → ℕ → ℕ → ℕ → Result Place TextError
+behind_minus head from byte at =
+    cond (is_ascii_digit byte) (with_digit head from true 0 byte) (Err (errors.BadNumber at))
+
+-- what a byte makes between items, where it is not `Z`
+abbrev pub between : ℕ → ℕ → Result Place TextError
+between byte at =
+    cond (is_blank byte) (Ok places.Between)
+    (cond (byte == 47) (Ok places.Comment)
+    (cond (is_ascii_digit byte) (with_digit heads.Label at false 0 byte)
+    (behind_letter (head_of byte) (errors.BadCharacter at))))
+
+-- what a byte makes behind the number of a global
+abbrev pub behind_global : ℕ → ℕ → ℕ → Result Place TextError
+behind_global number byte at =
+    cond (byte == 76) (Ok (places.Head (heads.GlobalLabel number))) (Err (errors.MissingLabel at))
+
+-- the word of a number with or without sign
+abbrev pub word_of : Bool → ℕ → ℕ
+word_of negative value = cond negative ((65536 - value) % 65536) value
+
+-- what stands there when the digits are at an end
+abbrev pub ended_number : Head → Bool → ℕ → Ended
+ended_number heads.Label negative value = ended.Item (Label (word_of negative value))
+ended_number heads.Data negative value = ended.Item (Data (word_of negative value))
+ended_number heads.DataLabel negative value = ended.Item (DataLabel (word_of negative value))
+ended_number heads.Byte negative value = ended.Item (Byte value)
+ended_number (heads.Operation function indirect base) negative value =
+    ended.Item (Operation function indirect base (word_of negative value))
+ended_number heads.Global negative value = ended.Global value
+ended_number (heads.GlobalLabel number) negative value = ended.Item (Global number (word_of negative value))
+
+-- the progress at another place
+abbrev pub placed : Progress → Place → Progress
+placed p place = record p { place = place }
+
+abbrev pub placed_at : Progress → Result Place TextError → Result Progress TextError
+placed_at p (Ok place) = Ok (placed p place)
+placed_at p (Err fault) = Err fault
+
+-- the items so far have become a segment
+abbrev pub closed : Progress → Progress
+closed p = record p { segments = p.segments ++ p.items ∷ []; items = []; place = places.Between }
+
+-- one more item
+abbrev pub with_item : Progress → Item → Progress
+with_item p item = record p { items = p.items ++ item ∷ [] }
+
+-- a byte where an item may begin, at the place `at`
+abbrev pub begun : Progress → ℕ → ℕ → Result Progress TextError
+begun p byte at = cond (byte == 90) (Ok (closed p)) (placed_at p (between byte at))
+
+-- what the end of a number makes, and the byte behind it
+abbrev pub behind_number : Progress → Ended → ℕ → ℕ → Result Progress TextError
+behind_number p (ended.Item item) byte at = begun (with_item p item) byte at
+behind_number p (ended.Global number) byte at = placed_at p (behind_global number byte at)
+
+-- what a byte makes in the digits of a number
+abbrev pub in_digits : Progress → Head → ℕ → Bool → ℕ → ℕ → ℕ → Result Progress TextError
+in_digits p head from negative value byte at =
+    cond (is_ascii_digit byte) (placed_at p (with_digit head from negative value byte))
+    (behind_number p (ended_number head negative value) byte at)
+
+-- what a byte makes at a place
+abbrev pub at_place : Progress → Place → ℕ → ℕ → Result Progress TextError
+at_place p places.Between byte at = begun p byte at
+at_place p places.Comment byte at = cond (byte == 10) (Ok (placed p places.Between)) (Ok p)
+at_place p (places.Head head) byte at = placed_at p (behind_head head byte at)
+at_place p (places.Minus head from) byte at = placed_at p (behind_minus head from byte at)
+at_place p (places.Digits head from negative value) byte at = in_digits p head from negative value byte at
+
+-- one byte more
+unfoldable pub step : Progress → ℕ → Result Progress TextError
+step p byte = at_place (record p { at = capped (p.at + 1) }) p.place byte p.at
+
+-- what a step that met no fault is followed by
+abbrev pub on_ok : Result Progress TextError → (Progress → Result Progress TextError) → Result Progress TextError
+on_ok (Ok p) next = next p
+on_ok (Err fault) next = Err fault
+
+-- bytes, one after another, up to the first fault
+unfoldable pub run : List ℕ → Progress → Result Progress TextError
+run [] p = Ok p
+run (byte ∷ bytes) p = on_ok (step p byte) (run bytes)
+
+-- the segments at the end of the bytes, if no item is open and none stands behind the last `Z`
+abbrev pub finished_at : Place → List Item → List (List Item) → Result (List (List Item)) TextError
+finished_at places.Between [] segments = Ok segments
+finished_at places.Comment [] segments = Ok segments
+finished_at place items segments = Err errors.Unended
+
+abbrev pub finished : Progress → Result (List (List Item)) TextError
+finished p = finished_at p.place p.items p.segments
+
+-- what reading bytes to their end answers
+abbrev pub answer_of : Result Progress TextError → Result (List (List Item)) TextError
+answer_of (Ok p) = finished p
+answer_of (Err fault) = Err fault
+
+abbrev pub answer : List ℕ → Progress → Result (List (List Item)) TextError
+answer bytes p = answer_of (run bytes p)

@@ -1,0 +1,145 @@
+//! What a reader has read so far.
+
+ghost use Rattle.std.specs.Prelude.{◌≡◌, ◌⊎◌, Ok, Err, MatchResult, IfOk, IsTrue};
+ghost use Rattle.bc_text.specs.Steps.{is_in_range, start, step, run, finished, begun, closed, placed_at, behind_number};
+
+use crate::head::{Ended, Place};
+use crate::place::{behind_global, behind_head, behind_minus, between, ended_number, with_digit};
+use crate::text_error::TextError;
+use bc_item::{Item, Segment};
+use std::alloc::Global;
+use std::mem;
+
+/// Whole segments, the items behind them, the place in the text, and how many bytes stand in front of it.
+#[derive(Drop)]
+pub struct Progress {
+    segments: Vec<Segment>,
+    items: Vec<Item>,
+    place: Place,
+    at: u64,
+    alloc: Global,
+    ghost in_range: { IsTrue (is_in_range place) },
+}
+
+impl Progress {
+    ghost use Rattle.bc_text.specs.Reached.{progress_of, Reaches, GivesProgress, GivesSegments};
+
+    /// Nothing was read.
+    pub fn new(alloc: Global) -> Progress
+        ensures { progress_of result ≡ start }
+    {
+        Progress {
+            segments: Vec::new(alloc),
+            items: Vec::new(alloc),
+            place: Place::Between,
+            at: 0,
+            alloc,
+        }
+    }
+
+    /// The `Z` of a segment's end.
+    fn end_segment(&mut self) -> Result<(), TextError>
+        ensures { Reaches result (progress_of self.new) (Ok (closed (progress_of self.old))) }
+    {
+        let items = mem::replace(&mut self.items, Vec::new(self.alloc));
+        self.segments.push(Segment::new(items))?;
+        self.place = Place::Between;
+        Ok(())
+    }
+
+    /// The place that a byte leads to, where it leads to one.
+    #[inline]
+    fn go_to(&mut self, place: Result<Place, TextError>) -> Result<(), TextError>
+        requires { IfOk place (λ place. IsTrue (is_in_range place)) }
+        ensures { Reaches result (progress_of self.new) (placed_at (progress_of self.old) place) }
+    {
+        match place {
+            Ok(place) => {
+                self.place = place;
+                Ok(())
+            }
+            Err(fault) => Err(fault),
+        }
+    }
+
+    /// A byte where an item may begin.
+    #[inline]
+    fn begin(&mut self, byte: u8, at: u64) -> Result<(), TextError>
+        ensures { Reaches result (progress_of self.new) (begun (progress_of self.old) byte at) }
+    {
+        if byte == b'Z' {
+            self.end_segment()
+        } else {
+            self.go_to(between(byte, at))
+        }
+    }
+
+    /// The byte behind a number's digits, with what they made.
+    #[inline]
+    fn end_number(&mut self, ended: Ended, byte: u8, at: u64) -> Result<(), TextError>
+        ensures { Reaches result (progress_of self.new) (behind_number (progress_of self.old) ended byte at) }
+    {
+        match ended {
+            Ended::Item(item) => {
+                self.items.push(item)?;
+                self.begin(byte, at)
+            }
+            Ended::Global(number) => self.go_to(behind_global(number, byte, at)),
+        }
+    }
+
+    /// One byte more.
+    #[inline]
+    #[tactic(auto, unfolding(crate::specs::Steps::step))]
+    fn take(&mut self, byte: u8) -> Result<(), TextError>
+        ensures { Reaches result (progress_of self.new) (step (progress_of self.old) byte) }
+    {
+        let at = self.at;
+        self.at = at.saturating_add(1);
+        match self.place {
+            Place::Between => self.begin(byte, at),
+            Place::Comment => {
+                if byte == b'\n' {
+                    self.place = Place::Between;
+                }
+                Ok(())
+            }
+            Place::Head(head) => self.go_to(behind_head(&head, byte, at)),
+            Place::Minus { head, from } => self.go_to(behind_minus(&head, from, byte, at)),
+            Place::Digits {
+                head,
+                from,
+                negative,
+                value,
+            } => {
+                if byte.is_ascii_digit() {
+                    self.go_to(with_digit(&head, from, negative, value, byte))
+                } else {
+                    self.end_number(ended_number(&head, negative, value), byte, at)
+                }
+            }
+        }
+    }
+
+    /// The bytes of a piece.
+    pub fn fed(mut self, piece: &[u8]) -> Result<Progress, TextError>
+        ensures { GivesProgress result (run piece.now (progress_of self)) }
+    {
+        for byte in piece {
+            self.take(*byte)?;
+        }
+        Ok(self)
+    }
+
+    /// The segments, at the end of the text.
+    pub fn finished(self) -> Result<Vec<Segment>, TextError>
+        ensures { GivesSegments result (finished (progress_of self)) }
+    {
+        let between = matches!(self.place, Place::Between | Place::Comment);
+        if between && self.items.is_empty() {
+            Ok(self.segments)
+        } else {
+            Err(TextError::Unended)
+        }
+    }
+}
