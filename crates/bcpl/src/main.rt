@@ -11,18 +11,18 @@ mod output;
 mod tests;
 
 use crate::commands::command;
-use std::env;
 use std::process::ExitCode;
+use std::{env, io};
 
 /// Does what the words behind the program's name ask for.
-fn status(rt: HostRuntime) -> std::io::Result<u8> {
-    let words: Vec<String> = env::args(&rt)?.skip(1).collect(rt.alloc())?;
+fn status(rt: &HostRuntime) -> io::Result<u8> {
+    let words: Vec<String> = env::args(rt)?.skip(1).collect(rt.alloc())?;
     let mut texts = Vec::new(rt.alloc());
     for word in &words {
         texts.push(word.as_str())?;
     }
     Ok(command(
-        &rt,
+        rt,
         rt.alloc(),
         texts.as_slice(),
         rt.stdin().lock(),
@@ -31,9 +31,20 @@ fn status(rt: HostRuntime) -> std::io::Result<u8> {
     ))
 }
 
+/// The status where the words themselves can't be had: for want of memory, or since one is no text.
+fn without_words(rt: &HostRuntime, error: &io::Error) -> u8 {
+    if error.kind() == io::ErrorKind::OutOfMemory {
+        let _ = rt.eprintln("bcpl: memory");
+        1
+    } else {
+        let _ = rt.eprintln("bcpl: a word of the command line is no text");
+        3
+    }
+}
+
 fn main(rt: HostRuntime) -> ExitCode {
-    match status(rt) {
+    match status(&rt) {
         Ok(status) => ExitCode::from(status),
-        Err(_) => ExitCode::from(1),
+        Err(error) => ExitCode::from(without_words(&rt, &error)),
     }
 }

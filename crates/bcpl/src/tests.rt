@@ -52,65 +52,81 @@ fn texts_on_standard_input(rt: HostRuntime) -> Result<(), Fail> {
     Ok(())
 }
 
+/// Whether the words answer this, with `in` as standard input.
+fn answers<'a>(
+    rt: &HostRuntime,
+    words: &'a [&'a str],
+    status: u8,
+    out: &str,
+    err: &str,
+) -> Result<bool, Fail> {
+    let answer = said(rt, words, b"in")?;
+    Ok(answer.0 == status && answer.1.as_str() == out && answer.2.as_str() == err)
+}
+
 #[test]
 fn texts_in_files(rt: HostRuntime) -> Result<(), Fail> {
     let hello = file(&rt, "hello", HELLO)?;
     let echo = file(&rt, "echo", ECHO)?;
-    let named = format!(in rt.alloc(); "SYSIN={hello}")?;
-    let table: [(&[&str], u8, &str, &str); 9] = [
-        (&["run", "--steps", "12", hello.as_str()], 0, "A", ""),
-        (
-            &["run", "--steps", "11", hello.as_str()],
+    let text = hello.as_str();
+    assert!(rt; answers(&rt, &["run", "--steps", "12", text], 0, "A", "")?);
+    assert!(rt;
+        answers(
+            &rt,
+            &["run", "--steps", "11", text],
             2,
             "A",
             "bcpl: ended BudgetSpent\n",
-        ),
-        (&["run", "--steps", "1000", echo.as_str()], 0, "in", ""),
-        (
-            &[
-                "run",
-                "--steps",
-                "11",
-                "--in",
-                named.as_str(),
-                hello.as_str(),
-            ],
+        )?
+    );
+    assert!(rt; answers(&rt, &["run", "--steps", "1000", echo.as_str()], 0, "in", "")?);
+    Ok(())
+}
+
+#[test]
+fn streams_are_refused(rt: HostRuntime) -> Result<(), Fail> {
+    let hello = file(&rt, "refused", HELLO)?;
+    let text = hello.as_str();
+    let named = format!(in rt.alloc(); "SYSIN={hello}")?;
+    let twice = named.as_str();
+    assert!(rt;
+        answers(
+            &rt,
+            &["run", "--steps", "11", "--in", twice, text],
             1,
             "",
             "bcpl: streams 1 NameTwice\n",
-        ),
-        (
-            &["run", "--steps", "9", "--in", "X", hello.as_str()],
+        )?
+    );
+    assert!(rt;
+        answers(
+            &rt,
+            &["run", "--steps", "9", "--in", "X", text],
             3,
             "",
             "bcpl: option X\n",
-        ),
-        (
+        )?
+    );
+    Ok(())
+}
+
+#[test]
+fn missing_files_and_commands(rt: HostRuntime) -> Result<(), Fail> {
+    let missing = "bcpl: file /nowhere/text\n";
+    assert!(rt;
+        answers(
+            &rt,
             &["run", "--steps", "9", "/nowhere/text"],
             1,
             "",
-            "bcpl: file /nowhere/text\n",
-        ),
-        (
-            &["asm", "/nowhere/text"],
-            1,
-            "",
-            "bcpl: file /nowhere/text\n",
-        ),
-        (
-            &["build", "--out", "o", "f"],
-            1,
-            "",
-            "bcpl: build is not here yet\n",
-        ),
-        (&["check", "c"], 1, "", "bcpl: check is not here yet\n"),
-    ];
-    for (words, status, out, err) in table {
-        let answer = said(&rt, words, b"in")?;
-        assert_eq!(rt; answer.0, status);
-        assert_eq!(rt; answer.1.as_str(), out);
-        assert_eq!(rt; answer.2.as_str(), err);
-    }
+            missing,
+        )?
+    );
+    assert!(rt; answers(&rt, &["asm", "/nowhere/text"], 1, "", missing)?);
+    let build = "bcpl: build is not here yet\n";
+    assert!(rt; answers(&rt, &["build", "--out", "o", "f"], 1, "", build)?);
+    let check = "bcpl: check is not here yet\n";
+    assert!(rt; answers(&rt, &["check", "c"], 1, "", check)?);
     Ok(())
 }
 

@@ -1,0 +1,27 @@
+/* Preloaded into a program: the allocation whose number FAIL_ALLOC gives is refused, counted from 1. */
+#include <stdlib.h>
+
+extern void *__libc_malloc(size_t);
+extern void *__libc_calloc(size_t, size_t);
+extern void *__libc_realloc(void *, size_t);
+extern void *__libc_memalign(size_t, size_t);
+
+static int is_refused(void) {
+    static long count;
+    const char *number = getenv("FAIL_ALLOC");
+    return ++count == (number ? atol(number) : 0);
+}
+
+void *malloc(size_t size) { return is_refused() ? NULL : __libc_malloc(size); }
+
+void *calloc(size_t count, size_t size) { return is_refused() ? NULL : __libc_calloc(count, size); }
+
+void *realloc(void *old, size_t size) { return is_refused() ? NULL : __libc_realloc(old, size); }
+
+void *aligned_alloc(size_t alignment, size_t size) { return is_refused() ? NULL : __libc_memalign(alignment, size); }
+
+int posix_memalign(void **place, size_t alignment, size_t size) {
+    void *made = is_refused() ? NULL : __libc_memalign(alignment, size);
+    if (made) *place = made;
+    return made ? 0 : 12;
+}
