@@ -1,12 +1,11 @@
 -- Quotient and remainder.
-use Rattle.std.proofs.Common.{rules, arith, ◌≡◌, ◌<◌, ℕ, ◌*◌, ◌%◌, ◌^◌, ◌*ℤ◌, ap, sym, ◌∙◌, Some, refl, pos, negsuc, subst}
-use Rattle.std.specs.Prelude.{ℤ, zero, suc, ◌+◌, ◌+ℤ◌, ◌≢◌, ◌≤◌, ◌==◌, ◌≤ℤ◌, FitsSigned, int_div, int_rem, unsigned_abs, cond, false, unwrap_or, Bool, Option, None}
+use Rattle.std.proofs.Common.{arith, ◌≡◌, ◌<◌, ℕ, ◌*◌, ◌%◌, ◌*ℤ◌, ap, sym, ◌∙◌, Some, refl, pos, negsuc, subst}
+use Rattle.std.specs.Prelude.{ℤ, zero, suc, ◌+◌, ◌+ℤ◌, ◌≢◌, ◌≤◌, ◌==◌, ◌≤ℤ◌, FitsSigned, int_div, int_rem, unsigned_abs, cond, false, unwrap_or, Bool, None}
 use Rattle.std.specs.Int.{cast_signed, cast_unsigned, w16, int_wrap}
 use Rattle.std.proofs.lemmas.Int.{ints, wrapping_mul-bits, wrapping_add-bits, of_z-to_z, int_wrap-add_left, int_wrap-add_right, int_wrap-mul_left, int_wrap-add_same, int_wrap_fits, quot-rem, rem_below, fits_signed_from_abs}
 use Rattle.std.proofs.Math.IntN.{neg_ℤ}
-use Rattle.bc_word.specs.Words.{value_of, signed, wrapped}
-use Rattle.bc_word.specs.Laws.{GivesBack, RemainderLies, RemainderOf}
-use Rattle.bc_word.specs.declared.operator.Op.TheVariants.{Divide, Remainder}
+use Rattle.bc_word.specs.Words.{signed, wrapped}
+use Rattle.bc_word.specs.Laws.{GivesBack, RemainderOf}
 use Rattle.bc_word.proofs.Products.{wrapped_below}
 
 nonzero : (a : ℕ) → a ≢ 0 → (a == 0) ≡ false

@@ -1,10 +1,10 @@
 -- Operands exchanged.
-use Rattle.std.proofs.Common.{rules, arith, ◌≡◌, ◌<◌, ℕ, ap, sym, ◌∙◌, Some, None, refl, subst}
-use Rattle.std.specs.Prelude.{◌+◌, ◌%◌, ◌-◌, ◌==◌, unwrap_or, ◌*ℤ◌, not, bit_xor}
+use Rattle.std.proofs.Common.{rules, arith, ◌≡◌, ℕ, ap, Some, None, refl, subst}
+use Rattle.std.specs.Prelude.{◌%◌, ◌-◌, ◌==◌, unwrap_or, not}
 use Rattle.std.proofs.Math.IntN.{*ℤ_comm}
 use Rattle.std.proofs.Math.Nat.{add_comm}
 use Rattle.std.proofs.lemmas.Nat.{and_comm, or_comm, xor_comm}
-use Rattle.bc_word.specs.Words.{value_of, signed, wrapped, truth}
+use Rattle.bc_word.specs.Words.{signed, wrapped, truth}
 use Rattle.bc_word.specs.Mirror.{mirror_of, IsMirror}
 use Rattle.bc_word.specs.declared.operator.Op.{Op}
 use Rattle.bc_word.specs.declared.operator.Op.TheVariants.{Multiply, Divide, Remainder, Add, Subtract, Equal, NotEqual, Less, GreaterEqual, Greater, LessEqual, ShiftLeft, ShiftRight, And, Or, NotEquivalent, Equivalent}

@@ -1,7 +1,7 @@
 -- Products, quotients and remainders of words.
-use Rattle.std.proofs.Common.{rules, arith, ◌≡◌, ◌<◌, ℕ, ◌*◌, ◌%◌, ◌^◌, ◌*ℤ◌, ap, sym, ◌∙◌, Some, refl, pos, negsuc}
+use Rattle.std.proofs.Common.{arith, ◌≡◌, ◌<◌, ℕ, ◌*◌, ◌%◌, ◌*ℤ◌, ap, sym, ◌∙◌, Some, pos, negsuc}
 use Rattle.std.specs.Prelude.{ℤ}
-use Rattle.std.specs.Int.{cast_signed, cast_unsigned, w16, int_wrap}
+use Rattle.std.specs.Int.{cast_unsigned, w16, int_wrap}
 use Rattle.std.proofs.lemmas.Int.{wrapping_mul-bits, of_z-to_z}
 use Rattle.bc_word.specs.Words.{value_of, signed, wrapped}
 use Rattle.bc_word.specs.declared.operator.Op.TheVariants.{Multiply}

@@ -1,8 +1,7 @@
 -- Shifts, negation and complement.
-use Rattle.std.proofs.Common.{rules, arith, ◌≡◌, ◌<◌, ℕ, ap, sym, ◌∙◌, Some, refl}
-use Rattle.std.specs.Prelude.{◌^◌, ◌*◌, ◌/◌, ◌%◌, ◌≤◌, nat_le, cond, true, false, Option, Bool}
+use Rattle.std.proofs.Common.{arith, ◌≡◌, ◌<◌, ℕ, ap, Some}
+use Rattle.std.specs.Prelude.{◌^◌, ◌*◌, ◌/◌, ◌%◌, ◌≤◌, nat_le, cond, true, false}
 use Rattle.bc_word.specs.Laws.{ShiftsAre, NegationIs}
-use Rattle.bc_word.specs.Words.{value_of, negated, complemented}
 
 short : (n : ℕ) → n < 16 → nat_le 16 n ≡ false
 short n p = grind arith

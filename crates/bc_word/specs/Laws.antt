@@ -1,5 +1,5 @@
 -- Laws of the arithmetic: what follows from the definition of the operators.
-use Rattle.std.specs.Prelude.{ℕ, ◌≡◌, ◌<◌, ◌≤◌, ◌+◌, ◌*◌, ◌/◌, ◌%◌, ◌^◌, ℤ, pos, ◌≤ℤ◌, unsigned_abs, Some}
+use Rattle.std.specs.Prelude.{ℕ, ◌≡◌, ◌<◌, ◌≤◌, ◌+◌, ◌*◌, ◌/◌, ◌%◌, ◌^◌, pos, ◌≤ℤ◌, unsigned_abs, Some}
 use Rattle.bc_word.specs.declared.operator.Op.TheVariants.{Divide, Remainder, ShiftLeft, ShiftRight}
 use Rattle.bc_word.specs.Words.{signed, value_of, negated, complemented}
 
