@@ -12,3 +12,4 @@ pub mod Tags
 pub mod Lexemes
 pub mod Faults
 pub mod Tokens
+pub mod Examples
