@@ -1,6 +1,7 @@
 use crate::commands::command;
+use std::io::Write;
 use std::test::Fail;
-use std::{env, fs};
+use std::{env, fs, io};
 
 /// Writes A.
 const HELLO: &[u8] = b"1 L65 SP4 LIG14 K2 X4 G1L1 Z";
@@ -34,7 +35,7 @@ fn said<'a>(
 
 #[test]
 fn texts_on_standard_input(rt: HostRuntime) -> Result<(), Fail> {
-    let table: [(&[u8], u8, &str, &str); 7] = [
+    let table: [(&[u8], u8, &str, &str); 8] = [
         (HELLO, 0, "A", ""),
         (b"Q", 1, "", "bcpl: text 1 BadCharacter 0\n"),
         (b"L5", 1, "", "bcpl: text 4 Unended\n"),
@@ -42,6 +43,7 @@ fn texts_on_standard_input(rt: HostRuntime) -> Result<(), Fail> {
         (b"LL7 Z", 1, "", "bcpl: link 1 LabelUnset 1 7\n"),
         (b"1 X4 G14L1 Z", 1, "", "bcpl: link 3 GlobalTwice 14\n"),
         (b"1 X30 G1L1 Z", 2, "", "bcpl: ended BadInstruction 546\n"),
+        (b"1 L0 X6 G1L1 Z", 2, "", "bcpl: ended ZeroDivide\n"),
     ];
     for (text, status, out, err) in table {
         let answer = said(&rt, &[], text)?;
@@ -107,6 +109,54 @@ fn streams_are_refused(rt: HostRuntime) -> Result<(), Fail> {
             "bcpl: option X\n",
         )?
     );
+    let mut long = String::new(rt.alloc());
+    for _ in 0..256 {
+        long.push('N')?;
+    }
+    let named = format!(in rt.alloc(); "{long}={hello}")?;
+    assert!(rt;
+        answers(
+            &rt,
+            &["run", "--steps", "11", "--in", named.as_str(), text],
+            1,
+            "",
+            "bcpl: streams 2 NameTooLong\n",
+        )?
+    );
+    Ok(())
+}
+
+/// A writer that takes nothing.
+#[derive(Drop)]
+struct Full;
+
+impl Write for Full {
+    fn write(&mut self, _buf: &[u8]) -> io::Result<usize> {
+        Ok(0)
+    }
+
+    fn flush(&mut self) -> io::Result<()> {
+        Ok(())
+    }
+}
+
+#[test]
+fn full_standard_output(rt: HostRuntime) -> Result<(), Fail> {
+    let hello = file(&rt, "full", HELLO)?;
+    let text = hello.as_str();
+    let table: [(&[&str], u8, &str); 3] = [
+        (&[], 2, "bcpl: ended Device\n"),
+        (&["run", "--steps", "12", text], 2, "bcpl: ended Device\n"),
+        (&["asm", text], 1, "bcpl: file SYSPRINT\n"),
+    ];
+    for (words, status, text) in table {
+        let mut err = Vec::new(rt.alloc());
+        assert_eq!(rt;
+            command(&rt, rt.alloc(), words, HELLO, Full, &mut err),
+            status
+        );
+        assert_eq!(rt; String::from_utf8(err)?.as_str(), text);
+    }
     Ok(())
 }
 
