@@ -1,0 +1,16 @@
+pub mod Formed
+pub mod Rounds
+pub mod Ends
+pub mod Expressions
+pub mod Lists
+pub mod Commands
+pub mod Simple
+pub mod Definitions
+pub mod Places
+pub mod Sections
+pub mod Grammar
+pub mod Balance
+pub mod Free
+pub mod Tokens
+pub mod Spelled
+pub mod Held

@@ -1,0 +1,6 @@
+pub mod Open
+pub mod Repeated
+pub mod Held
+pub mod Tokens
+pub mod Laws
+pub mod Examples
