@@ -8,6 +8,7 @@ mod machine;
 mod memory;
 mod names;
 mod operations;
+mod progress;
 mod store;
 mod streams;
 #[cfg(test)]
