@@ -1,15 +1,14 @@
 -- The outputs of streams over writers, as they are written and ended.
-use Rattle.std.proofs.Common.{◌≡◌, ℕ, ◌-◌, ◌+◌, ◌<◌, ◌≤◌, zero, suc, List, [], ◌∷◌, ◌++◌, map, length, get_or, set, Bool, true, false, Option, Some, None, refl, sym, ap, ◌∙◌, arith, slice_get, slice_set, subst}
+use Rattle.std.proofs.Common.{◌≡◌, ℕ, ◌-◌, ◌<◌, ◌≤◌, zero, suc, List, [], ◌∷◌, ◌++◌, map, length, get_or, set, Option, Some, None, refl, ap, ◌∙◌, arith, slice_get, slice_set, subst}
 use Rattle.std.specs.Prelude.{IsSome}
 use Rattle.std.specs.Option.{option_map}
 use Rattle.std.proofs.lemmas.Option.{slice_get_read, slice_get-map}
 use Rattle.std.proofs.lemmas.List.{map-set}
-use Rattle.bc_step.specs.Streams.{Input, Output, Content, numbered}
-use Rattle.bc_step.specs.StreamStart.{first_number, opened}
+use Rattle.bc_step.specs.Streams.{Output, numbered}
 use Rattle.bc_machine.specs.Known.{AllKnown}
 use Rattle.bc_machine.specs.FileContent.{told, file_outputs}
 use Rattle.bc_machine.specs.declared.files.FileOutput.{FileOutput}
-use Rattle.bc_machine.proofs.Tables.{numbered-get, content}
+use Rattle.bc_machine.proofs.Tables.{numbered-get}
 
 abbrev pub Told : Type 0
 Told = Option (List ℕ)

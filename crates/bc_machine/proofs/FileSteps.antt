@@ -1,11 +1,11 @@
 -- What the operations of streams over readers and writers do, where these tell their bytes.
-use Rattle.std.proofs.Common.{◌≡◌, ℕ, ◌-◌, ◌+◌, ◌<◌, ◌≤◌, zero, suc, List, [], ◌∷◌, ◌++◌, map, length, get_or, set, Bool, true, false, Option, Some, None, refl, sym, ap, ◌∙◌, arith, slice_get, slice_set, subst}
+use Rattle.std.proofs.Common.{◌≡◌, ℕ, ◌-◌, ◌<◌, ◌≤◌, List, [], ◌∷◌, ◌++◌, map, length, get_or, set, true, false, Some, None, refl, sym, ap, ◌∙◌, arith, slice_set}
 use Rattle.std.specs.Prelude.{IsSome}
 use Rattle.std.specs.Io.KnownBytes.{Keeps, Appends}
 use Rattle.std.proofs.Math.Seq.{map-set_same}
 use Rattle.std.proofs.lemmas.Option.{slice_get-get_or}
 use Rattle.std.proofs.lemmas.List.{map-set, length-map}
-use Rattle.bc_step.specs.Streams.{Input, Output, Content, numbered}
+use Rattle.bc_step.specs.Streams.{Input, Output, numbered}
 use Rattle.bc_step.specs.StreamCalls.{after_write, end_stream}
 use Rattle.bc_step.specs.declared.streams.Side.TheVariants as sides
 use Rattle.bc_machine.specs.Known.{AllKnown}

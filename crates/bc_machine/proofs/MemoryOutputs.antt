@@ -1,11 +1,10 @@
 -- The outputs of streams in memory, as they are written and ended.
-use Rattle.std.proofs.Common.{◌≡◌, ◌≢◌, ℕ, ◌-◌, ◌+◌, ◌<◌, ◌≤◌, ◌==◌, zero, suc, List, [], ◌∷◌, ◌++◌, map, filter, length, get_or, set, Bool, true, false, cond, Option, Some, None, refl, sym, ap, ◌∙◌, arith, slice_get, slice_set, eq-eqb, subst}
-use Rattle.std.specs.Option.{option_map}
+use Rattle.std.proofs.Common.{◌≡◌, ◌≢◌, ℕ, ◌-◌, ◌+◌, ◌<◌, ◌≤◌, ◌==◌, zero, suc, List, [], ◌∷◌, ◌++◌, map, filter, length, get_or, set, Bool, false, cond, Some, refl, sym, ap, ◌∙◌, arith, slice_get, slice_set, eq-eqb, subst}
 use Rattle.std.proofs.lemmas.Bool.Decides.{nat_tests}
 use Rattle.std.proofs.lemmas.List.{map-append, append-nil}
 use Rattle.std.proofs.lemmas.List.Elements.{filter-append}
 use Rattle.std.proofs.lemmas.Option.{slice_get_read}
-use Rattle.bc_step.specs.Streams.{Input, Output, Content, numbered}
+use Rattle.bc_step.specs.Streams.{Input, Output, numbered}
 use Rattle.bc_step.specs.StreamStart.{fresh_output, first_number, opened}
 use Rattle.bc_machine.specs.MemoryContent.{bytes_to, memory_outputs}
 use Rattle.bc_machine.specs.declared.memory.MemoryOutput.{MemoryOutput}

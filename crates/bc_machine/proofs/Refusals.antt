@@ -1,11 +1,11 @@
 -- The names of a table, one after another.
-use Rattle.std.proofs.Common.{◌≡◌, ℕ, ◌+◌, ◌<◌, ◌≤◌, suc, List, [], ◌∷◌, ◌++◌, length, take, drop, map, get_or, Bool, true, false, cond, nat_lt, Some, None, Option, refl, sym, ap, ◌∙◌, arith}
+use Rattle.std.proofs.Common.{◌≡◌, ℕ, ◌+◌, ◌<◌, ◌≤◌, List, [], ◌∷◌, ◌++◌, length, take, drop, map, get_or, Bool, true, false, nat_lt, Some, None, Option, refl, sym, ap, ◌∙◌, arith}
 use Rattle.std.proofs.lemmas.List.{drop_more, take_more, map-append}
 use Rattle.std.proofs.lemmas.Bool.Decides.{nat_tests}
 use Rattle.std.specs.List.{list_any}
 use Rattle.std.specs.Str.{bytes_eq}
 use Rattle.bc_machine.specs.declared.faults.StreamsError.{StreamsError}
-use Rattle.bc_machine.specs.declared.faults.StreamsError.TheVariants.{NameTwice, NameTooLong}
+use Rattle.bc_machine.specs.declared.faults.StreamsError.TheVariants.{NameTwice}
 use Rattle.bc_machine.specs.Refusal.{refusal_from, refusal_in, refusal_of, first_of}
 
 is_short : (n : ℕ) → n ≤ 255 → nat_lt 255 n ≡ false

@@ -1,10 +1,10 @@
 -- A stream of a table, by its number.
-use Rattle.std.proofs.Common.{◌≡◌, ℕ, ◌-◌, ◌+◌, ◌<◌, ◌≤◌, zero, suc, List, [], ◌∷◌, ◌++◌, map, length, get_or, set, Bool, true, false, Option, Some, None, refl, sym, ap, ◌∙◌, arith, slice_get, slice_set}
+use Rattle.std.proofs.Common.{◌≡◌, ℕ, ◌-◌, ◌<◌, ◌≤◌, zero, suc, List, [], ◌∷◌, ◌++◌, map, length, get_or, set, true, false, Option, Some, refl, sym, ap, ◌∙◌, arith, slice_get, slice_set}
 use Rattle.std.specs.Option.{option_map}
 use Rattle.std.proofs.lemmas.Option.{slice_get_read, slice_get-map}
 use Rattle.std.proofs.lemmas.List.{map-set}
 use Rattle.bc_step.specs.Streams.{Input, Output, Content, numbered}
-use Rattle.bc_step.specs.StreamCalls.{replaced, next_byte, behind_byte, read_byte, after_read, after_write, end_stream, more_written, byte_of_input, with_input_read, with_output_written, with_input_ended, with_output_ended}
+use Rattle.bc_step.specs.StreamCalls.{next_byte, behind_byte, read_byte, after_read, after_write, end_stream, more_written, byte_of_input, with_input_read, with_output_written, with_input_ended, with_output_ended}
 use Rattle.bc_step.specs.declared.streams.Side.TheVariants as sides
 
 abbrev pub content : List Input → List Output → ℕ → ℕ → Content

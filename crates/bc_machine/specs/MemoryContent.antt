@@ -1,7 +1,6 @@
 -- What streams in memory hold.
-use Rattle.std.specs.Prelude.{ℕ, ◌+◌, ◌==◌, List, [], ◌∷◌, map, filter, drop, length, ◌++◌, Bool, true, false, Option, Some, None, cond}
+use Rattle.std.specs.Prelude.{ℕ, ◌+◌, ◌==◌, List, [], ◌∷◌, map, filter, drop, ◌++◌, Option, Some, None, cond}
 use Rattle.bc_step.specs.Streams.{Input, Output, Content, numbered}
-use Rattle.bc_machine.specs.declared.names.Named.{Named}
 use Rattle.bc_machine.specs.declared.memory.MemoryInput.{MemoryInput}
 use Rattle.bc_machine.specs.declared.memory.MemoryOutput.{MemoryOutput}
 use Rattle.bc_machine.specs.declared.memory.MemoryStreams.{MemoryStreams}

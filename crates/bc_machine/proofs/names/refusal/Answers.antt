@@ -1,5 +1,4 @@
-use Rattle.std.proofs.Common.{◌≡◌, ◌≤◌, List, ℕ, Bool, true, false, length, map, take, sym, ap, ◌∙◌, subst}
-use Rattle.std.specs.List.{list_any}
+use Rattle.std.proofs.Common.{◌≤◌, List, ℕ, length, map, take, sym, ap, ◌∙◌, subst}
 use Rattle.bc_machine.proofs.Refusals.{stands_in, passes, repeats}
 use Rattle.bc_machine.proofs.names.refusal.Goals as goal
 

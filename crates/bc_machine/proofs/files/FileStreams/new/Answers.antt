@@ -1,4 +1,4 @@
-use Rattle.std.proofs.Common.{◌≡◌, Some, None, map, sym, ap, ◌∙◌, subst}
+use Rattle.std.proofs.Common.{Some, None, map, sym, ap, ◌∙◌, subst}
 use Rattle.bc_machine.specs.Known.{AllKnown}
 use Rattle.bc_machine.specs.Names.{names_of}
 use Rattle.bc_machine.specs.Refusal.{refusal_in}

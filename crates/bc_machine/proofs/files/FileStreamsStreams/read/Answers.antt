@@ -1,4 +1,4 @@
-use Rattle.std.proofs.Common.{arith, ◌<◌, ◌≤◌, ◌-◌, length, map, ap}
+use Rattle.std.proofs.Common.{arith, ◌≤◌, ◌-◌, length, map, ap}
 use Rattle.bc_machine.specs.FileContent.{file_input, file_outputs}
 use Rattle.bc_machine.proofs.Tables.{content, reads, reads_on}
 use Rattle.bc_machine.proofs.FileOutputs.{known_at, known_after}

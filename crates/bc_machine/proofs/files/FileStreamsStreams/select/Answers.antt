@@ -1,4 +1,4 @@
-use Rattle.std.proofs.Common.{◌≡◌, length, map, vec_len, refl, sym, ap, ◌∙◌}
+use Rattle.std.proofs.Common.{◌≡◌, length, map, vec_len, refl, sym, ◌∙◌}
 use Rattle.std.proofs.lemmas.List.{length-map}
 use Rattle.bc_machine.specs.FileContent.{file_outputs}
 use Rattle.bc_machine.proofs.FileOutputs.{length_outputs}

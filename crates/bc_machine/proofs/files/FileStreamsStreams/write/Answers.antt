@@ -1,4 +1,4 @@
-use Rattle.std.proofs.Common.{arith, ◌<◌, ◌≤◌, ◌≡◌, ◌-◌, length, map, ap, sym, ◌∙◌, subst}
+use Rattle.std.proofs.Common.{arith, ◌≤◌, ◌≡◌, ◌-◌, length, map, ap, sym, ◌∙◌, subst}
 use Rattle.std.specs.Prelude.{IsSome}
 use Rattle.bc_machine.specs.FileContent.{file_input, file_outputs}
 use Rattle.bc_machine.proofs.Tables.{content}

@@ -1,6 +1,6 @@
-use Rattle.std.proofs.Common.{◌≡◌, ◌++◌, ◌∷◌, [], false, length, map, vec_len, arith, refl, sym, ap, ◌∙◌}
+use Rattle.std.proofs.Common.{◌≡◌, ◌++◌, ◌∷◌, [], false, length, map, refl, sym, ap, ◌∙◌}
 use Rattle.std.proofs.lemmas.List.{map-append, length-map}
-use Rattle.bc_machine.specs.FileContent.{told, file_outputs, fresh_outputs, devices}
+use Rattle.bc_machine.specs.FileContent.{told}
 use Rattle.bc_machine.proofs.FileOutputs.{file_outputs-append}
 use Rattle.bc_machine.proofs.files.Outputs.tables.Goals as goal
 

@@ -1,8 +1,7 @@
-use Rattle.std.proofs.Common.{refl, false, sym, ap, ◌∙◌, ◌++◌, ◌∷◌, []}
+use Rattle.std.proofs.Common.{refl, false}
 use Rattle.std.proofs.lemmas.List.{map-append}
 use Rattle.bc_step.specs.StreamStart.{fresh_output}
-use Rattle.bc_machine.specs.MemoryContent.{memory_outputs}
-use Rattle.bc_machine.specs.Names.{bytes_of, Bytes}
+use Rattle.bc_machine.specs.Names.{Bytes}
 use Rattle.bc_machine.proofs.MemoryOutputs.{memory_outputs-fresh}
 use Rattle.bc_machine.proofs.memory.MemoryOutput.table.Goals as goal
 

@@ -1,4 +1,4 @@
-use Rattle.std.proofs.Common.{arith, ◌<◌, ◌≤◌, ◌-◌, ◌+◌, ◌≡◌, true, length, map, slice_set, sym, ap, ◌∙◌, refl}
+use Rattle.std.proofs.Common.{arith, ◌≤◌, ◌-◌, ◌+◌, ◌≡◌, true, length, map, slice_set, sym, ap, ◌∙◌, refl}
 use Rattle.bc_machine.specs.MemoryContent.{memory_input, memory_outputs}
 use Rattle.bc_machine.proofs.Tables.{content, ends_input, end_output-at}
 use Rattle.bc_machine.proofs.MemoryOutputs.{numbered_output, memory_outputs-ended, output_at}

@@ -1,4 +1,4 @@
-use Rattle.std.proofs.Common.{arith, ◌<◌, ◌≤◌, ◌-◌, length}
+use Rattle.std.proofs.Common.{arith, ◌≤◌, length}
 use Rattle.bc_machine.specs.MemoryContent.{memory_input, memory_outputs}
 use Rattle.bc_machine.proofs.Tables.{reads, reads_on}
 use Rattle.bc_machine.proofs.memory.MemoryStreamsStreams.read.Goals as goal

@@ -1,4 +1,4 @@
-use Rattle.std.proofs.Common.{◌≡◌, refl, sym, ap, ◌∙◌, length, vec_len}
+use Rattle.std.proofs.Common.{◌≡◌, refl, sym, ◌∙◌, length, vec_len}
 use Rattle.bc_machine.specs.MemoryContent.{memory_outputs}
 use Rattle.bc_machine.proofs.MemoryOutputs.{length_outputs}
 use Rattle.bc_machine.proofs.memory.MemoryStreamsStreams.select.Goals as goal

@@ -1,4 +1,4 @@
-use Rattle.std.proofs.Common.{arith, ◌<◌, ◌≤◌, ◌-◌, ◌≡◌, length, map, sym, ap, ◌∙◌, refl}
+use Rattle.std.proofs.Common.{arith, ◌≤◌, length, map, sym, ap, ◌∙◌, refl}
 use Rattle.bc_machine.specs.MemoryContent.{memory_input, memory_outputs}
 use Rattle.bc_machine.proofs.Tables.{content, after_write-ended, after_write-open}
 use Rattle.bc_machine.proofs.MemoryOutputs.{numbered_output, memory_outputs-more, output_at}
