@@ -1,14 +1,14 @@
 -- Worked examples of what stands in a source.
-use Rattle.std.specs.Prelude.{◌≡◌, ℕ, ◌<◌, ◌≤◌, true, false, List, [], ◌∷◌, ◌++◌, None, codes}
+use Rattle.std.specs.Prelude.{◌≡◌, false, List, [], ◌∷◌, codes}
 use Rattle.std.proofs.Common.{refl, arith}
 use Rattle.bc_token.specs.declared.symbol.Symbol.TheVariants as symbol
 use Rattle.bc_token.specs.Spelling.{symbol_of}
-use Rattle.bc_token.specs.Token.{Lexeme, Sign, Name, Number}
-use Rattle.bc_lex.specs.Gaps.{IsBlank, Space, Line, IsGap, Nothing, More}
-use Rattle.bc_lex.specs.Quotes.{IsCharacter, Plain, Escape, Spells, Empty, More as Another, IsCut, Break, IsBadEscape, Bad}
-use Rattle.bc_lex.specs.Lexemes.{IsNumber, Decimal, Octal, Hexadecimal, value_behind, IsLexeme, Word, Named}
+use Rattle.bc_token.specs.Token.{Sign, Name}
+use Rattle.bc_lex.specs.Gaps.{IsBlank, Space, Line, Nothing, More}
+use Rattle.bc_lex.specs.Quotes.{IsCharacter, Escape, IsBadEscape, Bad}
+use Rattle.bc_lex.specs.Lexemes.{IsNumber, Octal, Hexadecimal, value_behind, IsLexeme, Word, Named}
 use Rattle.bc_lex.specs.Files.{File}
-use Rattle.bc_lex.specs.Tokens.{token, Reads, End, Next, Whole, HasTokens}
+use Rattle.bc_lex.specs.Tokens.{token, End, Next, Whole, HasTokens}
 
 -- 12, #17 and #X1F
 twelve : value_behind 10 0 (codes "12") ≡ 12

@@ -1,15 +1,14 @@
 -- Where the words of segments stand in the store.
 use Rattle.std.proofs.Common.{◌≡◌, ◌∙◌, ℕ, zero, suc, ◌+◌, ◌-◌, ◌<◌, ◌≤◌, List, [], ◌∷◌, ◌++◌, Some, take, drop, set, slice_get, length, replicate, length-append, length-drop, length-set, append_assoc, refl, ap, sym, add_assoc, add-zero, arith, subst}
-use Rattle.std.proofs.Math.Seq.{take-append_seam, drop-append-add, drop-append_seam}
+use Rattle.std.proofs.Math.Seq.{take-append_seam, drop-append-add}
 use Rattle.std.proofs.lemmas.List.{take-append-le, drop-append-le, length-replicate}
 use Rattle.bc_item.specs.Sizes.{size_of_all}
 use Rattle.bc_item.specs.Assembled.{assembled, label_places, global_settings}
 use Rattle.bc_item.specs.declared.item.Item.{Item}
-use Rattle.bc_image.specs.declared.image.SegmentPlace.{SegmentPlace}
 use Rattle.bc_link.proofs.Lengths.{length-assembled}
 use Rattle.bc_link.specs.Labels.{label_address}
 use Rattle.bc_link.specs.Layout.{size_of_segments, stack_base_of, place_at, places_from}
-use Rattle.bc_link.specs.Laws.{start_of, IsSegment, PlacesAreStarts, RangesLieBetween, RangesAreDisjoint, WordsStandAtStarts, StoreIsWhole}
+use Rattle.bc_link.specs.Laws.{IsSegment, PlacesAreStarts, RangesLieBetween, RangesAreDisjoint, WordsStandAtStarts, StoreIsWhole}
 use Rattle.bc_link.specs.Store.{boot, words_from, with_settings, with_globals_from, globals_of, store_of}
 
 -- the words in front of the segment of this number
