@@ -2,3 +2,4 @@ pub mod Lists
 pub mod Turns
 pub mod Ties
 pub mod Parses
+pub mod Views

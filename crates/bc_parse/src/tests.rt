@@ -184,3 +184,33 @@ fn stops_at_the_bounds(rt: HostRuntime) -> Result<(), Fail> {
     assert_eq!(rt; fault(alloc, all.as_slice())?, None);
     Ok(())
 }
+
+/// What `parse` answers to texts that make it take memory in each of its ways, the first fault if
+/// there is one; None where memory for a text's tokens was refused.
+fn grown(alloc: Global) -> Option<Result<(), ParseError>> {
+    let texts: [&[u8]; 4] = [
+        b"LET START ( ) BE $(A $( WRCH ( 'A' ) $)A",
+        b"LET START ( ) BE WRCH ( 'A' )",
+        b"LET S ( ) BE X := A + B * C",
+        b"MANIFEST $( N = 1 $) ; LET F ( P , Q ) = - P -> Q , TABLE 1 AND S ( ) BE $( CASE N : F ( ) REPEATWHILE A ; B := C $) REPEATUNTIL D REPEAT",
+    ];
+    for text in texts {
+        let all = tokens(alloc, text).ok()?;
+        if let Err(error) = parse(alloc, all.as_slice()) {
+            return Some(Err(error));
+        }
+    }
+    Some(Ok(()))
+}
+
+#[test]
+fn growth_is_given(rt: HostRuntime) {
+    assert_eq!(rt; grown(rt.alloc()), Some(Ok(())));
+}
+
+// With `.ci/refusals`, which has each allocation refused in turn: `Memory` is the answer then, and
+// nothing else.
+#[test]
+fn refused_growth_is_memory(rt: HostRuntime) {
+    assert!(rt; matches!(grown(rt.alloc()), None | Some(Ok(())) | Some(Err(ParseError::Memory))));
+}

@@ -1,12 +1,52 @@
-use Rattle.std.proofs.Common.{◌≡◌, ◌∙◌, ◌+◌, ◌-◌, length, arith, ap, Err, Ok, refl, sym}
+use Rattle.std.proofs.Common.{◌≡◌, ◌∙◌, ◌+◌, ◌-◌, length, arith, ap, Err, Ok, refl, sym, eqb, true}
 use Rattle.std.proofs.lemmas.Result.{err_from_is_err_and}
-use Rattle.bc_reading.specs.Reading as reading
-use Rattle.bc_reading.specs.Reading.{piece, exp_of, command_of, definition_of, exps_turn, grow_turn, repeat_turn, label_read, label_start, entry_turn, definition_turn, place_turn, exps_read, grow_read, repeats_read, labels_read, entries_read, definitions_read, places_read}
+use Rattle.bc_reading.specs.Reading.{piece, exp_of, command_of, definition_of, exps_turn, grow_turn, repeat_turn, label_read, label_start, entry_turn, definition_turn, place_turn, exps_read, grow_read, repeats_read, labels_read, entries_read, definitions_read, places_read, entry_read, assigned_read}
 use Rattle.bc_parse.specs.Seen.{seen}
 use Rattle.bc_parse.proofs.Turns.{turns_next, turns_done, turns_fails, turns_spent, fails_then}
-use Rattle.bc_parse.proofs.Lists.{length_seen}
+use Rattle.bc_parse.proofs.Lists.{length_seen, exps_view_push, labels_view_push, entries_view_push}
 use Rattle.bc_parse.proofs.Ties.{exp_runs, command_runs, definition_runs}
+use Rattle.std.proofs.lemmas.Bool.{eq-eqb}
+use Rattle.bc_tree.specs.View.{exp_view, exps_view}
+use Rattle.bc_tree.specs.Spelling.{add_exp, count}
+use Rattle.bc_parse.proofs.Views.{case_view, default_view, named_view, call_view, assign_view}
+use Rattle.bc_tree.specs.declared.tree.Constant.{fold-roll-Constant}
+use Rattle.bc_reading.specs.Reading as reading
 use Rattle.bc_parse.proofs.parser.+parser.Goals as goal
+
+pub exp-returns-in_err-first-clause-read : goal.exp-returns-in_err-first-clause-read
+exp-returns-in_err-first-clause-read t c = λ n h.
+    let a = c.args in
+    let p = err_from_is_err_and c.from_residual.result c.from_residual.ensures.1 in
+    rw (p.1, p.2, exp_runs n a.nest a.round a.level (seen a.rest) (omega arith) (omega arith)) (fails_then c.in_err-first.field-0.0 _ _ (c.in_err-first.ensures.read (n - 1) (omega arith)))
+
+pub exp-returns-clause-read : goal.exp-returns-clause-read
+exp-returns-clause-read t c = λ n h.
+    let a = c.args in
+    rw (exp_runs n a.nest a.round a.level (seen a.rest) (omega arith) (omega arith), c.in_ok-first.ensures.read (n - 1) (omega arith), length_seen a.rest) (c.grow.ensures.read (n - 1) (omega arith))
+
+pub grow-returns-in_err-e-clause-read : goal.grow-returns-in_err-e-clause-read
+unfolding grow_read
+grow-returns-in_err-e-clause-read t c = λ n h.
+    let a = c.args in
+    let p = err_from_is_err_and c.from_residual.result c.from_residual.ensures.1 in
+    rw (p.1, p.2) (fails_then c.in_err-e.field-0.0 _ _ (turns_fails (grow_turn (exp_of n) a.nest a.round a.begin a.level) (length (seen a.rest) + 1) c.loop.counter _ _ (c.loop.invariant.read n h) c.in_err-e.field-0.0 (omega arith) (c.in_err-e.ensures.read n h)))
+
+pub grow-returns-then-is_last-clause-read : goal.grow-returns-then-is_last-clause-read
+unfolding grow_read
+grow-returns-then-is_last-clause-read t c = λ n h. let a = c.args in rw (turns_done (grow_turn (exp_of n) a.nest a.round a.begin a.level) (length (seen a.rest) + 1) c.loop.counter _ _ (c.loop.invariant.read n h) _ _ (omega arith) (c.in_ok-e.ensures.read n h) c.if-is_last.true) refl
+
+pub grow-loop-preserved : goal.grow-loop-preserved
+grow-loop-preserved t c =
+    let a = c.args in
+    record {
+      total = c.loop.invariant.total;
+      low = c.in_ok-e.ensures.low;
+      read = λ n h. turns_next (grow_turn (exp_of n) a.nest a.round a.begin a.level) (length (seen a.rest) + 1) c.loop.counter _ _ (c.loop.invariant.read n h) _ _ (omega arith) (c.in_ok-e.ensures.read n h) c.if-is_last.false;
+    }
+
+pub grow-returns-clause-read : goal.grow-returns-clause-read
+unfolding grow_read
+grow-returns-clause-read t c = λ n h. let a = c.args in rw (turns_spent (grow_turn (exp_of n) a.nest a.round a.begin a.level) (length (seen a.rest) + 1) c.loop.counter _ _ (c.loop.invariant.read n h) (omega arith)) (ap (λ m. Err (reading.Expected m)) (length_seen c.loop.behind))
 
 pub exps-returns-in_err-list-clause-read : goal.exps-returns-in_err-list-clause-read
 unfolding exps_read
@@ -32,29 +72,12 @@ pub exps-returns-clause-read : goal.exps-returns-clause-read
 unfolding exps_read
 exps-returns-clause-read t c = λ n h. let a = c.args in turns_spent (exps_turn (exp_of n) a.nest a.round a.level a.limit) (length (seen a.rest) + 1) c.loop.counter _ _ (c.loop.invariant.read n h) (omega arith) ∙ ap (λ m. Err (reading.Expected m)) (length_seen c.loop.behind)
 
-pub grow-returns-in_err-e-clause-read : goal.grow-returns-in_err-e-clause-read
-unfolding grow_read
-grow-returns-in_err-e-clause-read t c = λ n h.
-    let a = c.args in
-    let p = err_from_is_err_and c.from_residual.result c.from_residual.ensures.1 in
-    rw (p.1, p.2) (fails_then c.in_err-e.field-0.0 _ _ (turns_fails (grow_turn (exp_of n) a.nest a.round a.begin a.level) (length (seen a.rest) + 1) c.loop.counter _ _ (c.loop.invariant.read n h) c.in_err-e.field-0.0 (omega arith) (c.in_err-e.ensures.read n h)))
-
-pub grow-returns-then-is_last-clause-read : goal.grow-returns-then-is_last-clause-read
-unfolding grow_read
-grow-returns-then-is_last-clause-read t c = λ n h. let a = c.args in rw (turns_done (grow_turn (exp_of n) a.nest a.round a.begin a.level) (length (seen a.rest) + 1) c.loop.counter _ _ (c.loop.invariant.read n h) _ _ (omega arith) (c.in_ok-e.ensures.read n h) c.if-is_last.true) refl
-
-pub grow-loop-preserved : goal.grow-loop-preserved
-grow-loop-preserved t c =
-    let a = c.args in
-    record {
-      total = c.loop.invariant.total;
-      low = c.in_ok-e.ensures.low;
-      read = λ n h. turns_next (grow_turn (exp_of n) a.nest a.round a.begin a.level) (length (seen a.rest) + 1) c.loop.counter _ _ (c.loop.invariant.read n h) _ _ (omega arith) (c.in_ok-e.ensures.read n h) c.if-is_last.false;
-    }
-
-pub grow-returns-clause-read : goal.grow-returns-clause-read
-unfolding grow_read
-grow-returns-clause-read t c = λ n h. let a = c.args in rw (turns_spent (grow_turn (exp_of n) a.nest a.round a.begin a.level) (length (seen a.rest) + 1) c.loop.counter _ _ (c.loop.invariant.read n h) (omega arith)) (ap (λ m. Err (reading.Expected m)) (length_seen c.loop.behind))
+pub exps_step-returns-then-exp_count-limit-clause-read : goal.exps_step-returns-then-exp_count-limit-clause-read
+unfolding exps_turn
+exps_step-returns-then-exp_count-limit-clause-read t c = λ n h.
+    let items : exps_view c.push.new.self.items ≡ add_exp (exps_view c.args.list.items) (exp_view c.in_ok-e.e) = ap exps_view c.in_ok-push.ensures.items ∙ exps_view_push c.args.list.items c.in_ok-e.e in
+    let full : eqb (count (add_exp (exps_view c.args.list.items) (exp_view c.in_ok-e.e))) c.args.limit ≡ true = eq-eqb _ _ (ap count (sym items) ∙ sym c.exp_count.ensures ∙ c.if-exp_count-limit.true) in
+    rw (c.in_ok-e.ensures.read n h, full, items, c.max-height.ensures) refl
 
 pub repeats-returns-in_err-c-clause-read : goal.repeats-returns-in_err-c-clause-read
 unfolding repeats_read
@@ -104,6 +127,18 @@ pub labels-returns-clause-read : goal.labels-returns-clause-read
 unfolding labels_read
 labels-returns-clause-read t c = λ n h. let a = c.args in turns_spent (λ s. label_read (exp_of n) a.nest a.round s (label_start s.rest)) (length (seen a.rest) + 1) c.loop.counter _ _ (c.loop.invariant.read n h) (omega arith) ∙ ap (λ m. Err (reading.Expected m)) (length_seen c.loop.behind)
 
+pub label_step-returns-in_ok-push-in-Case-clause-read : goal.label_step-returns-in_ok-push-in-Case-clause-read
+unfolding label_read
+label_step-returns-in_ok-push-in-Case-clause-read t c = λ n h. rw (← c.in-Case.ensures, c.in_ok-value-in-Case.ensures.read n h, c.in_ok-behind-in-Case.ensures, c.in_ok-push-in-Case.ensures.items, labels_view_push, case_view, c.max.ensures) refl
+
+pub label_step-returns-in_ok-push-in-Default-clause-read : goal.label_step-returns-in_ok-push-in-Default-clause-read
+unfolding label_read
+label_step-returns-in_ok-push-in-Default-clause-read t c = λ n h. rw (← c.in-Default.ensures, c.in_ok-behind-in-Default.ensures, c.in_ok-push-in-Default.ensures.items, labels_view_push, default_view) refl
+
+pub label_step-returns-in_ok-push-in-Name-clause-read : goal.label_step-returns-in_ok-push-in-Name-clause-read
+unfolding label_read
+label_step-returns-in_ok-push-in-Name-clause-read t c = λ n h. rw (← c.in-Name.ensures, c.in_ok-push-in-Name.ensures.items, labels_view_push, named_view) refl
+
 pub entries-returns-in_err-list-clause-read : goal.entries-returns-in_err-list-clause-read
 unfolding entries_read
 entries-returns-in_err-list-clause-read t c = λ n h.
@@ -127,6 +162,10 @@ entries-loop-preserved t c =
 pub entries-returns-clause-read : goal.entries-returns-clause-read
 unfolding entries_read
 entries-returns-clause-read t c = λ n h. let a = c.args in turns_spent (entry_turn (exp_of n) a.nest a.round) (length (seen a.rest) + 1) c.loop.counter _ _ (c.loop.invariant.read n h) (omega arith) ∙ ap (λ m. Err (reading.Expected m)) (length_seen c.loop.behind)
+
+pub entry-returns-clause-read : goal.entry-returns-clause-read
+unfolding entry_read
+entry-returns-clause-read t c = λ n h. rw (c.in_ok-name.ensures, c.in_ok-behind.ensures, c.in_ok-value.ensures.read n h, c.in_ok-push.ensures.items, entries_view_push, fold-roll-Constant, c.max.ensures) refl
 
 pub definitions-returns-in_err-list-clause-read : goal.definitions-returns-in_err-list-clause-read
 unfolding definitions_read
@@ -176,19 +215,18 @@ pub places-returns-clause-read : goal.places-returns-clause-read
 unfolding places_read
 places-returns-clause-read t c = λ n h. let a = c.args in turns_spent (place_turn (exp_of n) (command_of n) (definition_of n) a.mode a.nest a.round) (length (seen a.rest) + 1) c.loop.counter _ _ (c.loop.invariant.read n h) (omega arith) ∙ ap (λ m. Err (reading.Expected m)) (length_seen c.loop.behind)
 
-pub exp-returns-in_err-first-clause-read : goal.exp-returns-in_err-first-clause-read
-exp-returns-in_err-first-clause-read t c = λ n h.
-    let a = c.args in
-    let p = err_from_is_err_and c.from_residual.result c.from_residual.ensures.1 in
-    rw (p.1, p.2, exp_runs n a.nest a.round a.level (seen a.rest) (omega arith) (omega arith)) (fails_then c.in_err-first.field-0.0 _ _ (c.in_err-first.ensures.read (n - 1) (omega arith)))
-
-pub exp-returns-clause-read : goal.exp-returns-clause-read
-exp-returns-clause-read t c = λ n h.
-    let a = c.args in
-    rw (exp_runs n a.nest a.round a.level (seen a.rest) (omega arith) (omega arith), c.in_ok-first.ensures.read (n - 1) (omega arith), length_seen a.rest) (c.grow.ensures.read (n - 1) (omega arith))
-
 pub command-returns-clause-read : goal.command-returns-clause-read
 command-returns-clause-read t c = λ n h. let a = c.args in rw (command_runs n a.nest a.round (seen a.rest) (omega arith) (omega arith)) (c.worded.ensures.read (n - 1) (omega arith))
+
+pub assigned-returns-in-Some-one_call-clause-read : goal.assigned-returns-in-Some-one_call-clause-read
+unfolding assigned_read
+assigned-returns-in-Some-one_call-clause-read t c = λ n h. rw (length_seen c.args.rest, c.in_ok-targets.ensures.read n (omega arith), ← c.in-None.ensures, ← c.in-Some-one_call.ensures, call_view) refl
+
+pub assigned-returns-else-exp_count-limit-clause-read : goal.assigned-returns-else-exp_count-limit-clause-read
+unfolding assigned_read
+assigned-returns-else-exp_count-limit-clause-read t c = λ n h.
+    let same : eqb (count (exps_view c.in_ok-values-in-Some.values.items)) c.exp_count-limit.result ≡ true = eq-eqb _ _ (sym c.exp_count.ensures ∙ c.if-exp_count-limit.false) in
+    rw (length_seen c.args.rest, c.in_ok-targets.ensures.read n (omega arith), ← c.in-Some.ensures, ← c.exp_count-limit.ensures, c.in_ok-values-in-Some.ensures.read n (omega arith), same, assign_view, c.max.ensures) refl
 
 pub definition-returns-clause-read : goal.definition-returns-clause-read
 definition-returns-clause-read t c = λ n h. let a = c.args in rw (definition_runs n a.nest a.round (seen a.rest) (omega arith) (omega arith)) (c.defined.ensures.read (n - 1) (omega arith))
