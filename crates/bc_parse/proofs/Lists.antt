@@ -1,5 +1,5 @@
 -- One more at the end of a list that a function gathers.
-use Rattle.std.proofs.Common.{◌≡◌, ℕ, ◌+◌, Bool, true, false, List, [], ◌∷◌, ◌++◌, length, map, refl, sym, ap, ◌∙◌, arith}
+use Rattle.std.proofs.Common.{◌≡◌, ℕ, Bool, true, false, List, [], ◌∷◌, ◌++◌, length, map, refl, sym, ap, ◌∙◌, arith}
 use Rattle.std.specs.Borrow.{Bor}
 use Rattle.std.proofs.lemmas.List.{map_push, length-map}
 use Rattle.bc_tree.specs.declared.tree.Constant as code_constant
@@ -15,7 +15,7 @@ use Rattle.bc_parse.specs.declared.cursor.Rest.{Rest}
 use Rattle.bc_reading.specs.Reading.{no_item_yet, some_label, call_in}
 use Rattle.bc_tree.specs.Tree.{none}
 use Rattle.bc_tree.specs.Tree as tree
-use Rattle.std.proofs.Common.{Option, Some, None, eqb, not}
+use Rattle.std.proofs.Common.{None, eqb, not}
 use Rattle.std.proofs.lemmas.Bool.{eqb-true}
 use Rattle.std.proofs.Common.{◌<◌}
 use Rattle.bc_parse.specs.Seen.{seen}

@@ -1,11 +1,11 @@
 -- What parsing answers, from closing and reading.
-use Rattle.std.proofs.Common.{◌≡◌, ◌∙◌, ℕ, ◌-◌, ◌≤◌, List, length, Result, Ok, Err, refl, sym, ap, subst, arith}
+use Rattle.std.proofs.Common.{◌≡◌, ◌∙◌, ℕ, ◌≤◌, List, length, Result, Ok, Err, refl, sym, ap, subst, arith}
 use Rattle.bc_token.specs.Token.{Lexeme}
 use Rattle.bc_tree.specs.Parts.{Part}
 use Rattle.bc_tree.specs.Tree.{Declarations}
 use Rattle.bc_tree.specs.Spelling.{SpellsSection}
 use Rattle.bc_tree.specs.Height.{declarations_height}
-use Rattle.bc_tree.specs.Size.{declarations_size, weight}
+use Rattle.bc_tree.specs.Size.{declarations_size}
 use Rattle.bc_tree.specs.Laws.{SizeIsBounded}
 use Rattle.bc_close.specs.Closing.{Placed, closed_list, parts_in, places_in}
 use Rattle.bc_close.specs.Closing as closing

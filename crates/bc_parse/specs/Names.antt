@@ -1,5 +1,5 @@
 -- Lists of names, without where they lie in memory.
-use Rattle.std.specs.Prelude.{◌≡◌, ℕ, Bool, List, map, Vec, Result}
+use Rattle.std.specs.Prelude.{ℕ, Bool, List, map, Vec, Result}
 use Rattle.std.specs.Borrow.{Bor}
 use Rattle.std.specs.declared.alloc.Global.{Global}
 use Rattle.bc_reading.specs.Reading.{Fault, Piece, piece}

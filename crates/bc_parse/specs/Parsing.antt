@@ -1,5 +1,5 @@
 -- What parsing answers.
-use Rattle.std.specs.Prelude.{◌≡◌, ℕ, ◌-◌, List, length, Option, Some, None, Result, Ok, Err, unwrap_or, slice_get}
+use Rattle.std.specs.Prelude.{◌≡◌, ℕ, ◌-◌, List, length, Result, Ok, Err, unwrap_or, slice_get}
 use Rattle.bc_token.specs.Token.{Lexeme}
 use Rattle.bc_tree.specs.Tree.{Declarations}
 use Rattle.bc_tree.specs.Spelling.{SpellsSection}

@@ -1,5 +1,4 @@
 -- What stands in front, without where it lies in memory.
-use Rattle.std.specs.Prelude.{ℕ, List}
 use Rattle.bc_reading.specs.Reading.{Following, LabelStart, Shape}
 use Rattle.bc_reading.specs.Reading as reading
 use Rattle.bc_parse.specs.Seen.{seen}

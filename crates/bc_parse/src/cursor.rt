@@ -9,8 +9,8 @@ use crate::fault::ReadFault;
 use bc_reading::words;
 use bc_reading::words::{CommandWord, DeclarationWord, Places, RepeatWord, SimpleWord, Start};
 use bc_token::Symbol;
-use bc_word::Word;
 use bc_tree::{Dyadic, Exp, Part};
+use bc_word::Word;
 
 /// The parts from a place to the end.
 #[derive(Clone, Copy)]
@@ -31,7 +31,11 @@ pub fn after<'s, 't>(wanted: Symbol, rest: Rest<'s, 't>) -> Option<Rest<'s, 't>>
     ensures { option_map (λ x. seen x) result ≡ after_of wanted (seen rest.entry) }
 {
     match first(rest) {
-        Some((Part::Symbol(symbol), behind)) => if symbol.is(wanted) { Some(behind) } else { None },
+        Some((Part::Symbol(symbol), behind)) => if symbol.is(wanted) {
+            Some(behind)
+        } else {
+            None
+        },
         _ => None,
     }
 }
@@ -156,10 +160,18 @@ pub fn following_at<'s, 't>(level: usize, top: usize, rest: Rest<'s, 't>) -> Fol
 {
     match first(rest) {
         Some((Part::Symbol(Symbol::OpenBracket), behind)) => {
-            if top < 12 { Follow::Ends } else { Follow::Arguments(behind) }
+            if top < 12 {
+                Follow::Ends
+            } else {
+                Follow::Arguments(behind)
+            }
         }
         Some((Part::Symbol(Symbol::Arrow), behind)) => {
-            if 1 < level || top < 2 { Follow::Ends } else { Follow::Choice(behind) }
+            if 1 < level || top < 2 {
+                Follow::Ends
+            } else {
+                Follow::Choice(behind)
+            }
         }
         Some((Part::Symbol(symbol), behind)) => match words::dyadic(*symbol) {
             Some(op) => operator(level, top, op, behind),

@@ -4,7 +4,6 @@
 mod cursor;
 mod error;
 mod fault;
-
 mod parser;
 mod section;
 
@@ -14,7 +13,6 @@ pub use bc_tree::{
 };
 pub use error::ParseError;
 pub use section::parse;
-
 
 #[cfg(test)]
 mod tests;

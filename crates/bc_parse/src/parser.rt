@@ -12,9 +12,13 @@ use crate::cursor;
 use crate::cursor::{Follow, LabelAt, Rest, ShapeAt};
 use crate::fault::ReadFault;
 use bc_reading::words;
-use bc_reading::words::{CommandWord, DeclarationWord, Places, RepeatWord, SimpleWord, Start, Tested};
+use bc_reading::words::{
+    CommandWord, DeclarationWord, Places, RepeatWord, SimpleWord, Start, Tested,
+};
 use bc_token::Symbol;
-use bc_tree::{Block, Command, Constant, Declaration, Definition, Dyadic, Exp, Item, Label, Monadic, Section};
+use bc_tree::{
+    Block, Command, Constant, Declaration, Definition, Dyadic, Exp, Item, Label, Monadic, Section,
+};
 use std::alloc::Global;
 
 /// One more name, and whether it is the last.
@@ -89,7 +93,17 @@ fn exp<'s, 't>(
         return Err(ReadFault::TooDeep(rest.parts.len()));
     }
     let (first, top, height, behind) = operand(alloc, nest, round, rest)?;
-    grow(alloc, nest, round, rest.parts.len(), level, first, top, height, behind)
+    grow(
+        alloc,
+        nest,
+        round,
+        rest.parts.len(),
+        level,
+        first,
+        top,
+        height,
+        behind,
+    )
 }
 
 /// An operand, with the level that it has.
@@ -240,7 +254,9 @@ fn grow<'s, 't>(
     let mut height = first_height;
     let mut behind = rest;
     for _ in 0..rest.parts.len() + 1 {
-        let (e, t, h, then, is_last) = grow_step(alloc, nest, round, begin, level, left, top, height, behind)?;
+        let (e, t, h, then, is_last) = grow_step(
+            alloc, nest, round, begin, level, left, top, height, behind,
+        )?;
         if is_last {
             return Ok((e, h, then));
         }
@@ -273,7 +289,16 @@ fn grow_step<'s, 't>(
     if let Follow::Ends = next {
         return Ok((left, top, height, rest, true));
     }
-    let (e, t, h, behind) = suffix(alloc, nest, round, begin, next, left, height, rest.parts.len())?;
+    let (e, t, h, behind) = suffix(
+        alloc,
+        nest,
+        round,
+        begin,
+        next,
+        left,
+        height,
+        rest.parts.len(),
+    )?;
     Ok((e, t, h, behind, false))
 }
 
@@ -378,7 +403,11 @@ fn chosen<'s, 't>(
     let left = Box::new(alloc, left)?;
     let x = Box::new(alloc, x)?;
     let y = Box::new(alloc, y)?;
-    Ok((Exp::Condition(left, x, y), height.max(x_height).max(y_height) + 1, behind))
+    Ok((
+        Exp::Condition(left, x, y),
+        height.max(x_height).max(y_height) + 1,
+        behind,
+    ))
 }
 
 #[cycle(parser)]
@@ -419,7 +448,9 @@ fn exps<'s, 't>(
     let mut height = 0usize;
     let mut behind = rest;
     for _ in 0..rest.parts.len() + 1 {
-        let (list, h, then, is_last) = exps_step(alloc, nest, round, level, limit, found, height, behind)?;
+        let (list, h, then, is_last) = exps_step(
+            alloc, nest, round, level, limit, found, height, behind,
+        )?;
         if is_last {
             return Ok((list, h, then));
         }
@@ -537,12 +568,22 @@ fn repeat_by<'s, 't>(
         RepeatWord::While => {
             let (test, h, behind) = exp(alloc, nest - 1, round, 1, rest)?;
             let whole = Box::new(alloc, whole)?;
-            Ok((Command::RepeatWhile(whole, test), height.max(h) + 1, behind, false))
+            Ok((
+                Command::RepeatWhile(whole, test),
+                height.max(h) + 1,
+                behind,
+                false,
+            ))
         }
         RepeatWord::Until => {
             let (test, h, behind) = exp(alloc, nest - 1, round, 1, rest)?;
             let whole = Box::new(alloc, whole)?;
-            Ok((Command::RepeatUntil(whole, test), height.max(h) + 1, behind, false))
+            Ok((
+                Command::RepeatUntil(whole, test),
+                height.max(h) + 1,
+                behind,
+                false,
+            ))
         }
     }
 }
@@ -696,10 +737,24 @@ fn item<'s, 't>(
 {
     let (found, height, behind) = labels(alloc, nest, round, rest)?;
     if has_label(&found) && cursor::is_place_end_at(behind) {
-        return Ok((Item { labels: found, command: None }, height, behind));
+        return Ok((
+            Item {
+                labels: found,
+                command: None,
+            },
+            height,
+            behind,
+        ));
     }
     let (c, h, behind) = command(alloc, nest, round, behind)?;
-    Ok((Item { labels: found, command: Some(c) }, height.max(h), behind))
+    Ok((
+        Item {
+            labels: found,
+            command: Some(c),
+        },
+        height.max(h),
+        behind,
+    ))
 }
 
 /// The definitions of a LET, which AND joins.
@@ -824,7 +879,16 @@ fn place_step<'s, 't>(
     items: Vec<Item<'s>>,
     height: usize,
     rest: Rest<'s, 't>,
-) -> Result<(Vec<Declaration<'s>>, Vec<Item<'s>>, usize, Rest<'s, 't>, bool), ReadFault>
+) -> Result<
+    (
+        Vec<Declaration<'s>>,
+        Vec<Item<'s>>,
+        usize,
+        Rest<'s, 't>,
+        bool,
+    ),
+    ReadFault,
+>
     requires { height ≤ nest }
     ensures read { (n : ℕ) → nest + round ≤ n → PlacesTurn result (place_turn (exp_of n) (command_of n) (definition_of n) mode nest round (piece (declarations_view declarations.entry.items, items_view items.entry.items) height (seen rest.entry))) }
     ensures low { IfOk result (λ x. x.2 ≤ nest) }
@@ -858,7 +922,16 @@ fn places<'s, 't>(
     let mut height = 0usize;
     let mut behind = rest;
     for _ in 0..rest.parts.len() + 1 {
-        let (d, i, h, then, is_last) = place_step(alloc, nest, round, mode, declarations, items, height, behind)?;
+        let (d, i, h, then, is_last) = place_step(
+            alloc,
+            nest,
+            round,
+            mode,
+            declarations,
+            items,
+            height,
+            behind,
+        )?;
         if is_last {
             return Ok((d, i, h, then));
         }
@@ -883,7 +956,14 @@ fn block<'s, 't>(
     ensures low { IfOk result (λ x. x.1 ≤ nest) }
 {
     let (declarations, items, height, behind) = places(alloc, nest, round, Places::Block, rest)?;
-    Ok((Block { declarations, items }, height, behind))
+    Ok((
+        Block {
+            declarations,
+            items,
+        },
+        height,
+        behind,
+    ))
 }
 
 /// A block that is a body, unless a REPEAT word follows it.
@@ -1131,7 +1211,11 @@ fn test<'s, 't>(
     let (first, first_height, behind) = do_body(alloc, nest - 1, round, behind)?;
     let behind = cursor::expect(Symbol::Else, behind)?;
     let (other, other_height, behind) = body(alloc, nest - 1, round, behind)?;
-    Ok((Command::Test(test, first, other), h.max(first_height).max(other_height) + 1, behind))
+    Ok((
+        Command::Test(test, first, other),
+        h.max(first_height).max(other_height) + 1,
+        behind,
+    ))
 }
 
 #[cycle(parser)]
@@ -1357,15 +1441,16 @@ fn declared<'s, 't>(
 {
     match mode {
         Places::Cases => None,
-        _ => if is_first { cursor::declaration_word(rest) } else { None },
+        _ => if is_first {
+            cursor::declaration_word(rest)
+        } else {
+            None
+        },
     }
 }
 
 /// The parts behind an element of a list of places, and whether the list ends there.
-fn place_end_at<'s, 't>(
-    mode: Places,
-    rest: Rest<'s, 't>,
-) -> Result<(Rest<'s, 't>, bool), ReadFault>
+fn place_end_at<'s, 't>(mode: Places, rest: Rest<'s, 't>) -> Result<(Rest<'s, 't>, bool), ReadFault>
     ensures { Gives (λ x. (seen x.0, x.1)) result (place_end mode (seen rest.entry)) }
 {
     match cursor::separator(rest) {
@@ -1403,8 +1488,17 @@ fn body_from<'s>(
         Command::Block(inner) => Ok((inner, height.saturating_sub(1))),
         other => {
             let mut items = Vec::new(alloc);
-            items.push(Item { labels: Vec::new(alloc), command: Some(other) })?;
-            Ok((Block { declarations: Vec::new(alloc), items }, height))
+            items.push(Item {
+                labels: Vec::new(alloc),
+                command: Some(other),
+            })?;
+            Ok((
+                Block {
+                    declarations: Vec::new(alloc),
+                    items,
+                },
+                height,
+            ))
         }
     }
 }

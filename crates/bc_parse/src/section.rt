@@ -26,10 +26,10 @@ fn place(places: &[usize], left: usize, end: usize) -> usize
 
 /// The section that the tokens spell. The caller hands in at most 60,000 tokens.
 ///
-/// `NotOpen`, then `Unclosed` come before all other faults; `Expected` and `TooDeep` name the first
-/// token from the left that no section goes on with, and at which more than 200 definitions,
-/// commands and expressions would stand one within another or more than 400 round brackets would
-/// be open. `Memory` comes where an allocation was refused.
+/// `NotOpen`, then `Unclosed` come before all other faults. `Expected` names the token at which
+/// reading from left to right finds none that may stand there, and `TooDeep` the token at which more
+/// than 200 definitions, commands and expressions would stand one within another or more than 400
+/// round brackets would be open. `Memory` comes where an allocation was refused.
 pub fn parse<'s>(alloc: Global, tokens: &[Token<'s>]) -> Result<Section<'s>, ParseError>
     // What is answered is spelled by the tokens, all of them.
     ensures spelled { IfOk result (λ s. TokensSpell (lexemes_of tokens.now) (section_view s)) }

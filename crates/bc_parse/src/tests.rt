@@ -125,11 +125,17 @@ fn names_the_token_that_is_wrong(rt: HostRuntime) -> Result<(), Fail> {
         (b"LET S ( ) BE FOR 1", ParseError::Expected(6)),
         (b"LET S ( ) BE FOR I 1", ParseError::Expected(7)),
         (b"LET S ( ) BE FOR I = 1 DO", ParseError::Expected(9)),
-        (b"LET S ( ) BE TEST A THEN B ( ) C", ParseError::Expected(11)),
+        (
+            b"LET S ( ) BE TEST A THEN B ( ) C",
+            ParseError::Expected(11),
+        ),
         (b"LET S ( ) BE SWITCHON A $( $)", ParseError::Expected(7)),
         (b"LET S ( ) BE SWITCHON A INTO B", ParseError::Expected(8)),
         (b"LET S ( ) BE $( F ( ) G ( ) $)", ParseError::Expected(9)),
-        (b"LET S ( ) BE $( F ( ) ; LET A = 1 $)", ParseError::Expected(10)),
+        (
+            b"LET S ( ) BE $( F ( ) ; LET A = 1 $)",
+            ParseError::Expected(10),
+        ),
         (b"LET S ( ) BE $( CASE 1 F ( ) $)", ParseError::Expected(8)),
         (b"MANIFEST A", ParseError::Expected(1)),
         (b"MANIFEST $( A 1 $)", ParseError::Expected(3)),
@@ -144,11 +150,23 @@ fn names_the_token_that_is_wrong(rt: HostRuntime) -> Result<(), Fail> {
 
 #[test]
 fn names_section_brackets_first(rt: HostRuntime) -> Result<(), Fail> {
-    assert_eq!(rt; fault(rt.alloc(), b"LET START ( ) BE $(A $)C")?, Some(ParseError::NotOpen(6)));
-    assert_eq!(rt; fault(rt.alloc(), b"LET START ( ) BE $(")?, Some(ParseError::Unclosed));
+    assert_eq!(rt;
+        fault(rt.alloc(), b"LET START ( ) BE $(A $)C")?,
+        Some(ParseError::NotOpen(6))
+    );
+    assert_eq!(rt;
+        fault(rt.alloc(), b"LET START ( ) BE $(")?,
+        Some(ParseError::Unclosed)
+    );
     assert_eq!(rt; fault(rt.alloc(), b"X $)")?, Some(ParseError::NotOpen(1)));
-    assert_eq!(rt; fault(rt.alloc(), b"X $( $(A $)A $( $)B")?, Some(ParseError::NotOpen(5)));
-    assert_eq!(rt; fault(rt.alloc(), b"LET START ( ) BE $(A $( WRCH ( 'A' ) $)A")?, None);
+    assert_eq!(rt;
+        fault(rt.alloc(), b"X $( $(A $)A $( $)B")?,
+        Some(ParseError::NotOpen(5))
+    );
+    assert_eq!(rt;
+        fault(rt.alloc(), b"LET START ( ) BE $(A $( WRCH ( 'A' ) $)A")?,
+        None
+    );
     Ok(())
 }
 
@@ -176,9 +194,15 @@ fn stops_at_the_bounds(rt: HostRuntime) -> Result<(), Fail> {
     let deep = repeated(alloc, front, b"- ", 197, b"1")?;
     assert_eq!(rt; fault(alloc, deep.as_slice())?, None);
     let deep = repeated(alloc, front, b"- ", 198, b"1")?;
-    assert_eq!(rt; fault(alloc, deep.as_slice())?, Some(ParseError::TooDeep(205)));
+    assert_eq!(rt;
+        fault(alloc, deep.as_slice())?,
+        Some(ParseError::TooDeep(205))
+    );
     let open = repeated(alloc, front, b"( ", 401, b"1")?;
-    assert_eq!(rt; fault(alloc, open.as_slice())?, Some(ParseError::TooDeep(407)));
+    assert_eq!(rt;
+        fault(alloc, open.as_slice())?,
+        Some(ParseError::TooDeep(407))
+    );
     let open = repeated(alloc, front, b"( ", 400, b"1")?;
     let all = repeated(alloc, open.as_slice(), b" )", 400, b"")?;
     assert_eq!(rt; fault(alloc, all.as_slice())?, None);
@@ -212,5 +236,10 @@ fn growth_is_given(rt: HostRuntime) {
 // nothing else.
 #[test]
 fn refused_growth_is_memory(rt: HostRuntime) {
-    assert!(rt; matches!(grown(rt.alloc()), None | Some(Ok(())) | Some(Err(ParseError::Memory))));
+    assert!(rt;
+        matches!(
+            grown(rt.alloc()),
+            None | Some(Ok(())) | Some(Err(ParseError::Memory))
+        )
+    );
 }

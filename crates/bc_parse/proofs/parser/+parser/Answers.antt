@@ -1,4 +1,4 @@
-use Rattle.std.proofs.Common.{◌≡◌, ◌∙◌, ◌+◌, ◌-◌, length, arith, ap, Err, Ok, refl, sym, eqb, true}
+use Rattle.std.proofs.Common.{◌≡◌, ◌∙◌, ◌+◌, ◌-◌, length, arith, ap, Err, refl, sym, eqb, true}
 use Rattle.std.proofs.lemmas.Result.{err_from_is_err_and}
 use Rattle.bc_reading.specs.Reading.{piece, exp_of, command_of, definition_of, exps_turn, grow_turn, repeat_turn, label_read, label_start, entry_turn, definition_turn, place_turn, exps_read, grow_read, repeats_read, labels_read, entries_read, definitions_read, places_read, entry_read, assigned_read}
 use Rattle.bc_parse.specs.Seen.{seen}

@@ -1,4 +1,4 @@
-use Rattle.std.proofs.Common.{◌≡◌, sym, arith}
+use Rattle.std.proofs.Common.{sym, arith}
 use Rattle.bc_tree.specs.View.{exps_view}
 use Rattle.bc_parse.proofs.Lists.{no_call, count_exps_view}
 use Rattle.bc_parse.proofs.parser.one_call.Goals as goal
