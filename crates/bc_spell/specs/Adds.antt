@@ -3,7 +3,6 @@ use Rattle.std.specs.Prelude.{◌≡◌, Bool, true, false, List, [], ◌∷◌,
 use Rattle.std.specs.declared.alloc.Global.{Global}
 use Rattle.bc_token.specs.declared.symbol.Symbol.{Symbol}
 use Rattle.bc_token.specs.declared.token.TokenKind.{TokenKind}
-use Rattle.bc_tree.specs.declared.tree.Exp as code
 use Rattle.bc_tree.specs.Parts.{Part, A, kind_parts}
 use Rattle.bc_tree.specs.Canonical.{behind_first}
 

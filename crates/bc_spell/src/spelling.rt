@@ -431,9 +431,9 @@ fn command<'s>(out: &mut Vec<TokenKind<'s>>, c: &Command<'s>) -> Result<(), Memo
             name(out, variable)?;
             worded(out, Symbol::Equal, start)?;
             worded(out, Symbol::To, limit)?;
-            if let Some(constant) = step {
+            if let Some(by) = step {
                 sign(out, Symbol::By)?;
-                part(out, constant)?;
+                part(out, by)?;
             }
             done(out, body)
         }
