@@ -1,7 +1,7 @@
 -- The one canonical spelling of a tree: round brackets round every expression but names, numbers, characters,
 -- strings, TRUE and FALSE, unless it stands alone in its place, and round each routine of a call that is no name;
 -- every body in section brackets, DO written out, `;` between all parts, `=` in MANIFEST and STATIC, `:` in GLOBAL.
-use Rattle.std.specs.Prelude.{ℕ, List, [], ◌∷◌, ◌++◌}
+use Rattle.std.specs.Prelude.{List, [], ◌∷◌, ◌++◌}
 use Rattle.bc_token.specs.declared.symbol.Symbol.{Symbol}
 use Rattle.bc_token.specs.declared.symbol.Symbol.TheVariants as sign
 use Rattle.bc_tree.specs.declared.tree.Storage.{Storage}

@@ -7,3 +7,4 @@ pub mod Canonical
 pub mod Height
 pub mod Size
 pub mod Laws
+pub mod Examples
