@@ -1,5 +1,5 @@
 -- What holds of every closed list.
-use Rattle.std.specs.Prelude.{◌≡◌, ℕ, ◌≤◌, List, length, Result, Ok}
+use Rattle.std.specs.Prelude.{◌≡◌, ◌≤◌, List, length, Ok}
 use Rattle.bc_token.specs.Token.{Lexeme}
 use Rattle.bc_tree.specs.Size.{weight}
 use Rattle.bc_close.specs.Closing.{Placed, closed_list, parts_in}
