@@ -30,7 +30,7 @@ table_step test row rows text s true e here later h =
     ap (λ ys. test ys s) (sym same) ∙ ap (λ x. test row.0 x) (sym one) ∙ here
 table_step test row rows text s false e here later h = later h
 
-table_test : (test : List ℕ → Symbol → Bool) (rows : List (List ℕ × Symbol)) (text : List ℕ) (s : Symbol) → list_all (λ row. test row.0 row.1) rows ≡ true → symbol_in rows text ≡ Some s → test text s ≡ true
+pub table_test : (test : List ℕ → Symbol → Bool) (rows : List (List ℕ × Symbol)) (text : List ℕ) (s : Symbol) → list_all (λ row. test row.0 row.1) rows ≡ true → symbol_in rows text ≡ Some s → test text s ≡ true
 table_test test [] text s h e = let n : None ≡ Some s = e in cc
 table_test test (row ∷ rows) text s h e =
     let p = and_parts (test row.0 row.1) (list_all (λ r. test r.0 r.1) rows) h in

@@ -1,0 +1,4 @@
+pub mod Numerals
+pub mod Constants
+pub mod Symbols
+pub mod Rereading

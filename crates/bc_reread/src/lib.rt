@@ -1,0 +1,6 @@
+//! Text that is written from tokens is read back as these tokens.
+#![tactic(auto)]
+
+pub mod laws;
+#[cfg(test)]
+mod tests;
