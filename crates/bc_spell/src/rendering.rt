@@ -11,9 +11,10 @@ use std::alloc::Global;
 
 /// The text of tokens, a blank between each two.
 ///
-/// Names and strings are written as they stand in their source, numbers in decimal digits, a
-/// character constant as its byte, or as an escape where no byte may stand for itself or none can
-/// be seen. `Memory` comes where an allocation was refused.
+/// Names and strings are written as they stand in their source, numbers in decimal digits. A
+/// character constant has its byte, or an escape where the byte may not stand for itself or can't be
+/// seen; a character that is no byte, which no source gives, is written as a number. `Memory` comes
+/// where an allocation was refused.
 pub fn render(alloc: Global, kinds: &[TokenKind<'_>]) -> Result<Vec<u8>, Memory>
     ensures { IfOk result (λ text. text.items ≡ rendered (kind_parts kinds.now)) }
 {
