@@ -3,3 +3,4 @@ pub mod Turns
 pub mod Ties
 pub mod Parses
 pub mod Views
+pub mod Canonical

@@ -1,8 +1,10 @@
-ghost use Rattle.std.specs.Prelude.{◌≡◌, ℕ, ◌≤◌, ◌-◌, length, IfOk};
+ghost use Rattle.std.specs.Prelude.{◌≡◌, ℕ, ◌≤◌, ◌-◌, length, IfOk, Ok};
 ghost use Rattle.bc_token.specs.Token.{lexemes_of};
 ghost use Rattle.bc_tree.specs.View.{section_view};
 ghost use Rattle.bc_tree.specs.Height.{declarations_height};
 ghost use Rattle.bc_tree.specs.Size.{declarations_size};
+ghost use Rattle.bc_tree.specs.Tree.{Declarations};
+ghost use Rattle.bc_parse.specs.Canonical.{IsCanonical};
 ghost use Rattle.bc_parse.specs.Parsing.{TokensSpell, parsed, Answers, place_of};
 
 use crate::cursor::Rest;
@@ -24,18 +26,11 @@ fn place(places: &[usize], left: usize, end: usize) -> usize
         .unwrap_or(end)
 }
 
-/// The section that the tokens spell. The caller hands in at most 60,000 tokens.
-///
-/// `NotOpen`, then `Unclosed` come before all other faults. `Expected` names the token at which
-/// reading from left to right finds none that may stand there, and `TooDeep` the token at which more
-/// than 200 definitions, commands and expressions would stand one within another or more than 400
-/// round brackets would be open. `Memory` comes where an allocation was refused.
-pub fn parse<'s>(alloc: Global, tokens: &[Token<'s>]) -> Result<Section<'s>, ParseError>
-    // What is answered is spelled by the tokens, all of them.
+/// What the tokens are read as.
+fn read<'s>(alloc: Global, tokens: &[Token<'s>]) -> Result<Section<'s>, ParseError>
     ensures spelled { IfOk result (λ s. TokensSpell (lexemes_of tokens.now) (section_view s)) }
     ensures nests { IfOk result (λ s. declarations_height (section_view s) ≤ 200) }
     ensures size { IfOk result (λ s. declarations_size (section_view s) ≤ length tokens.now) }
-    // Which section or fault it is.
     ensures exact { Answers (λ s. section_view s) result (parsed (lexemes_of tokens.now)) }
 {
     bc_reading::laws::read_is_spelled();
@@ -65,4 +60,25 @@ pub fn parse<'s>(alloc: Global, tokens: &[Token<'s>]) -> Result<Section<'s>, Par
             tokens.len(),
         ))),
     }
+}
+
+/// The section that the tokens spell. The caller hands in at most 60,000 tokens.
+///
+/// `NotOpen`, then `Unclosed` come before all other faults. `Expected` names the token at which
+/// reading from left to right finds none that may stand there, and `TooDeep` the token at which more
+/// than 200 definitions, commands and expressions would stand one within another or more than 400
+/// round brackets would be open. `Memory` comes where an allocation was refused.
+pub fn parse<'s>(alloc: Global, tokens: &[Token<'s>]) -> Result<Section<'s>, ParseError>
+    // What is answered is spelled by the tokens, all of them.
+    ensures spelled { IfOk result (λ s. TokensSpell (lexemes_of tokens.now) (section_view s)) }
+    ensures nests { IfOk result (λ s. declarations_height (section_view s) ≤ 200) }
+    ensures size { IfOk result (λ s. declarations_size (section_view s) ≤ length tokens.now) }
+    // Which section or fault it is.
+    ensures exact { Answers (λ s. section_view s) result (parsed (lexemes_of tokens.now)) }
+    // Whatever has a canonical spelling within the bounds is read back from it.
+    ensures canonical { (ds : Declarations) → IsCanonical ds (lexemes_of tokens.now) → Answers (λ s. section_view s) result (Ok ds) }
+{
+    bc_canonical::laws::spelling_is_read();
+    bc_canonical::laws::spelling_is_closed();
+    read(alloc, tokens)
 }

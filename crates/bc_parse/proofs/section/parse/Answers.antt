@@ -1,19 +1,13 @@
-use Rattle.std.proofs.Common.{◌≡◌, ◌∙◌, ap, arith}
-use Rattle.std.proofs.lemmas.List.{length-map}
-use Rattle.bc_token.specs.Token.{lexeme_of, lexemes_of}
+use Rattle.std.proofs.Common.{subst, Result, Ok}
+use Rattle.bc_token.specs.Token.{lexemes_of}
+use Rattle.bc_tree.specs.Tree.{Declarations}
 use Rattle.bc_tree.specs.View.{section_view}
-use Rattle.bc_tree.specs.Parts.{parts}
-use Rattle.bc_close.specs.Seen.{lists}
-use Rattle.bc_reading.specs.Reading.{section_of}
-use Rattle.std.proofs.Common.{Ok, refl}
-use Rattle.bc_parse.proofs.Parses.{parsed_ok}
+use Rattle.bc_parse.specs.declared.error.ParseError.{ParseError}
+use Rattle.bc_parse.specs.Parsing.{Answers}
+use Rattle.bc_parse.proofs.Canonical.{canonical_parsed}
 use Rattle.bc_parse.proofs.section.parse.Goals as goal
 
-pub returns-in-Ok-section_in-clause-size : goal.returns-in-Ok-section_in-clause-size
-returns-in-Ok-section_in-clause-size c =
-    let ts = lexemes_of c.args.tokens.now in
-    let list = lists c.in-Ok.list in
-    let all = ap parts c.as_slice.ensures.value in
-    let read : section_of list.0 ≡ Ok (section_view c.in-Ok-section_in.section) = ap section_of (rw all refl) ∙ c.in-Ok-section_in.ensures.read in
-    let found = parsed_ok ts list (section_view c.in-Ok-section_in.section) c.read_is_spelled.ensures c.read_nests_little.ensures c.spelling_is_as_long.ensures c.closed_is_short.ensures c.in-Ok.ensures read in
-    omega (arith, found.size, length-map c.args.tokens.now lexeme_of)
+pub returns-clause-canonical : goal.returns-clause-canonical
+returns-clause-canonical c ds is =
+    subst (λ (answer : Result Declarations ParseError). Answers (λ s. section_view s) c.read.result answer)
+    (canonical_parsed ds (lexemes_of c.args.tokens.now) c.spelling_is_read.ensures c.spelling_is_closed.ensures is) c.read.ensures.exact

@@ -1,0 +1,16 @@
+-- The canonical spelling of a section is parsed as that section.
+use Rattle.std.proofs.Common.{◌≡◌, ◌∙◌, List, length, Result, Ok, ap, subst}
+use Rattle.bc_token.specs.Token.{Lexeme}
+use Rattle.bc_tree.specs.Tree.{Declarations}
+use Rattle.bc_tree.specs.Canonical.{section_spelling}
+use Rattle.bc_close.specs.Closing.{places_in}
+use Rattle.bc_reading.specs.Reading.{section_of}
+use Rattle.bc_canonical.specs.Laws.{SpellingIsRead, SpellingIsClosed}
+use Rattle.bc_parse.specs.Canonical.{IsCanonical}
+use Rattle.bc_parse.specs.Parsing.{parsed, placed, read_list}
+
+pub canonical_parsed : (ds : Declarations) (ts : List Lexeme) → SpellingIsRead → SpellingIsClosed → IsCanonical ds ts → parsed ts ≡ Ok ds
+canonical_parsed ds ts read closed c =
+    let list = closed ds ts c.tokens in
+    let whole : section_of (section_spelling ds) ≡ Ok ds = read ds c.some_spelling c.is_spelled c.nests c.brackets c.repeats in
+    ap (read_list (length ts)) list.1 ∙ (rw list.2 (ap (placed (places_in list.0) (length ts)) whole))

@@ -1,0 +1,21 @@
+-- Tokens that are the canonical spelling of a section, within the bounds of a reader.
+use Rattle.std.specs.Prelude.{◌≤◌, List}
+use Rattle.bc_token.specs.Token.{Lexeme}
+use Rattle.bc_tree.specs.Parts.{Part}
+use Rattle.bc_tree.specs.Tree.{Declarations}
+use Rattle.bc_tree.specs.Height.{declarations_height}
+use Rattle.bc_tree.specs.Spelling.{SpellsSection}
+use Rattle.bc_tree.specs.Canonical.{section_spelling}
+use Rattle.bc_canonical.specs.Open.{most_open}
+use Rattle.bc_canonical.specs.Repeated.{RepeatsNoValof}
+use Rattle.bc_canonical.specs.Tokens.{IsSpelling}
+
+-- The grammar has some spelling for the section, these tokens are the canonical one, with no line break and no tag, it
+-- nests at most 200 deep, at most 400 round brackets are open at once, and no VALOF's body stands before a REPEAT word.
+pub record IsCanonical (ds : Declarations) (ts : List Lexeme) : Type 0 where
+  pub some_spelling : List Part
+  pub is_spelled : SpellsSection ds some_spelling
+  pub tokens : IsSpelling ds ts
+  pub nests : declarations_height ds ≤ 200
+  pub brackets : most_open 0 (section_spelling ds) ≤ 400
+  pub repeats : RepeatsNoValof (section_spelling ds)
