@@ -8,14 +8,14 @@ set -eu
 cd "$(dirname "$0")"
 work=${BENCH_WORK:-${TMPDIR:-/tmp}/lex-bench}
 mkdir -p "$work/crates/lex_bench/src" "$work/crates/lex_bench/specs"
-for crate in bc_token bc_lex; do
+for crate in bc_library bc_token bc_lex; do
     mkdir -p "$work/crates/$crate"
     cp -r ../../crates/"$crate"/. "$work/crates/$crate/"
 done
 cp lex.rt.in "$work/crates/lex_bench/src/main.rt"
 touch "$work/crates/lex_bench/specs/Lib.antt"
 cp ../../HANDLES "$work/"
-grep -E '^(bc_token|bc_lex):' ../../crates.txt >"$work/crates.txt"
+grep -E '^(bc_library|bc_token|bc_lex):' ../../crates.txt >"$work/crates.txt"
 echo 'lex_bench: anyhow bc_lex' >>"$work/crates.txt"
 cc -O2 -o "$work/classify" classify.c
 python3 make_source.py 1000000 >"$work/whole"

@@ -2,12 +2,11 @@
 //! of the language, as source.
 #![tactic(auto)]
 
-mod library;
 mod primitive;
 mod running;
 #[cfg(test)]
 mod tests;
 
-pub use library::{BLIB, LIBHDR};
+pub use bc_library::{BLIB, LIBHDR};
 pub use primitive::primitives;
 pub use running::{RunFault, behind_primitives, run_text};

@@ -1,55 +1,18 @@
 use crate::{LexError, Source, TokenKind, lex};
+use bc_library::{BLIB, LIBHDR};
 use std::alloc::Global;
 use std::test::Fail;
-
-/// The declarations of the library.
-static LIBHDR: &[u8] = b"\
-GLOBAL $( START:1; SELECTINPUT:11; SELECTOUTPUT:12; RDCH:13; WRCH:14\n\
-FINDINPUT:15; FINDOUTPUT:16; ENDREAD:17; ENDWRITE:18; GETBYTE:20\n\
-PUTBYTE:21; WRITES:22; WRITEN:23; NEWLINE:24; WRITEF:25 $)\n\
-MANIFEST $( ENDSTREAMCH=-1 $)\n\
-";
-
-/// The routines of the library.
-static BLIB: &[u8] = b"\
-GET \"LIBHDR\"\n\
-LET GETBYTE(S,I) = (I&1)=0 -> S!(I>>1)>>8, S!(I>>1)&255\n\
-AND PUTBYTE(S,I,C) BE\n\
-$( LET P = S+(I>>1)\n\
-\x20\x20\x20!P := (I&1)=0 -> (!P&255)|(C<<8), (!P&#XFF00)|(C&255) $)\n\
-AND WRITES(S) BE FOR I=1 TO GETBYTE(S,0) DO WRCH(GETBYTE(S,I))\n\
-AND NEWLINE() BE WRCH('*N')\n\
-AND WRITEN(N) BE\n\
-$( IF N<0 DO\n\
-\x20\x20\x20$( WRCH('-'); IF N/10 NE 0 DO WRITEN(-(N/10))\n\
-\x20\x20\x20\x20\x20\x20WRCH('0'-(N REM 10)); RETURN $)\n\
-\x20\x20\x20IF N>9 DO WRITEN(N/10)\n\
-\x20\x20\x20WRCH('0'+(N REM 10)) $)\n\
-AND WRITEF(F,A,B,C,D) BE\n\
-$( LET T,I,N = @A,1,GETBYTE(F,0)\n\
-\x20\x20\x20UNTIL I>N DO\n\
-\x20\x20\x20$( LET K = GETBYTE(F,I)\n\
-\x20\x20\x20\x20\x20\x20I := I+1\n\
-\x20\x20\x20\x20\x20\x20TEST K='%' & I<=N THEN\n\
-\x20\x20\x20\x20\x20\x20$( SWITCHON GETBYTE(F,I) INTO\n\
-\x20\x20\x20\x20\x20\x20\x20\x20\x20$( CASE 'N': WRITEN(!T); ENDCASE\n\
-\x20\x20\x20\x20\x20\x20\x20\x20\x20\x20\x20\x20CASE 'S': WRITES(!T); ENDCASE\n\
-\x20\x20\x20\x20\x20\x20\x20\x20\x20\x20\x20\x20CASE 'C': WRCH(!T); ENDCASE\n\
-\x20\x20\x20\x20\x20\x20\x20\x20\x20\x20\x20\x20DEFAULT: WRCH(GETBYTE(F,I)); T := T-1 $)\n\
-\x20\x20\x20\x20\x20\x20\x20\x20\x20T := T+1; I := I+1 $)\n\
-\x20\x20\x20\x20\x20\x20ELSE WRCH(K) $) $)\n\
-";
 
 #[test]
 fn the_library_has_its_tokens(rt: HostRuntime) -> Result<(), Fail> {
     let sources = [
         Source {
             name: b"BLIB",
-            text: BLIB,
+            text: BLIB.as_bytes(),
         },
         Source {
             name: b"LIBHDR",
-            text: LIBHDR,
+            text: LIBHDR.as_bytes(),
         },
     ];
     assert_eq!(rt; LIBHDR.len(), 223);
@@ -77,7 +40,7 @@ fn the_library_has_its_tokens(rt: HostRuntime) -> Result<(), Fail> {
 
 /// Whether the library has tokens when the byte at a place is another.
 fn has_tokens(alloc: Global, at: usize, byte: u8) -> Result<bool, Fail> {
-    let mut text = BLIB.to_vec(alloc)?;
+    let mut text = BLIB.as_bytes().to_vec(alloc)?;
     if at < text.len() {
         text[at] = byte;
     }
@@ -88,7 +51,7 @@ fn has_tokens(alloc: Global, at: usize, byte: u8) -> Result<bool, Fail> {
         },
         Source {
             name: b"LIBHDR",
-            text: LIBHDR,
+            text: LIBHDR.as_bytes(),
         },
     ];
     match lex(alloc, &sources, 0) {
@@ -138,7 +101,7 @@ fn small_program(alloc: Global) -> Result<usize, LexError> {
         },
         Source {
             name: b"LIBHDR",
-            text: LIBHDR,
+            text: LIBHDR.as_bytes(),
         },
     ];
     Ok(lex(alloc, &sources, 0)?.len())

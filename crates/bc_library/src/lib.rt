@@ -1,3 +1,6 @@
+//! The library of the language, as source.
+#![tactic(auto)]
+
 /// The declarations that programs get by `GET "LIBHDR"`.
 pub const LIBHDR: &str = "\
 GLOBAL $( START:1; SELECTINPUT:11; SELECTOUTPUT:12; RDCH:13; WRCH:14
