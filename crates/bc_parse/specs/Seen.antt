@@ -1,6 +1,7 @@
 -- What functions of the parser gave, without where it lies in memory.
 use Rattle.std.specs.Prelude.{◌≡◌, ℕ, Bool, List, Vec, Option, Some, None, Result, Ok, Err}
 use Rattle.std.specs.declared.alloc.Global.{Global}
+use Rattle.std.specs.declared.boxed.Box.{Box}
 use Rattle.bc_tree.specs.declared.tree.Block as code_block
 use Rattle.bc_tree.specs.declared.tree.Command as code_command
 use Rattle.bc_tree.specs.declared.tree.Constant as code_constant
@@ -49,8 +50,8 @@ ExpsTurn = Gives (λ x. (piece (exps_view x.0.items) x.1 (seen x.2), x.3))
 abbrev pub ReadCommand : Result (code_command.Command × ℕ × Rest) ReadFault → Result (Piece Command) Fault → Type 0
 ReadCommand = Gives (λ x. piece (command_view x.0) x.1 (seen x.2))
 
-abbrev pub CommandTurn : Result (code_command.Command × ℕ × Rest × Bool) ReadFault → Result (Piece Command × Bool) Fault → Type 0
-CommandTurn = Gives (λ x. (piece (command_view x.0) x.1 (seen x.2), x.3))
+abbrev pub CommandTurn : Result (Box code_command.Command Global × ℕ × Rest × Bool) ReadFault → Result (Piece Command × Bool) Fault → Type 0
+CommandTurn = Gives (λ x. (piece (command_view x.0.value) x.1 (seen x.2), x.3))
 
 abbrev pub ReadBlock : Result (code_block.Block × ℕ × Rest) ReadFault → Result (Piece Block) Fault → Type 0
 ReadBlock = Gives (λ x. piece (block_view x.0) x.1 (seen x.2))

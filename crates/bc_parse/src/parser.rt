@@ -492,7 +492,6 @@ fn exps_step<'s, 't>(
 
 /// A command with the REPEAT words behind it.
 #[cycle(parser)]
-#[tactic(auto, unfolding(bc_reading::specs::Reading::repeats_read))]
 fn repeats<'s, 't>(
     alloc: Global,
     nest: usize,
@@ -503,6 +502,26 @@ fn repeats<'s, 't>(
 ) -> Result<(Command<'s>, usize, Rest<'s, 't>), ReadFault>
     requires { first_height ≤ nest }
     ensures read { (n : ℕ) → nest + round ≤ n + 1 → ReadCommand result (repeats_read (exp_of n) nest round (piece (command_view first.entry) first_height (seen rest.entry))) }
+    ensures low { IfOk result (λ x. x.1 ≤ nest) }
+{
+    let first = boxed(alloc, first)?;
+    let (whole, height, behind) = repeats_from(alloc, nest, round, first, first_height, rest)?;
+    Ok((Box::into_inner(whole), height, behind))
+}
+
+/// The same of a command in memory of its own, as each REPEAT word wants it.
+#[cycle(parser)]
+#[tactic(auto, unfolding(bc_reading::specs::Reading::repeats_read))]
+fn repeats_from<'s, 't>(
+    alloc: Global,
+    nest: usize,
+    round: usize,
+    first: Box<Command<'s>>,
+    first_height: usize,
+    rest: Rest<'s, 't>,
+) -> Result<(Box<Command<'s>>, usize, Rest<'s, 't>), ReadFault>
+    requires { first_height ≤ nest }
+    ensures read { (n : ℕ) → nest + round ≤ n + 1 → Gives (λ x. piece (command_view x.0.value) x.1 (seen x.2)) result (repeats_read (exp_of n) nest round (piece (command_view first.entry.value) first_height (seen rest.entry))) }
     ensures low { IfOk result (λ x. x.1 ≤ nest) }
 {
     let mut whole = first;
@@ -526,12 +545,12 @@ fn repeat_step<'s, 't>(
     alloc: Global,
     nest: usize,
     round: usize,
-    whole: Command<'s>,
+    whole: Box<Command<'s>>,
     height: usize,
     rest: Rest<'s, 't>,
-) -> Result<(Command<'s>, usize, Rest<'s, 't>, bool), ReadFault>
+) -> Result<(Box<Command<'s>>, usize, Rest<'s, 't>, bool), ReadFault>
     requires { height ≤ nest }
-    ensures read { (n : ℕ) → nest + round ≤ n + 1 → CommandTurn result (repeat_turn (exp_of n) nest round (piece (command_view whole.entry) height (seen rest.entry))) }
+    ensures read { (n : ℕ) → nest + round ≤ n + 1 → CommandTurn result (repeat_turn (exp_of n) nest round (piece (command_view whole.entry.value) height (seen rest.entry))) }
     ensures low { IfOk result (λ x. x.1 ≤ nest) }
 {
     match cursor::repeat_word(rest) {
@@ -552,24 +571,27 @@ fn repeat_by<'s, 't>(
     nest: usize,
     round: usize,
     word: RepeatWord,
-    whole: Command<'s>,
+    whole: Box<Command<'s>>,
     height: usize,
     rest: Rest<'s, 't>,
-) -> Result<(Command<'s>, usize, Rest<'s, 't>, bool), ReadFault>
+) -> Result<(Box<Command<'s>>, usize, Rest<'s, 't>, bool), ReadFault>
     requires { height < nest }
-    ensures read { (n : ℕ) → nest + round ≤ n + 1 → (us : List Part) → CommandTurn result (repeated (exp_of n) nest round word (piece (command_view whole.entry) height us) (seen rest.entry)) }
+    ensures read { (n : ℕ) → nest + round ≤ n + 1 → (us : List Part) → CommandTurn result (repeated (exp_of n) nest round word (piece (command_view whole.entry.value) height us) (seen rest.entry)) }
     ensures low { IfOk result (λ x. x.1 ≤ nest) }
 {
     match word {
         RepeatWord::Repeat => {
-            let whole = Box::new(alloc, whole)?;
-            Ok((Command::Repeat(whole), height + 1, rest, false))
+            Ok((
+                boxed(alloc, Command::Repeat(whole))?,
+                height + 1,
+                rest,
+                false,
+            ))
         }
         RepeatWord::While => {
             let (test, h, behind) = exp(alloc, nest - 1, round, 1, rest)?;
-            let whole = Box::new(alloc, whole)?;
             Ok((
-                Command::RepeatWhile(whole, test),
+                boxed(alloc, Command::RepeatWhile(whole, test))?,
                 height.max(h) + 1,
                 behind,
                 false,
@@ -577,9 +599,8 @@ fn repeat_by<'s, 't>(
         }
         RepeatWord::Until => {
             let (test, h, behind) = exp(alloc, nest - 1, round, 1, rest)?;
-            let whole = Box::new(alloc, whole)?;
             Ok((
-                Command::RepeatUntil(whole, test),
+                boxed(alloc, Command::RepeatUntil(whole, test))?,
                 height.max(h) + 1,
                 behind,
                 false,
@@ -1501,6 +1522,13 @@ fn body_from<'s>(
             ))
         }
     }
+}
+
+/// A command in memory of its own.
+fn boxed<'s>(alloc: Global, command: Command<'s>) -> Result<Box<Command<'s>>, ReadFault>
+    ensures { Gives (λ x. command_view x.value) result (Ok (command_view command.entry)) }
+{
+    Ok(Box::new(alloc, command)?)
 }
 
 /// The section that the parts spell.

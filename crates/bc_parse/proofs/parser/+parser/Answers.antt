@@ -79,19 +79,19 @@ exps_step-returns-then-exp_count-limit-clause-read t c = λ n h.
     let full : eqb (count (add_exp (exps_view c.args.list.items) (exp_view c.in_ok-e.e))) c.args.limit ≡ true = eq-eqb _ _ (ap count (sym items) ∙ sym c.exp_count.ensures ∙ c.if-exp_count-limit.true) in
     rw (c.in_ok-e.ensures.read n h, full, items, c.max-height.ensures) refl
 
-pub repeats-returns-in_err-c-clause-read : goal.repeats-returns-in_err-c-clause-read
+pub repeats_from-returns-in_err-c-clause-read : goal.repeats_from-returns-in_err-c-clause-read
 unfolding repeats_read
-repeats-returns-in_err-c-clause-read t c = λ n h.
+repeats_from-returns-in_err-c-clause-read t c = λ n h.
     let a = c.args in
     let p = err_from_is_err_and c.from_residual.result c.from_residual.ensures.1 in
     rw (p.1, p.2) (turns_fails (repeat_turn (exp_of n) a.nest a.round) (length (seen a.rest) + 1) c.loop.counter _ _ (c.loop.invariant.read n h) c.in_err-c.field-0.0 (omega arith) (c.in_err-c.ensures.read n h))
 
-pub repeats-returns-then-is_last-clause-read : goal.repeats-returns-then-is_last-clause-read
+pub repeats_from-returns-then-is_last-clause-read : goal.repeats_from-returns-then-is_last-clause-read
 unfolding repeats_read
-repeats-returns-then-is_last-clause-read t c = λ n h. let a = c.args in turns_done (repeat_turn (exp_of n) a.nest a.round) (length (seen a.rest) + 1) c.loop.counter _ _ (c.loop.invariant.read n h) _ _ (omega arith) (c.in_ok-c.ensures.read n h) c.if-is_last.true
+repeats_from-returns-then-is_last-clause-read t c = λ n h. let a = c.args in turns_done (repeat_turn (exp_of n) a.nest a.round) (length (seen a.rest) + 1) c.loop.counter _ _ (c.loop.invariant.read n h) _ _ (omega arith) (c.in_ok-c.ensures.read n h) c.if-is_last.true
 
-pub repeats-loop-preserved : goal.repeats-loop-preserved
-repeats-loop-preserved t c =
+pub repeats_from-loop-preserved : goal.repeats_from-loop-preserved
+repeats_from-loop-preserved t c =
     let a = c.args in
     record {
       total = c.loop.invariant.total;
@@ -99,9 +99,9 @@ repeats-loop-preserved t c =
       read = λ n h. turns_next (repeat_turn (exp_of n) a.nest a.round) (length (seen a.rest) + 1) c.loop.counter _ _ (c.loop.invariant.read n h) _ _ (omega arith) (c.in_ok-c.ensures.read n h) c.if-is_last.false;
     }
 
-pub repeats-returns-clause-read : goal.repeats-returns-clause-read
+pub repeats_from-returns-clause-read : goal.repeats_from-returns-clause-read
 unfolding repeats_read
-repeats-returns-clause-read t c = λ n h. let a = c.args in turns_spent (repeat_turn (exp_of n) a.nest a.round) (length (seen a.rest) + 1) c.loop.counter _ _ (c.loop.invariant.read n h) (omega arith) ∙ ap (λ m. Err (reading.Expected m)) (length_seen c.loop.behind)
+repeats_from-returns-clause-read t c = λ n h. let a = c.args in turns_spent (repeat_turn (exp_of n) a.nest a.round) (length (seen a.rest) + 1) c.loop.counter _ _ (c.loop.invariant.read n h) (omega arith) ∙ ap (λ m. Err (reading.Expected m)) (length_seen c.loop.behind)
 
 pub labels-returns-in_err-list-clause-read : goal.labels-returns-in_err-list-clause-read
 unfolding labels_read

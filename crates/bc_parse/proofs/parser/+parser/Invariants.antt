@@ -87,7 +87,10 @@ abbrev pub decreases-assigned : goal.decreases-assigned
 decreases-assigned l = 64 * (l.nest + l.round) + 28
 
 abbrev pub decreases-repeats : goal.decreases-repeats
-decreases-repeats l = 64 * (l.nest + l.round) + 27
+decreases-repeats l = 64 * (l.nest + l.round) + 28
+
+abbrev pub decreases-repeats_from : goal.decreases-repeats_from
+decreases-repeats_from l = 64 * (l.nest + l.round) + 27
 
 abbrev pub decreases-repeat_step : goal.decreases-repeat_step
 decreases-repeat_step l = 64 * (l.nest + l.round) + 26
@@ -172,11 +175,11 @@ invariant-grow-loop l = record {
   read : (n : ℕ) → l.nest + l.round ≤ n + 1 → turns (grow_turn (exp_of n) l.nest l.round l.begin l.level) (length (seen l.rest) + 1 - l.counter) (piece (exp_view l.left, l.top) l.height (seen l.behind)) ≡ turns (grow_turn (exp_of n) l.nest l.round l.begin l.level) (length (seen l.rest) + 1) (piece (exp_view l.fn.first, l.first_top) l.first_height (seen l.rest));
 }
 
-abbrev pub invariant-repeats-loop : goal.invariant-repeats-loop
-invariant-repeats-loop l = record {
+abbrev pub invariant-repeats_from-loop : goal.invariant-repeats_from-loop
+invariant-repeats_from-loop l = record {
   total : l.end ≡ length (seen l.rest) + 1;
   low : l.height ≤ l.nest;
-  read : (n : ℕ) → l.nest + l.round ≤ n + 1 → turns (repeat_turn (exp_of n) l.nest l.round) (length (seen l.rest) + 1 - l.counter) (piece (command_view l.whole) l.height (seen l.behind)) ≡ turns (repeat_turn (exp_of n) l.nest l.round) (length (seen l.rest) + 1) (piece (command_view l.fn.first) l.first_height (seen l.rest));
+  read : (n : ℕ) → l.nest + l.round ≤ n + 1 → turns (repeat_turn (exp_of n) l.nest l.round) (length (seen l.rest) + 1 - l.counter) (piece (command_view l.whole.value) l.height (seen l.behind)) ≡ turns (repeat_turn (exp_of n) l.nest l.round) (length (seen l.rest) + 1) (piece (command_view l.fn.first.value) l.first_height (seen l.rest));
 }
 
 abbrev pub invariant-labels-loop : goal.invariant-labels-loop
