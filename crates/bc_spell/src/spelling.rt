@@ -75,10 +75,10 @@ fn parameters<'s>(out: &mut Vec<TokenKind<'s>>, found: &[&'s [u8]]) -> Result<()
 
 /// An expression that stands alone in its place.
 #[cycle(spelling)]
-fn whole<'s>(out: &mut Vec<TokenKind<'s>>, e: &Exp<'s>) -> Result<(), Memory>
-    ensures { Adds result out.old out.new (whole (exp_view e.now)) }
+fn whole<'s>(out: &mut Vec<TokenKind<'s>>, tree: &Exp<'s>) -> Result<(), Memory>
+    ensures { Adds result out.old out.new (whole (exp_view tree.now)) }
 {
-    match e {
+    match tree {
         Exp::Name(text) => name(out, text),
         Exp::Number(number) => put(out, TokenKind::Number(number.get())),
         Exp::Character(byte) => put(out, TokenKind::Character(byte.get())),
@@ -87,7 +87,7 @@ fn whole<'s>(out: &mut Vec<TokenKind<'s>>, e: &Exp<'s>) -> Result<(), Memory>
         Exp::False => sign(out, Symbol::False),
         Exp::Table(constants) => {
             sign(out, Symbol::Table)?;
-            exps(out, constants)
+            expressions(out, constants)
         }
         Exp::Valof(body) => {
             sign(out, Symbol::ValueOf)?;
@@ -118,60 +118,60 @@ fn whole<'s>(out: &mut Vec<TokenKind<'s>>, e: &Exp<'s>) -> Result<(), Memory>
 
 /// An expression that is part of another, or of a list: in round brackets, unless it is one token.
 #[cycle(spelling)]
-fn part<'s>(out: &mut Vec<TokenKind<'s>>, e: &Exp<'s>) -> Result<(), Memory>
-    ensures { Adds result out.old out.new (part_of (exp_view e.now) (whole (exp_view e.now))) }
+fn part<'s>(out: &mut Vec<TokenKind<'s>>, tree: &Exp<'s>) -> Result<(), Memory>
+    ensures { Adds result out.old out.new (part_of (exp_view tree.now) (whole (exp_view tree.now))) }
 {
-    match e {
+    match tree {
         Exp::Name(_)
         | Exp::Number(_)
         | Exp::Character(_)
         | Exp::String(_)
         | Exp::True
-        | Exp::False => whole(out, e),
-        _ => bracketed(out, e),
+        | Exp::False => whole(out, tree),
+        _ => bracketed(out, tree),
     }
 }
 
 /// A routine that is called: in round brackets, unless it is a name.
 #[cycle(spelling)]
-fn routine<'s>(out: &mut Vec<TokenKind<'s>>, e: &Exp<'s>) -> Result<(), Memory>
-    ensures { Adds result out.old out.new (routine_of (exp_view e.now) (whole (exp_view e.now))) }
+fn routine<'s>(out: &mut Vec<TokenKind<'s>>, tree: &Exp<'s>) -> Result<(), Memory>
+    ensures { Adds result out.old out.new (routine_of (exp_view tree.now) (whole (exp_view tree.now))) }
 {
-    match e {
-        Exp::Name(_) => whole(out, e),
-        _ => bracketed(out, e),
+    match tree {
+        Exp::Name(_) => whole(out, tree),
+        _ => bracketed(out, tree),
     }
 }
 
 #[cycle(spelling)]
-fn bracketed<'s>(out: &mut Vec<TokenKind<'s>>, e: &Exp<'s>) -> Result<(), Memory>
-    ensures { Adds result out.old out.new (in_round (whole (exp_view e.now))) }
+fn bracketed<'s>(out: &mut Vec<TokenKind<'s>>, tree: &Exp<'s>) -> Result<(), Memory>
+    ensures { Adds result out.old out.new (in_round (whole (exp_view tree.now))) }
 {
     sign(out, Symbol::OpenBracket)?;
-    whole(out, e)?;
+    whole(out, tree)?;
     sign(out, Symbol::CloseBracket)
 }
 
 /// Expressions with commas between them.
 #[cycle(spelling)]
-fn exps<'s>(out: &mut Vec<TokenKind<'s>>, es: &[Exp<'s>]) -> Result<(), Memory>
-    ensures { Adds result out.old out.new (behind_first (after_commas (exps_view es.now))) }
+fn expressions<'s>(out: &mut Vec<TokenKind<'s>>, list: &[Exp<'s>]) -> Result<(), Memory>
+    ensures { Adds result out.old out.new (behind_first (after_commas (exps_view list.now))) }
 {
     let mut is_first = true;
-    for e in es {
+    for each in list {
         separate(out, is_first, Symbol::Comma)?;
-        part(out, e)?;
+        part(out, each)?;
         is_first = false;
     }
     Ok(())
 }
 
 #[cycle(spelling)]
-fn arguments<'s>(out: &mut Vec<TokenKind<'s>>, es: &[Exp<'s>]) -> Result<(), Memory>
-    ensures { Adds result out.old out.new (in_round (behind_first (after_commas (exps_view es.now)))) }
+fn arguments<'s>(out: &mut Vec<TokenKind<'s>>, list: &[Exp<'s>]) -> Result<(), Memory>
+    ensures { Adds result out.old out.new (in_round (behind_first (after_commas (exps_view list.now)))) }
 {
     sign(out, Symbol::OpenBracket)?;
-    exps(out, es)?;
+    expressions(out, list)?;
     sign(out, Symbol::CloseBracket)
 }
 
@@ -189,23 +189,23 @@ fn block<'s>(out: &mut Vec<TokenKind<'s>>, body: &Block<'s>) -> Result<(), Memor
 
 /// Declarations with semicolons between them.
 #[cycle(spelling)]
-fn declarations<'s>(out: &mut Vec<TokenKind<'s>>, ds: &[Declaration<'s>]) -> Result<(), Memory>
-    ensures { Adds result out.old out.new (behind_first (declarations_spelling (declarations_view ds.now))) }
+fn declarations<'s>(out: &mut Vec<TokenKind<'s>>, list: &[Declaration<'s>]) -> Result<(), Memory>
+    ensures { Adds result out.old out.new (behind_first (declarations_spelling (declarations_view list.now))) }
 {
     let mut is_first = true;
-    for d in ds {
+    for each in list {
         separate(out, is_first, Symbol::Semicolon)?;
-        declaration(out, d)?;
+        declaration(out, each)?;
         is_first = false;
     }
     Ok(())
 }
 
 #[cycle(spelling)]
-fn declaration<'s>(out: &mut Vec<TokenKind<'s>>, d: &Declaration<'s>) -> Result<(), Memory>
-    ensures { Adds result out.old out.new (declaration_spelling (declaration_view d.now)) }
+fn declaration<'s>(out: &mut Vec<TokenKind<'s>>, tree: &Declaration<'s>) -> Result<(), Memory>
+    ensures { Adds result out.old out.new (declaration_spelling (declaration_view tree.now)) }
 {
-    match d {
+    match tree {
         Declaration::Constants(storage, constants) => {
             sign(out, signs::storage(*storage))?;
             sign(out, Symbol::OpenSection)?;
@@ -241,27 +241,27 @@ fn entries<'s>(
 
 /// Definitions with AND between them.
 #[cycle(spelling)]
-fn definitions<'s>(out: &mut Vec<TokenKind<'s>>, ds: &[Definition<'s>]) -> Result<(), Memory>
-    ensures { Adds result out.old out.new (behind_first (definitions_spelling (definitions_view ds.now))) }
+fn definitions<'s>(out: &mut Vec<TokenKind<'s>>, list: &[Definition<'s>]) -> Result<(), Memory>
+    ensures { Adds result out.old out.new (behind_first (definitions_spelling (definitions_view list.now))) }
 {
     let mut is_first = true;
-    for d in ds {
+    for each in list {
         separate(out, is_first, Symbol::And)?;
-        definition(out, d)?;
+        definition(out, each)?;
         is_first = false;
     }
     Ok(())
 }
 
 #[cycle(spelling)]
-fn definition<'s>(out: &mut Vec<TokenKind<'s>>, d: &Definition<'s>) -> Result<(), Memory>
-    ensures { Adds result out.old out.new (definition_spelling (definition_view d.now)) }
+fn definition<'s>(out: &mut Vec<TokenKind<'s>>, tree: &Definition<'s>) -> Result<(), Memory>
+    ensures { Adds result out.old out.new (definition_spelling (definition_view tree.now)) }
 {
-    match d {
+    match tree {
         Definition::Variables(variables, values) => {
             names(out, variables)?;
             sign(out, Symbol::Equal)?;
-            exps(out, values)
+            expressions(out, values)
         }
         Definition::Vector(variable, greatest) => {
             name(out, variable)?;
@@ -288,46 +288,46 @@ fn definition<'s>(out: &mut Vec<TokenKind<'s>>, d: &Definition<'s>) -> Result<()
 #[cycle(spelling)]
 fn items<'s>(
     out: &mut Vec<TokenKind<'s>>,
-    is: &[Item<'s>],
+    list: &[Item<'s>],
     nothing_before: bool,
 ) -> Result<(), Memory>
-    ensures { Adds result out.old out.new (joined nothing_before (items_spelling (items_view is.now))) }
+    ensures { Adds result out.old out.new (joined nothing_before (items_spelling (items_view list.now))) }
 {
     let mut is_first = nothing_before;
-    for i in is {
+    for each in list {
         separate(out, is_first, Symbol::Semicolon)?;
-        item(out, i)?;
+        item(out, each)?;
         is_first = false;
     }
     Ok(())
 }
 
 #[cycle(spelling)]
-fn item<'s>(out: &mut Vec<TokenKind<'s>>, i: &Item<'s>) -> Result<(), Memory>
-    ensures { Adds result out.old out.new (item_spelling (item_view i.now)) }
+fn item<'s>(out: &mut Vec<TokenKind<'s>>, tree: &Item<'s>) -> Result<(), Memory>
+    ensures { Adds result out.old out.new (item_spelling (item_view tree.now)) }
 {
-    labels(out, &i.labels)?;
-    match &i.command {
+    labels(out, &tree.labels)?;
+    match &tree.command {
         Some(labelled) => command(out, labelled),
         None => Ok(()),
     }
 }
 
 #[cycle(spelling)]
-fn labels<'s>(out: &mut Vec<TokenKind<'s>>, ls: &[Label<'s>]) -> Result<(), Memory>
-    ensures { Adds result out.old out.new (labels_spelling (labels_view ls.now)) }
+fn labels<'s>(out: &mut Vec<TokenKind<'s>>, list: &[Label<'s>]) -> Result<(), Memory>
+    ensures { Adds result out.old out.new (labels_spelling (labels_view list.now)) }
 {
-    for l in ls {
-        label(out, l)?;
+    for each in list {
+        label(out, each)?;
     }
     Ok(())
 }
 
 #[cycle(spelling)]
-fn label<'s>(out: &mut Vec<TokenKind<'s>>, l: &Label<'s>) -> Result<(), Memory>
-    ensures { Adds result out.old out.new (label_spelling (label_view l.now)) }
+fn label<'s>(out: &mut Vec<TokenKind<'s>>, tree: &Label<'s>) -> Result<(), Memory>
+    ensures { Adds result out.old out.new (label_spelling (label_view tree.now)) }
 {
-    match l {
+    match tree {
         Label::Case(constant) => {
             sign(out, Symbol::Case)?;
             part(out, constant)?;
@@ -340,11 +340,11 @@ fn label<'s>(out: &mut Vec<TokenKind<'s>>, l: &Label<'s>) -> Result<(), Memory>
 
 /// A word, and the expression behind it.
 #[cycle(spelling)]
-fn worded<'s>(out: &mut Vec<TokenKind<'s>>, word: Symbol, e: &Exp<'s>) -> Result<(), Memory>
-    ensures { Adds result out.old out.new (A word ∷ whole (exp_view e.now)) }
+fn worded<'s>(out: &mut Vec<TokenKind<'s>>, word: Symbol, tree: &Exp<'s>) -> Result<(), Memory>
+    ensures { Adds result out.old out.new (A word ∷ whole (exp_view tree.now)) }
 {
     sign(out, word)?;
-    whole(out, e)
+    whole(out, tree)
 }
 
 /// The body of a test or a loop.
@@ -358,24 +358,24 @@ fn done<'s>(out: &mut Vec<TokenKind<'s>>, body: &Block<'s>) -> Result<(), Memory
 
 /// The items of a SWITCHON.
 #[cycle(spelling)]
-fn cases<'s>(out: &mut Vec<TokenKind<'s>>, is: &[Item<'s>]) -> Result<(), Memory>
-    ensures { Adds result out.old out.new (A sign.Into ∷ A sign.OpenSection ∷ (behind_first (items_spelling (items_view is.now)) ++ A sign.CloseSection ∷ [])) }
+fn cases<'s>(out: &mut Vec<TokenKind<'s>>, list: &[Item<'s>]) -> Result<(), Memory>
+    ensures { Adds result out.old out.new (A sign.Into ∷ A sign.OpenSection ∷ (behind_first (items_spelling (items_view list.now)) ++ A sign.CloseSection ∷ [])) }
 {
     sign(out, Symbol::Into)?;
     sign(out, Symbol::OpenSection)?;
-    items(out, is, true)?;
+    items(out, list, true)?;
     sign(out, Symbol::CloseSection)
 }
 
 #[cycle(spelling)]
-fn command<'s>(out: &mut Vec<TokenKind<'s>>, c: &Command<'s>) -> Result<(), Memory>
-    ensures { Adds result out.old out.new (command_spelling (command_view c.now)) }
+fn command<'s>(out: &mut Vec<TokenKind<'s>>, tree: &Command<'s>) -> Result<(), Memory>
+    ensures { Adds result out.old out.new (command_spelling (command_view tree.now)) }
 {
-    match c {
+    match tree {
         Command::Assign(places, values) => {
-            exps(out, places)?;
+            expressions(out, places)?;
             sign(out, Symbol::Assign)?;
-            exps(out, values)
+            expressions(out, values)
         }
         Command::Call(called, values) => {
             routine(out, called)?;

@@ -7,32 +7,32 @@ use Rattle.bc_spell.proofs.spelling.+spelling.Given as goal
 
 -- what is there, and behind it what is left, is the whole
 
-abbrev pub invariant-exps-loop-e : goal.invariant-exps-loop-e
-invariant-exps-loop-e l =
-    kind_parts l.out.items ++ joined l.is_first (after_commas (exps_view (drop l.e-index l.es)))
-    ≡ kind_parts l.fn.out.items ++ behind_first (after_commas (exps_view l.es))
+abbrev pub invariant-expressions-loop-each : goal.invariant-expressions-loop-each
+invariant-expressions-loop-each l =
+    kind_parts l.out.items ++ joined l.is_first (after_commas (exps_view (drop l.each-index l.list)))
+    ≡ kind_parts l.fn.out.items ++ behind_first (after_commas (exps_view l.list))
 
-abbrev pub invariant-declarations-loop-d : goal.invariant-declarations-loop-d
-invariant-declarations-loop-d l =
-    kind_parts l.out.items ++ joined l.is_first (declarations_spelling (declarations_view (drop l.d-index l.ds)))
-    ≡ kind_parts l.fn.out.items ++ behind_first (declarations_spelling (declarations_view l.ds))
+abbrev pub invariant-declarations-loop-each : goal.invariant-declarations-loop-each
+invariant-declarations-loop-each l =
+    kind_parts l.out.items ++ joined l.is_first (declarations_spelling (declarations_view (drop l.each-index l.list)))
+    ≡ kind_parts l.fn.out.items ++ behind_first (declarations_spelling (declarations_view l.list))
 
-abbrev pub invariant-definitions-loop-d : goal.invariant-definitions-loop-d
-invariant-definitions-loop-d l =
-    kind_parts l.out.items ++ joined l.is_first (definitions_spelling (definitions_view (drop l.d-index l.ds)))
-    ≡ kind_parts l.fn.out.items ++ behind_first (definitions_spelling (definitions_view l.ds))
+abbrev pub invariant-definitions-loop-each : goal.invariant-definitions-loop-each
+invariant-definitions-loop-each l =
+    kind_parts l.out.items ++ joined l.is_first (definitions_spelling (definitions_view (drop l.each-index l.list)))
+    ≡ kind_parts l.fn.out.items ++ behind_first (definitions_spelling (definitions_view l.list))
 
 abbrev pub invariant-entries-loop-constant : goal.invariant-entries-loop-constant
 invariant-entries-loop-constant l =
     kind_parts l.out.items ++ joined l.is_first (entries_spelling l.symbol (entries_view (drop l.constant-index l.constants)))
     ≡ kind_parts l.fn.out.items ++ behind_first (entries_spelling l.symbol (entries_view l.constants))
 
-abbrev pub invariant-items-loop-i : goal.invariant-items-loop-i
-invariant-items-loop-i l =
-    kind_parts l.out.items ++ joined l.is_first (items_spelling (items_view (drop l.i-index l.is)))
-    ≡ kind_parts l.fn.out.items ++ joined l.fn.nothing_before (items_spelling (items_view l.is))
+abbrev pub invariant-items-loop-each : goal.invariant-items-loop-each
+invariant-items-loop-each l =
+    kind_parts l.out.items ++ joined l.is_first (items_spelling (items_view (drop l.each-index l.list)))
+    ≡ kind_parts l.fn.out.items ++ joined l.fn.nothing_before (items_spelling (items_view l.list))
 
-abbrev pub invariant-labels-loop-l : goal.invariant-labels-loop-l
-invariant-labels-loop-l l =
-    kind_parts l.out.items ++ labels_spelling (labels_view (drop l.l-index l.ls))
-    ≡ kind_parts l.fn.out.items ++ labels_spelling (labels_view l.ls)
+abbrev pub invariant-labels-loop-each : goal.invariant-labels-loop-each
+invariant-labels-loop-each l =
+    kind_parts l.out.items ++ labels_spelling (labels_view (drop l.each-index l.list))
+    ≡ kind_parts l.fn.out.items ++ labels_spelling (labels_view l.list)
