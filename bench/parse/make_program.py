@@ -1,0 +1,31 @@
+#!/usr/bin/env python3
+"""Writes a program of at most so many tokens: routines with commands and expressions of all kinds.
+
+    make_program.py TOKENS
+    make_program.py nested N     one expression within N monadic signs
+    make_program.py brackets N   one expression within N round brackets
+    make_program.py blocks N     one command within N blocks
+"""
+import sys
+
+ROUTINE = """AND R{n}(A, B) BE
+$( LET X, Y = A + B * 3, (A - B - {n}) REM 7
+   IF X = Y & NOT A > B DO X := X!Y + R{n}(Y, !X)
+   TEST X < 10 THEN $( FOR I = 1 TO 10 DO WRCH('A' + I); LOOP $)
+   ELSE WHILE X NE 0 DO X := X - 1
+   SWITCHON X -> 1, Y INTO $( CASE 1: WRITES("one"); ENDCASE
+      DEFAULT: X := TABLE 1, 2, 3 $)
+   $( X := X << 1; Y := VALOF RESULTIS X >> 2 $) REPEATUNTIL X LOGOR Y $)
+"""
+TOKENS = 135
+
+if sys.argv[1] == "nested":
+    print("LET S() BE X := " + "- " * int(sys.argv[2]) + "1")
+elif sys.argv[1] == "brackets":
+    print("LET S() BE X := " + "(" * int(sys.argv[2]) + "1" + ")" * int(sys.argv[2]))
+elif sys.argv[1] == "blocks":
+    print("LET S() BE " + "$( " * int(sys.argv[2]) + "A()" + " $)" * int(sys.argv[2]))
+else:
+    print("LET S() BE RETURN")
+    for number in range(int(sys.argv[1]) // TOKENS):
+        print(ROUTINE.format(n=number), end="")
