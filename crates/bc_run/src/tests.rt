@@ -155,19 +155,25 @@ fn readers_fail(rt: HostRuntime) -> Result<(), Fail> {
 
 /// The calls that take memory: whether each gave its answer, or else only a fault for want of memory.
 fn grown(alloc: Global) -> (bool, bool) {
-    let made = primitives(alloc);
-    let Ok(mut streams) = streams(alloc, b"") else {
-        return (false, true);
-    };
-    let answer = run_text(alloc, HELLO, &mut streams, 12);
-    let given = made.is_ok() && answer == Ok(End::Finished);
-    let lawful = matches!(
-        &answer,
-        Ok(End::Finished)
-            | Err(RunFault::Memory)
-            | Err(RunFault::Text(TextError::Memory))
-            | Err(RunFault::Link(LinkError::Memory))
-    );
+    let mut given = primitives(alloc).is_ok();
+    let mut lawful = true;
+    let texts: [(&[u8], End); 2] = [(HELLO, End::Finished), (b"1 LL1 Z", End::BudgetSpent)];
+    for (text, end) in texts {
+        let Ok(mut streams) = streams(alloc, b"") else {
+            return (false, lawful);
+        };
+        let answer = run_text(alloc, text, &mut streams, 12);
+        let is_given = answer == Ok(end);
+        given = given && is_given;
+        lawful = lawful
+            && (is_given
+                || matches!(
+                    &answer,
+                    Err(RunFault::Memory)
+                        | Err(RunFault::Text(TextError::Memory))
+                        | Err(RunFault::Link(LinkError::Memory))
+                ));
+    }
     (given, lawful)
 }
 
