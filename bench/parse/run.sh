@@ -1,7 +1,7 @@
 #!/usr/bin/env bash
 # The time of `parse` and of `spell` over a generated program of almost 60,000 tokens and over one of half as many: the
-# best of forty runs of each, taken in turn. Prints the rates and the ratios. Then parses and spells the deepest programs
-# that are accepted in a stack of 1 MB.
+# best of forty runs of each, taken in turn. Prints the rates and the ratios, and then how much stack the deepest programs
+# that are accepted take.
 #
 # The program is built in a workspace of its own outside the repository, with copies of the crates, since it is
 # no crate of the repository: in $BENCH_WORK, or else in a folder of the system's for temporary files.
@@ -33,9 +33,19 @@ done
 tokens=$("$program" <"$work/whole" | cut -d' ' -f2)
 echo "$best $tokens" | awk '{
     printf "%d tokens: parse %.1f million tokens/s, twice the tokens take %.2f times as long; spell %.1f million tokens/s, %.2f times\n", $5, $5 * 1000 / $1, $1 / $2, $5 * 1000 / $3, $3 / $4 }'
-ulimit -s 1024
-for deep in "nested 197" "brackets 400" "blocks 198"; do
+fits() {
+    (ulimit -s "$1" && exec "$program" <"$work/deep") >/dev/null
+}
+
+# The least stack of a few that the deepest programs of some kinds are parsed and spelled in.
+for deep in "nested 197" "brackets 400" "blocks 197" "loops 197"; do
     # The words are split on purpose.
     # shellcheck disable=SC2086
-    python3 make_program.py $deep | "$program" >/dev/null && echo "$deep: within 1 MB of stack"
+    python3 make_program.py $deep >"$work/deep"
+    for stack in 256 384 512 640 768 896 1024 1152 1280 8192; do
+        if fits "$stack" 2>/dev/null; then
+            echo "$deep: $stack KB of stack"
+            break
+        fi
+    done
 done
