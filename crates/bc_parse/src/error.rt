@@ -16,6 +16,7 @@ pub enum ParseError {
     /// than 400 round brackets are open.
     #[error("too deep at token {0}")]
     TooDeep(usize),
+    /// An allocation was refused.
     #[error("out of memory")]
     Memory,
 }

@@ -6,7 +6,7 @@ use Rattle.bc_lex.specs.Bytes.{escaped}
 use Rattle.bc_lex.specs.Quotes.{Plain, Escape}
 use Rattle.bc_lex.specs.Lexemes.{IsLexeme, Constant}
 use Rattle.bc_spell.specs.Rendered.{escape_of, in_signs, character_text}
-use Rattle.bc_reread.proofs.Numerals.{below_holds}
+use Rattle.bc_roundtrip.proofs.Numerals.{below_holds}
 
 abbrev stands_for : Option ℕ → ℕ → Bool
 stands_for None c = false

@@ -11,10 +11,10 @@ use Rattle.bc_lex.specs.Gaps.{breaks, IsGap, Nothing, More, Space}
 use Rattle.bc_lex.specs.Lexemes.{IsLexeme, Named, Numeral, Literal, is_digit_of}
 use Rattle.bc_lex.specs.Tokens.{Reads, End, Next, Whole, token}
 use Rattle.bc_spell.specs.Rendered.{text_of, rendered}
-use Rattle.bc_reread.specs.Rereads.{IsToken, quoted, part_of, IsReread}
-use Rattle.bc_reread.proofs.Numerals.{decimal_number}
-use Rattle.bc_reread.proofs.Constants.{constant_lexeme}
-use Rattle.bc_reread.proofs.Symbols.{Spaced, nothing, blank, ends, symbol_lexeme}
+use Rattle.bc_roundtrip.specs.Rereads.{IsToken, quoted, part_of, IsReread}
+use Rattle.bc_roundtrip.proofs.Numerals.{decimal_number}
+use Rattle.bc_roundtrip.proofs.Constants.{constant_lexeme}
+use Rattle.bc_roundtrip.proofs.Symbols.{Spaced, nothing, blank, ends, symbol_lexeme}
 
 abbrev kind : Part → Kind
 kind (A s) = token_kinds.Sign s
