@@ -35,6 +35,9 @@ seen rest = parts rest.parts.now
 abbrev pub ReadExp : Result (code.Exp × ℕ × Rest) ReadFault → Result (Piece Exp) Fault → Type 0
 ReadExp = Gives (λ x. piece (exp_view x.0) x.1 (seen x.2))
 
+abbrev pub ReadApart : Result (Box code.Exp Global × ℕ × Rest) ReadFault → Result (Piece Exp) Fault → Type 0
+ReadApart = Gives (λ x. piece (exp_view x.0.value) x.1 (seen x.2))
+
 abbrev pub ReadOperand : Result (code.Exp × ℕ × ℕ × Rest) ReadFault → Result (Piece (Exp × ℕ)) Fault → Type 0
 ReadOperand = Gives (λ x. piece (exp_view x.0, x.1) x.2 (seen x.3))
 
@@ -89,9 +92,9 @@ ReadPlaces = Gives (λ x. piece (declarations_view x.0.items, items_view x.1.ite
 abbrev pub PlacesTurn : Result (Vec code_declaration.Declaration Global × Vec code_item.Item Global × ℕ × Rest × Bool) ReadFault → Result (Piece (Declarations × Items) × Bool) Fault → Type 0
 PlacesTurn = Gives (λ x. (piece (declarations_view x.0.items, items_view x.1.items) x.2 (seen x.3), x.4))
 
-abbrev pub exp_option : Option code.Exp → Option Exp
+abbrev pub exp_option : Option (Box code.Exp Global) → Option Exp
 exp_option None = None
-exp_option (Some e) = Some (exp_view e)
+exp_option (Some e) = Some (exp_view e.value)
 
-abbrev pub ReadStep : Result (Option code.Exp × ℕ × Rest) ReadFault → Result (Piece (Option Exp)) Fault → Type 0
+abbrev pub ReadStep : Result (Option (Box code.Exp Global) × ℕ × Rest) ReadFault → Result (Piece (Option Exp)) Fault → Type 0
 ReadStep = Gives (λ x. piece (exp_option x.0) x.1 (seen x.2))

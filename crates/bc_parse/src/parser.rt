@@ -4,7 +4,7 @@ ghost use Rattle.bc_tree.specs.Spelling.{count};
 ghost use Rattle.bc_tree.specs.Tree.{none, no_labels, no_entries, no_declarations, no_items, no_definitions};
 ghost use Rattle.bc_tree.specs.View.{exp_view, exps_view, command_view, block_view, declaration_view, declarations_view, definition_view, definitions_view, label_view, labels_view, item_view, items_view, constant_view, entries_view};
 ghost use Rattle.bc_reading.specs.Reading.{Piece, piece, exp_of, command_of, definition_of, exps_turn, next_exp, exps_read, arguments_read, with_operator, with_arguments, with_choice, suffix_read, grow_turn, grow_read, bracket_read, table_read, monadic_read, valof_read, started_read, operand_read, repeated, repeat_turn, repeats_read, label_read, labels_read, entry_read, entry_turn, entries_read, item_read, definition_turn, definitions_read, declaration_read, part_read, place_turn, places_read, block_read, body_of_block, body_read, do_read, assigned_read, simple_read, tested_read, test_read, step_read, for_read, switch_read, compound_read, repeatable_read, command_read, variables_read, vector_read, routine_read, shaped_read, defined_read, section_of, label_start, shape_of, call_in, as_body, place_end, names_read, name_turn, parameters_read, declares, following, no_item_yet, some_label, may_command};
-ghost use Rattle.bc_parse.specs.Seen.{seen, Gives, ReadExp, ReadOperand, GrowTurn, ReadExps, ExpsTurn, ReadCommand, CommandTurn, ReadBlock, ReadLabels, LabelsTurn, ReadItem, ReadEntries, EntriesTurn, ReadDefinition, ReadDefinitions, DefinitionsTurn, ReadDeclaration, ReadPlaces, PlacesTurn, ReadStep};
+ghost use Rattle.bc_parse.specs.Seen.{seen, Gives, ReadExp, ReadApart, ReadOperand, GrowTurn, ReadExps, ExpsTurn, ReadCommand, CommandTurn, ReadBlock, ReadLabels, LabelsTurn, ReadItem, ReadEntries, EntriesTurn, ReadDefinition, ReadDefinitions, DefinitionsTurn, ReadDeclaration, ReadPlaces, PlacesTurn, ReadStep};
 ghost use Rattle.bc_parse.specs.SeenFollow.{follow_view, label_at_view, shape_view};
 ghost use Rattle.bc_parse.specs.Names.{names_view, ReadNames, NamesTurn};
 
@@ -104,6 +104,22 @@ fn exp<'s, 't>(
         height,
         behind,
     )
+}
+
+/// The same in memory of its own.
+#[cycle(parser)]
+fn exp_apart<'s, 't>(
+    alloc: Global,
+    nest: usize,
+    round: usize,
+    level: usize,
+    rest: Rest<'s, 't>,
+) -> Result<(Box<Exp<'s>>, usize, Rest<'s, 't>), ReadFault>
+    ensures read { (n : ℕ) → nest + round ≤ n → ReadApart result (exp_of n nest round level (seen rest.entry)) }
+    ensures low { IfOk result (λ x. x.1 ≤ nest) }
+{
+    let (e, height, behind) = exp(alloc, nest, round, level, rest)?;
+    Ok((Box::new(alloc, e)?, height, behind))
 }
 
 /// An operand, with the level that it has.
@@ -226,8 +242,13 @@ fn monadic<'s, 't>(
     ensures read { (n : ℕ) → nest + round ≤ n + 1 → ReadExp result (monadic_read (exp_of n) nest round op (seen rest.entry)) }
     ensures low { IfOk result (λ x. x.1 ≤ nest) }
 {
-    let (inner, height, behind) = exp(alloc, nest - 1, round, words::level_behind(op), rest)?;
-    let inner = Box::new(alloc, inner)?;
+    let (inner, height, behind) = exp_apart(
+        alloc,
+        nest - 1,
+        round,
+        words::level_behind(op),
+        rest,
+    )?;
     Ok((Exp::Monadic(op, inner), height + 1, behind))
 }
 
@@ -352,9 +373,8 @@ fn operated<'s, 't>(
     if height >= nest {
         return Err(ReadFault::TooDeep(place));
     }
-    let (right, h, behind) = exp(alloc, nest - 1, round, words::level(op) + 1, rest)?;
+    let (right, h, behind) = exp_apart(alloc, nest - 1, round, words::level(op) + 1, rest)?;
     let left = Box::new(alloc, left)?;
-    let right = Box::new(alloc, right)?;
     Ok((Exp::Dyadic(op, left, right), height.max(h) + 1, behind))
 }
 
@@ -397,12 +417,10 @@ fn chosen<'s, 't>(
     if height >= nest {
         return Err(ReadFault::TooDeep(place));
     }
-    let (x, x_height, behind) = exp(alloc, nest - 1, round, 1, rest)?;
-    let behind = cursor::expect(Symbol::Comma, behind)?;
-    let (y, y_height, behind) = exp(alloc, nest - 1, round, 1, behind)?;
     let left = Box::new(alloc, left)?;
-    let x = Box::new(alloc, x)?;
-    let y = Box::new(alloc, y)?;
+    let (x, x_height, behind) = exp_apart(alloc, nest - 1, round, 1, rest)?;
+    let behind = cursor::expect(Symbol::Comma, behind)?;
+    let (y, y_height, behind) = exp_apart(alloc, nest - 1, round, 1, behind)?;
     Ok((
         Exp::Condition(left, x, y),
         height.max(x_height).max(y_height) + 1,
@@ -1228,7 +1246,7 @@ fn test<'s, 't>(
     ensures read { (n : ℕ) → nest + round ≤ n + 1 → ReadCommand result (test_read (exp_of n) (command_of n) (definition_of n) nest round (seen rest.entry)) }
     ensures low { IfOk result (λ x. x.1 ≤ nest) }
 {
-    let (test, h, behind) = exp(alloc, nest - 1, round, 1, rest)?;
+    let (test, h, behind) = exp_apart(alloc, nest - 1, round, 1, rest)?;
     let (first, first_height, behind) = do_body(alloc, nest - 1, round, behind)?;
     let behind = cursor::expect(Symbol::Else, behind)?;
     let (other, other_height, behind) = body(alloc, nest - 1, round, behind)?;
@@ -1246,14 +1264,14 @@ fn step<'s, 't>(
     nest: usize,
     round: usize,
     rest: Rest<'s, 't>,
-) -> Result<(Option<Exp<'s>>, usize, Rest<'s, 't>), ReadFault>
+) -> Result<(Option<Box<Exp<'s>>>, usize, Rest<'s, 't>), ReadFault>
     ensures read { (n : ℕ) → nest + round ≤ n → ReadStep result (step_read (exp_of n) (command_of n) (definition_of n) nest round (seen rest.entry)) }
     ensures low { IfOk result (λ x. x.1 ≤ nest) }
 {
     match cursor::after(Symbol::By, rest) {
         None => Ok((None, 0, rest)),
         Some(then) => {
-            let (value, height, behind) = exp(alloc, nest, round, 2, then)?;
+            let (value, height, behind) = exp_apart(alloc, nest, round, 2, then)?;
             Ok((Some(value), height, behind))
         }
     }
@@ -1273,9 +1291,9 @@ fn for_command<'s, 't>(
 {
     let (name, behind) = cursor::name(rest)?;
     let behind = cursor::expect(Symbol::Equal, behind)?;
-    let (start, start_height, behind) = exp(alloc, nest - 1, round, 1, behind)?;
+    let (start, start_height, behind) = exp_apart(alloc, nest - 1, round, 1, behind)?;
     let behind = cursor::expect(Symbol::To, behind)?;
-    let (limit, limit_height, behind) = exp(alloc, nest - 1, round, 1, behind)?;
+    let (limit, limit_height, behind) = exp_apart(alloc, nest - 1, round, 1, behind)?;
     let (by, by_height, behind) = step(alloc, nest - 1, round, behind)?;
     let (found, height, behind) = do_body(alloc, nest - 1, round, behind)?;
     let height = start_height.max(limit_height).max(by_height).max(height) + 1;

@@ -162,9 +162,9 @@ fn constants_stand_in_brackets(rt: HostRuntime) -> Result<(), Fail> {
     let step = monadic(alloc, Monadic::Negate, number(1))?;
     let round = Command::For(
         b"I",
-        number(9),
-        Exp::Name(b"N"),
-        Some(step),
+        Box::new(alloc, number(9))?,
+        Box::new(alloc, Exp::Name(b"N"))?,
+        Some(Box::new(alloc, step)?),
         body(alloc, Command::Loop)?,
     );
     assert_eq!(rt;
@@ -174,8 +174,8 @@ fn constants_stand_in_brackets(rt: HostRuntime) -> Result<(), Fail> {
 
     let round = Command::For(
         b"I",
-        number(0),
-        number(9),
+        Box::new(alloc, number(0))?,
+        Box::new(alloc, number(9))?,
         None,
         body(alloc, Command::Break)?,
     );
@@ -192,7 +192,7 @@ fn both_bodies_of_a_test_are_spelled(rt: HostRuntime) -> Result<(), Fail> {
     let this = body(alloc, called(alloc, b"A")?)?;
     let repeated = Box::new(alloc, called(alloc, b"B")?)?;
     let that = body(alloc, Command::RepeatUntil(repeated, Exp::True))?;
-    let command = Command::Test(Exp::False, this, that);
+    let command = Command::Test(Box::new(alloc, Exp::False)?, this, that);
     assert_eq!(rt;
         text(alloc, command)?.as_slice(),
         b"LET S ( ) BE $( TEST FALSE DO $( A ( ) $) ELSE $( B ( ) REPEATUNTIL TRUE $) $)".as_slice()

@@ -1,5 +1,7 @@
 -- What the program's trees stand for.
 use Rattle.std.specs.Prelude.{ℕ, List, [], ◌∷◌, map, Option, Some, None}
+use Rattle.std.specs.declared.alloc.Global.{Global}
+use Rattle.std.specs.declared.boxed.Box.{Box}
 use Rattle.bc_tree.specs.declared.tree.Block.{fold-Block, Block-F}
 use Rattle.bc_tree.specs.declared.tree.Block as code_block
 use Rattle.bc_tree.specs.declared.tree.Command.{fold-Command, Command-F}
@@ -91,6 +93,10 @@ abbrev pub for_from : List ℕ → Exp → Exp → Option Exp → Block → Comm
 for_from n a z None b = pure.For n a z b
 for_from n a z (Some k) b = pure.ForBy n a z k b
 
+abbrev pub unboxed : Option (Box Exp Global) → Option Exp
+unboxed None = None
+unboxed (Some k) = Some k.value
+
 abbrev pub command_step : Command-F Command Declaration Definition Exp Label Block (List ℕ × Exp) Item → Command
 command_step (Command-F.Assign xs es) = pure.Assign (exps_of xs.items) (exps_of es.items)
 command_step (Command-F.Command::Call f es) = pure.Do f.value (exps_of es.items)
@@ -109,8 +115,8 @@ command_step (Command-F.If e b) = pure.If e b
 command_step (Command-F.Unless e b) = pure.Unless e b
 command_step (Command-F.While e b) = pure.While e b
 command_step (Command-F.Until e b) = pure.Until e b
-command_step (Command-F.Test e b d) = pure.Test e b d
-command_step (Command-F.For n a z k b) = for_from n.now a z k b
+command_step (Command-F.Test e b d) = pure.Test e.value b d
+command_step (Command-F.For n a z k b) = for_from n.now a.value z.value (unboxed k) b
 command_step (Command-F.SwitchOn e is) = pure.SwitchOn e (items_of is.items)
 
 -- what each tree stands for

@@ -125,7 +125,8 @@ pub enum Label<'s> {
     Name(&'s [u8]),
 }
 
-/// A command.
+/// A command. Where one holds more than one expression they are in memory of their own, and so a
+/// command takes little room where it is passed by value.
 #[cycle(trees)]
 #[derive(Drop)]
 pub enum Command<'s> {
@@ -149,9 +150,15 @@ pub enum Command<'s> {
     While(Exp<'s>, Block<'s>),
     Until(Exp<'s>, Block<'s>),
     /// A test, the body for true, the body for false.
-    Test(Exp<'s>, Block<'s>, Block<'s>),
+    Test(Box<Exp<'s>>, Block<'s>, Block<'s>),
     /// A variable, its start and limit, the step if there is one, and the body.
-    For(&'s [u8], Exp<'s>, Exp<'s>, Option<Exp<'s>>, Block<'s>),
+    For(
+        &'s [u8],
+        Box<Exp<'s>>,
+        Box<Exp<'s>>,
+        Option<Box<Exp<'s>>>,
+        Block<'s>,
+    ),
     SwitchOn(Exp<'s>, Vec<Item<'s>>),
 }
 

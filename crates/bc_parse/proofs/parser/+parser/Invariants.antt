@@ -8,6 +8,9 @@ use Rattle.bc_parse.proofs.parser.+parser.Given as goal
 abbrev pub decreases-exp : goal.decreases-exp
 decreases-exp l = 64 * (l.nest + l.round) + 20
 
+abbrev pub decreases-exp_apart : goal.decreases-exp_apart
+decreases-exp_apart l = 64 * (l.nest + l.round) + 21
+
 abbrev pub decreases-operand : goal.decreases-operand
 decreases-operand l = 64 * (l.nest + l.round) + 19
 
@@ -75,7 +78,7 @@ abbrev pub decreases-switch_on : goal.decreases-switch_on
 decreases-switch_on l = 64 * (l.nest + l.round) + 28
 
 abbrev pub decreases-step : goal.decreases-step
-decreases-step l = 64 * (l.nest + l.round) + 21
+decreases-step l = 64 * (l.nest + l.round) + 22
 
 abbrev pub decreases-repeatable : goal.decreases-repeatable
 decreases-repeatable l = 64 * (l.nest + l.round) + 29
