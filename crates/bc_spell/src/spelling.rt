@@ -367,54 +367,16 @@ fn cases<'s>(out: &mut Vec<TokenKind<'s>>, list: &[Item<'s>]) -> Result<(), Memo
     sign(out, Symbol::CloseSection)
 }
 
-/// Left sides, and the right sides behind them.
-#[cycle(spelling)]
-fn assignment<'s>(
-    out: &mut Vec<TokenKind<'s>>,
-    places: &[Exp<'s>],
-    values: &[Exp<'s>],
-) -> Result<(), Memory>
-    ensures { Adds result out.old out.new (behind_first (after_commas (exps_view places.now)) ++ A sign.Assign ∷ behind_first (after_commas (exps_view values.now))) }
-{
-    expressions(out, places)?;
-    sign(out, Symbol::Assign)?;
-    expressions(out, values)
-}
-
-/// A command, and a REPEAT word with its test behind it.
-#[cycle(spelling)]
-fn repeated<'s>(
-    out: &mut Vec<TokenKind<'s>>,
-    tree: &Command<'s>,
-    word: Symbol,
-    test: &Exp<'s>,
-) -> Result<(), Memory>
-    ensures { Adds result out.old out.new (command_spelling (command_view tree.now) ++ A word ∷ whole (exp_view test.now)) }
-{
-    command(out, tree)?;
-    worded(out, word, test)
-}
-
-/// A word with its test, and a body.
-#[cycle(spelling)]
-fn tested<'s>(
-    out: &mut Vec<TokenKind<'s>>,
-    word: Symbol,
-    test: &Exp<'s>,
-    body: &Block<'s>,
-) -> Result<(), Memory>
-    ensures { Adds result out.old out.new (A word ∷ (whole (exp_view test.now) ++ A sign.Do ∷ block_spelling (block_view body.now))) }
-{
-    worded(out, word, test)?;
-    done(out, body)
-}
-
 #[cycle(spelling)]
 fn command<'s>(out: &mut Vec<TokenKind<'s>>, tree: &Command<'s>) -> Result<(), Memory>
     ensures { Adds result out.old out.new (command_spelling (command_view tree.now)) }
 {
     match tree {
-        Command::Assign(places, values) => assignment(out, places, values),
+        Command::Assign(places, values) => {
+            expressions(out, places)?;
+            sign(out, Symbol::Assign)?;
+            expressions(out, values)
+        }
         Command::Call(called, values) => {
             routine(out, called)?;
             arguments(out, values)
@@ -430,29 +392,48 @@ fn command<'s>(out: &mut Vec<TokenKind<'s>>, tree: &Command<'s>) -> Result<(), M
             sign(out, Symbol::Goto)?;
             name(out, label)
         }
-        Command::Repeat(inner) => {
-            command(out, inner)?;
+        Command::Repeat(repeated) => {
+            command(out, repeated)?;
             sign(out, Symbol::Repeat)
         }
-        Command::RepeatWhile(inner, test) => repeated(out, inner, Symbol::RepeatWhile, test),
-        Command::RepeatUntil(inner, test) => repeated(out, inner, Symbol::RepeatUntil, test),
-        Command::If(test, body) => tested(out, Symbol::If, test, body),
-        Command::Unless(test, body) => tested(out, Symbol::Unless, test, body),
-        Command::While(test, body) => tested(out, Symbol::While, test, body),
-        Command::Until(test, body) => tested(out, Symbol::Until, test, body),
+        Command::RepeatWhile(repeated, test) => {
+            command(out, repeated)?;
+            worded(out, Symbol::RepeatWhile, test)
+        }
+        Command::RepeatUntil(repeated, test) => {
+            command(out, repeated)?;
+            worded(out, Symbol::RepeatUntil, test)
+        }
+        Command::If(test, body) => {
+            worded(out, Symbol::If, test)?;
+            done(out, body)
+        }
+        Command::Unless(test, body) => {
+            worded(out, Symbol::Unless, test)?;
+            done(out, body)
+        }
+        Command::While(test, body) => {
+            worded(out, Symbol::While, test)?;
+            done(out, body)
+        }
+        Command::Until(test, body) => {
+            worded(out, Symbol::Until, test)?;
+            done(out, body)
+        }
         Command::Test(test, this, that) => {
-            tested(out, Symbol::Test, test, this)?;
+            worded(out, Symbol::Test, test)?;
+            done(out, this)?;
             sign(out, Symbol::Else)?;
             block(out, that)
         }
-        Command::For(variable, start, limit, by, body) => {
+        Command::For(variable, start, limit, step, body) => {
             sign(out, Symbol::For)?;
             name(out, variable)?;
             worded(out, Symbol::Equal, start)?;
             worded(out, Symbol::To, limit)?;
-            if let Some(step) = by {
+            if let Some(by) = step {
                 sign(out, Symbol::By)?;
-                part(out, step)?;
+                part(out, by)?;
             }
             done(out, body)
         }
