@@ -3,10 +3,10 @@ use bc_word::Word;
 /// The registers that the machine keeps from one instruction to the next.
 #[derive(Clone, Copy, Debug, PartialEq, Eq)]
 pub struct Registers {
-    /// The accumulator.
-    pub a: u16,
     /// The second accumulator, what A was before the last load.
     pub b: u16,
+    /// The accumulator.
+    pub a: u16,
     /// The address of the next instruction.
     pub c: u16,
     /// The address of the frame at work.
