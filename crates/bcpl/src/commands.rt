@@ -24,45 +24,27 @@ fn named<T: Drop>(alloc: Global, name: &str, device: T) -> Result<Named<T>, Fail
     })
 }
 
-fn standard_source<R: Read + Drop, F: Read + Drop>(
-    alloc: Global,
-    input: R,
-) -> Result<Source<R, F>, Failure> {
-    match BufReader::new(alloc, input) {
-        Ok(reader) => Ok(Source::Standard(reader)),
-        Err(error) => Err(Failure::io(alloc, &error, "SYSIN")),
-    }
-}
+/// An input of a run.
+type Input<R, F> = Named<BufReader<Source<R, F>>>;
 
-fn standard_sink<O: Write + Drop, F: Write + Drop>(
-    alloc: Global,
-    out: O,
-) -> Result<Sink<O, F>, Failure> {
-    match BufWriter::new(alloc, out) {
-        Ok(writer) => Ok(Sink::Standard(writer)),
-        Err(error) => Err(Failure::io(alloc, &error, "SYSPRINT")),
-    }
-}
+/// An output of a run.
+type Output<O, F> = Named<BufWriter<Sink<O, F>>>;
 
-/// The inputs of a run: standard input, and the files.
+/// The inputs of a run: standard input, or nothing in its place, and the files.
 fn inputs<F: Files, R: Read + Drop>(
     rt: &F,
     alloc: Global,
-    input: R,
+    first: Source<R, F::File>,
     bindings: &[Binding<'_>],
-) -> Result<Vec<Named<Source<R, F::File>>>, Failure> {
+) -> Result<Vec<Input<R, F::File>>, Failure> {
     let mut inputs = Vec::new(alloc);
-    inputs.push(named(alloc, "SYSIN", standard_source(alloc, input)?)?)?;
+    inputs.push(named(alloc, "SYSIN", first.buffered(alloc, "SYSIN")?)?)?;
     for binding in bindings {
-        let file = match fs::open(rt, binding.path) {
-            Ok(file) => file,
+        let source = match fs::open(rt, binding.path) {
+            Ok(file) => Source::File(file),
             Err(error) => return Err(Failure::io(alloc, &error, binding.path)),
         };
-        let device = match BufReader::new(alloc, file) {
-            Ok(reader) => Source::File(reader),
-            Err(error) => return Err(Failure::io(alloc, &error, binding.path)),
-        };
-        inputs.push(named(alloc, binding.name, device)?)?;
+        inputs.push(named(alloc, binding.name, source.buffered(alloc, binding.path)?)?)?;
     }
     Ok(inputs)
 }
@@ -73,19 +55,16 @@ fn outputs<F: Files, O: Write + Drop>(
     alloc: Global,
     out: O,
     bindings: &[Binding<'_>],
-) -> Result<Vec<Named<Sink<O, F::File>>>, Failure> {
+) -> Result<Vec<Output<O, F::File>>, Failure> {
     let mut outputs = Vec::new(alloc);
-    outputs.push(named(alloc, "SYSPRINT", standard_sink(alloc, out)?)?)?;
+    let first = Sink::Standard(out);
+    outputs.push(named(alloc, "SYSPRINT", first.buffered(alloc, "SYSPRINT")?)?)?;
     for binding in bindings {
-        let file = match fs::create(rt, binding.path) {
-            Ok(file) => file,
+        let sink = match fs::create(rt, binding.path) {
+            Ok(file) => Sink::File(file),
             Err(error) => return Err(Failure::io(alloc, &error, binding.path)),
         };
-        let device = match BufWriter::new(alloc, file) {
-            Ok(writer) => Sink::File(writer),
-            Err(error) => return Err(Failure::io(alloc, &error, binding.path)),
-        };
-        outputs.push(named(alloc, binding.name, device)?)?;
+        outputs.push(named(alloc, binding.name, sink.buffered(alloc, binding.path)?)?)?;
     }
     Ok(outputs)
 }
@@ -102,15 +81,14 @@ fn closed<R: Read, W: Write>(streams: &mut FileStreams<R, W>, end: End) -> Resul
 
 /// Runs the text on standard input, over an empty input.
 fn run_input<F: Files, R: Read + Drop, O: Write + Drop>(
-    _rt: &F,
+    rt: &F,
     alloc: Global,
     input: R,
     out: O,
 ) -> Result<(), Failure> {
-    let mut inputs: Vec<Named<Source<R, F::File>>> = Vec::new(alloc);
-    inputs.push(named(alloc, "SYSIN", Source::Empty)?)?;
-    let mut outputs: Vec<Named<Sink<O, F::File>>> = Vec::new(alloc);
-    outputs.push(named(alloc, "SYSPRINT", standard_sink(alloc, out)?)?)?;
+    let nothing: Source<R, F::File> = Source::Empty;
+    let inputs = inputs(rt, alloc, nothing, &[])?;
+    let outputs = outputs(rt, alloc, out, &[])?;
     let mut streams = FileStreams::new(alloc, inputs, outputs)?;
     match run_text(alloc, input, &mut streams, DEFAULT_STEPS) {
         Ok(end) => closed(&mut streams, end),
@@ -130,7 +108,7 @@ fn run<F: Files, R: Read + Drop, O: Write + Drop>(
     out: O,
 ) -> Result<(), Failure> {
     let image = image_of(rt, alloc, order.texts.as_slice())?;
-    let inputs = inputs(rt, alloc, input, order.inputs.as_slice())?;
+    let inputs = inputs(rt, alloc, Source::Standard(input), order.inputs.as_slice())?;
     let outputs = outputs(rt, alloc, out, order.outputs.as_slice())?;
     let mut streams = FileStreams::new(alloc, inputs, outputs)?;
     let mut machine = Machine::new(alloc, &image)?;

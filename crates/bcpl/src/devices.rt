@@ -1,5 +1,7 @@
 //! What the streams of a run read from and write to.
 
+use crate::failure::Failure;
+use std::alloc::Global;
 use std::io;
 use std::io::{BufReader, BufWriter, Read, Write};
 
@@ -7,11 +9,21 @@ use std::io::{BufReader, BufWriter, Read, Write};
 #[derive(Drop)]
 pub enum Source<R: Read + Drop, F: Read + Drop> {
     /// Standard input.
-    Standard(BufReader<R>),
+    Standard(R),
     /// A file.
-    File(BufReader<F>),
+    File(F),
     /// Nothing.
     Empty,
+}
+
+impl<R: Read + Drop, F: Read + Drop> Source<R, F> {
+    /// This source with a buffer. A fault names the source by `name`.
+    pub fn buffered(self, alloc: Global, name: &str) -> Result<BufReader<Source<R, F>>, Failure> {
+        match BufReader::new(alloc, self) {
+            Ok(reader) => Ok(reader),
+            Err(error) => Err(Failure::io(alloc, &error, name)),
+        }
+    }
 }
 
 impl<R: Read + Drop, F: Read + Drop> Read for Source<R, F> {
@@ -28,9 +40,19 @@ impl<R: Read + Drop, F: Read + Drop> Read for Source<R, F> {
 #[derive(Drop)]
 pub enum Sink<O: Write + Drop, F: Write + Drop> {
     /// Standard output.
-    Standard(BufWriter<O>),
+    Standard(O),
     /// A file.
-    File(BufWriter<F>),
+    File(F),
+}
+
+impl<O: Write + Drop, F: Write + Drop> Sink<O, F> {
+    /// This sink with a buffer. A fault names the sink by `name`.
+    pub fn buffered(self, alloc: Global, name: &str) -> Result<BufWriter<Sink<O, F>>, Failure> {
+        match BufWriter::new(alloc, self) {
+            Ok(writer) => Ok(writer),
+            Err(error) => Err(Failure::io(alloc, &error, name)),
+        }
+    }
 }
 
 impl<O: Write + Drop, F: Write + Drop> Write for Sink<O, F> {
