@@ -6,6 +6,7 @@
     make_program.py brackets N   one expression within N round brackets
     make_program.py blocks N     one command within N blocks
     make_program.py loops N      N loops one within another, each in a block, around an expression within 400 round brackets
+    make_program.py constants N  N constants one within another, whose values are VALOFs in two round brackets
 """
 import sys
 
@@ -28,6 +29,9 @@ elif sys.argv[1] == "blocks":
     print("LET S() BE " + "$( " * int(sys.argv[2]) + "A()" + " $)" * int(sys.argv[2]))
 elif sys.argv[1] == "loops":
     print("LET S() BE " + "WHILE 1 DO $( " * int(sys.argv[2]) + "X := " + "(" * 400 + "1" + ")" * 400 + " $)" * int(sys.argv[2]))
+elif sys.argv[1] == "constants":
+    depth = int(sys.argv[2])
+    print("LET S() BE " + "$( MANIFEST $( X = ((VALOF " * depth + "A()" + ")) $) $)" * depth)
 else:
     print("LET S() BE RETURN")
     for number in range(int(sys.argv[1]) // TOKENS):

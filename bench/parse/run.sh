@@ -38,11 +38,11 @@ fits() {
 }
 
 # The least stack of a few that the deepest programs of some kinds are parsed and spelled in.
-for deep in "nested 197" "brackets 400" "blocks 197" "loops 197"; do
+for deep in "nested 197" "brackets 400" "blocks 197" "constants 196" "loops 197"; do
     # The words are split on purpose.
     # shellcheck disable=SC2086
     python3 make_program.py $deep >"$work/deep"
-    for stack in 256 384 512 640 768 896 1024 1152 1280 8192; do
+    for stack in $(seq 128 64 1280) 8192; do
         if fits "$stack" 2>/dev/null; then
             echo "$deep: $stack KB of stack"
             break
