@@ -1,5 +1,8 @@
 //! The words of the command line.
 
+ghost use Rattle.std.specs.Prelude.{◌≡◌};
+ghost use Rattle.bcpl.specs.declared.arguments.BadWords.TheVariants as bad_words;
+
 use clap::{Arg, ArgAction, ArgMatches, Command, Error, value_parser};
 use std::alloc::{AllocError, Global};
 
@@ -46,6 +49,8 @@ pub enum BadWords<'a> {
 }
 
 impl From<AllocError> for BadWords<'_> {
+    ghost from_gives = { λ _ b. b ≡ bad_words.Memory };
+
     fn from(_refused: AllocError) -> Self {
         BadWords::Memory
     }

@@ -1,5 +1,10 @@
 //! The commands.
 
+ghost use Rattle.std.specs.Prelude.{◌≡◌, ◌≢◌, ◌≤◌, Err, IfOk, IfErr};
+ghost use Rattle.bc_step.specs.declared.state.End.TheVariants.{Finished, Device};
+ghost use Rattle.bcpl.specs.Statuses.{status_of};
+ghost use Rattle.bcpl.specs.declared.failure.Failure.TheVariants as failures;
+
 use crate::arguments::{BadWords, Binding, Order, RunOrder, wanted};
 use crate::devices::{Sink, Source};
 use crate::failure::Failure;
@@ -70,7 +75,11 @@ fn outputs<F: Files, O: Write + Drop>(
 }
 
 /// What a run came to, with its streams closed: a finished run whose outputs can't be flushed has met a device failure.
-fn closed<R: Read, W: Write>(streams: &mut FileStreams<R, W>, end: End) -> Result<(), Failure> {
+fn closed<R: Read, W: Write>(streams: &mut FileStreams<R, W>, end: End) -> Result<(), Failure>
+    ensures finished { IfOk result (λ _. end ≡ Finished) }
+    ensures ended { end ≢ Finished → result ≡ Err (failures.Ended end) }
+    ensures device { IfErr result (λ f. end ≡ Finished → f ≡ failures.Ended Device) }
+{
     let closed = streams.close();
     match end {
         End::Finished if closed.is_ok() => Ok(()),
@@ -131,7 +140,9 @@ fn assemble<F: Files, O: Write + Drop>(
 }
 
 /// The status of a command, with its failure told on standard error.
-fn status<E: Write>(done: Result<(), Failure>, err: &mut E) -> u8 {
+fn status<E: Write>(done: Result<(), Failure>, err: &mut E) -> u8
+    ensures { result ≡ status_of done }
+{
     match done {
         Ok(()) => 0,
         Err(failure) => {
@@ -142,7 +153,9 @@ fn status<E: Write>(done: Result<(), Failure>, err: &mut E) -> u8 {
 }
 
 /// The status of words that ask for nothing, with the reason told. Help that was asked for goes to standard output.
-fn refused<O: Write, E: Write>(alloc: Global, bad: &BadWords<'_>, out: &mut O, err: &mut E) -> u8 {
+fn refused<O: Write, E: Write>(alloc: Global, bad: &BadWords<'_>, out: &mut O, err: &mut E) -> u8
+    ensures { result ≤ 3 }
+{
     match bad {
         BadWords::Memory => status(Err(Failure::Memory), err),
         BadWords::Option(word) => {
@@ -176,7 +189,9 @@ pub fn command<'a, F: Files, R: Read + Drop, O: Write + Drop, E: Write + Drop>(
     input: R,
     mut out: O,
     mut err: E,
-) -> u8 {
+) -> u8
+    ensures { result ≤ 3 }
+{
     match wanted(alloc, words) {
         Err(bad) => refused(alloc, &bad, &mut out, &mut err),
         Ok(Order::RunInput) => status(run_input(rt, alloc, input, out), &mut err),
@@ -188,7 +203,9 @@ pub fn command<'a, F: Files, R: Read + Drop, O: Write + Drop, E: Write + Drop>(
 }
 
 /// Tells that this command is not there yet.
-fn absent<E: Write>(command: &str, err: &mut E) -> u8 {
+fn absent<E: Write>(command: &str, err: &mut E) -> u8
+    ensures { result ≡ 1 }
+{
     let _ = writeln!(err, "bcpl: {command} is not here yet");
     1
 }

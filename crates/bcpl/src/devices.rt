@@ -1,5 +1,7 @@
 //! What the streams of a run read from and write to.
 
+ghost use Rattle.bcpl.specs.Devices.{source_remaining, sink_contents};
+
 use crate::failure::Failure;
 use std::alloc::Global;
 use std::io;
@@ -27,6 +29,8 @@ impl<R: Read + Drop, F: Read + Drop> Source<R, F> {
 }
 
 impl<R: Read + Drop, F: Read + Drop> Read for Source<R, F> {
+    ghost remaining = { source_remaining R.remaining F.remaining };
+
     fn read(&mut self, buf: &mut [u8]) -> io::Result<usize> {
         match self {
             Source::Standard(reader) => reader.read(buf),
@@ -56,6 +60,8 @@ impl<O: Write + Drop, F: Write + Drop> Sink<O, F> {
 }
 
 impl<O: Write + Drop, F: Write + Drop> Write for Sink<O, F> {
+    ghost contents = { sink_contents O.contents F.contents };
+
     fn write(&mut self, buf: &[u8]) -> io::Result<usize> {
         match self {
             Sink::Standard(writer) => writer.write(buf),

@@ -1,5 +1,9 @@
 //! What the program says where it does not do what it was asked for.
 
+ghost use Rattle.std.specs.Prelude.{◌≡◌};
+ghost use Rattle.bcpl.specs.Statuses.{failure_status};
+ghost use Rattle.bcpl.specs.declared.failure.Failure.TheVariants as failures;
+
 use bc_link::LinkError;
 use bc_machine::StreamsError;
 use bc_step::End;
@@ -44,7 +48,9 @@ impl Failure {
     }
 
     /// The status that the program ends with.
-    pub fn status(&self) -> u8 {
+    pub fn status(&self) -> u8
+        ensures { result ≡ failure_status self.now }
+    {
         match self {
             Failure::Ended(_) => 2,
             _ => 1,
@@ -53,36 +59,48 @@ impl Failure {
 }
 
 impl From<Memory> for Failure {
+    ghost from_gives = { λ _ f. f ≡ failures.Memory };
+
     fn from(_refused: Memory) -> Self {
         Failure::Memory
     }
 }
 
 impl From<AllocError> for Failure {
+    ghost from_gives = { λ _ f. f ≡ failures.Memory };
+
     fn from(_refused: AllocError) -> Self {
         Failure::Memory
     }
 }
 
 impl<T: Drop> From<AllocFailed<T>> for Failure {
+    ghost from_gives = { λ _ f. f ≡ failures.Memory };
+
     fn from(_refused: AllocFailed<T>) -> Self {
         Failure::Memory
     }
 }
 
 impl From<TextError> for Failure {
+    ghost from_gives = { λ fault f. f ≡ failures.Text fault };
+
     fn from(fault: TextError) -> Self {
         Failure::Text(fault)
     }
 }
 
 impl From<LinkError> for Failure {
+    ghost from_gives = { λ fault f. f ≡ failures.Link fault };
+
     fn from(fault: LinkError) -> Self {
         Failure::Link(fault)
     }
 }
 
 impl From<StreamsError> for Failure {
+    ghost from_gives = { λ fault f. f ≡ failures.Streams fault };
+
     fn from(fault: StreamsError) -> Self {
         Failure::Streams(fault)
     }
