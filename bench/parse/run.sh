@@ -1,7 +1,7 @@
 #!/usr/bin/env bash
 # The time of `parse` and of `spell` over a generated program of almost 60,000 tokens and over one of half as many: the
-# best of forty runs of each, taken in turn. Prints the rates and the ratios, and then how much stack the deepest programs
-# that are accepted take.
+# best of forty runs of each, taken in turn. Prints the rates and the ratios, then how much stack the deepest programs
+# that are accepted take, and then how many random programs the parser and the grammar answer otherwise (against_grammar.py).
 #
 # The program is built in a workspace of its own outside the repository, with copies of the crates, since it is
 # no crate of the repository: in $BENCH_WORK, or else in a folder of the system's for temporary files.
@@ -49,3 +49,5 @@ for deep in "nested 197" "brackets 400" "blocks 197" "constants 196" "loops 197"
         fi
     done
 done
+
+python3 against_grammar.py "$program" 1 2000
