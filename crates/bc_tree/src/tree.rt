@@ -125,8 +125,8 @@ pub enum Label<'s> {
     Name(&'s [u8]),
 }
 
-/// A command. Where one holds more than one expression they are in memory of their own, and so a
-/// command takes little room where it is passed by value.
+/// A command. The two that hold most, TEST and FOR, hold their expressions in boxes, so that any command
+/// takes little room where it is passed by value.
 #[cycle(trees)]
 #[derive(Drop)]
 pub enum Command<'s> {
