@@ -242,13 +242,7 @@ fn monadic<'s, 't>(
     ensures read { (n : ℕ) → nest + round ≤ n + 1 → ReadExp result (monadic_read (exp_of n) nest round op (seen rest.entry)) }
     ensures low { IfOk result (λ x. x.1 ≤ nest) }
 {
-    let (inner, height, behind) = exp_apart(
-        alloc,
-        nest - 1,
-        round,
-        words::level_behind(op),
-        rest,
-    )?;
+    let (inner, height, behind) = exp_apart(alloc, nest - 1, round, words::level_behind(op), rest)?;
     Ok((Exp::Monadic(op, inner), height + 1, behind))
 }
 

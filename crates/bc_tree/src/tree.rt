@@ -152,13 +152,7 @@ pub enum Command<'s> {
     /// A test, the body for true, the body for false.
     Test(Box<Exp<'s>>, Block<'s>, Block<'s>),
     /// A variable, its start and limit, the step if there is one, and the body.
-    For(
-        &'s [u8],
-        Box<Exp<'s>>,
-        Box<Exp<'s>>,
-        Option<Box<Exp<'s>>>,
-        Block<'s>,
-    ),
+    For(&'s [u8], Box<Exp<'s>>, Box<Exp<'s>>, Option<Box<Exp<'s>>>, Block<'s>),
     SwitchOn(Exp<'s>, Vec<Item<'s>>),
 }
 
