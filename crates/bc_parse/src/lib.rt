@@ -1,10 +1,14 @@
 //! From tokens to trees.
 #![tactic(auto)]
 
+mod blocks;
+mod commands;
 mod cursor;
+mod declarations;
 mod error;
+mod expressions;
 mod fault;
-mod parser;
+mod names;
 mod section;
 
 pub use bc_tree::{

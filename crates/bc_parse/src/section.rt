@@ -7,10 +7,10 @@ ghost use Rattle.bc_tree.specs.Tree.{Declarations};
 ghost use Rattle.bc_parse.specs.Canonical.{IsCanonical};
 ghost use Rattle.bc_parse.specs.Parsing.{TokensSpell, parsed, Answers, place_of};
 
+use crate::blocks::section_in;
 use crate::cursor::Rest;
 use crate::error::ParseError;
 use crate::fault::ReadFault;
-use crate::parser;
 use bc_close::CloseFault;
 use bc_token::Token;
 use bc_tree::Section;
@@ -46,7 +46,7 @@ fn read<'s>(alloc: Global, tokens: &[Token<'s>]) -> Result<Section<'s>, ParseErr
     let rest = Rest {
         parts: list.parts.as_slice(),
     };
-    match parser::section_in(alloc, rest) {
+    match section_in(alloc, rest) {
         Ok(section) => Ok(section),
         Err(ReadFault::Memory) => Err(ParseError::Memory),
         Err(ReadFault::Expected(left)) => Err(ParseError::Expected(place(

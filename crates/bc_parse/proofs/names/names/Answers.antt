@@ -5,7 +5,7 @@ use Rattle.bc_reading.specs.Reading.{piece, name_turn, names_read}
 use Rattle.bc_parse.specs.Seen.{seen}
 use Rattle.bc_parse.proofs.Turns.{turns_next, turns_done, turns_fails, turns_spent}
 use Rattle.bc_parse.proofs.Lists.{length_seen}
-use Rattle.bc_parse.proofs.parser.names.Goals as goal
+use Rattle.bc_parse.proofs.names.names.Goals as goal
 
 pub returns-in_err-list : goal.returns-in_err-list
 unfolding names_read

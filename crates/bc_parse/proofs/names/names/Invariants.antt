@@ -2,7 +2,7 @@ use Rattle.std.proofs.Common.{◌≡◌, ◌-◌, ◌+◌, length}
 use Rattle.bc_reading.specs.Reading.{piece, turns, name_turn}
 use Rattle.bc_parse.specs.Seen.{seen}
 use Rattle.bc_parse.specs.Names.{names_view}
-use Rattle.bc_parse.proofs.parser.names.Given as goal
+use Rattle.bc_parse.proofs.names.names.Given as goal
 use Rattle.std.proofs.Common.{[]}
 
 abbrev pub invariant-loop : goal.invariant-loop
