@@ -1,5 +1,5 @@
 -- The canonical spelling of a section is parsed as that section.
-use Rattle.std.proofs.Common.{◌≡◌, ◌∙◌, List, length, Result, Ok, ap, subst}
+use Rattle.std.proofs.Common.{◌≡◌, ◌∙◌, List, length, Ok, ap}
 use Rattle.bc_token.specs.Token.{Lexeme}
 use Rattle.bc_tree.specs.Tree.{Declarations}
 use Rattle.bc_tree.specs.Canonical.{section_spelling}

@@ -1,4 +1,4 @@
-use Rattle.std.proofs.Common.{subst, Result, Ok}
+use Rattle.std.proofs.Common.{subst, Result}
 use Rattle.bc_token.specs.Token.{lexemes_of}
 use Rattle.bc_tree.specs.Tree.{Declarations}
 use Rattle.bc_tree.specs.View.{section_view}
