@@ -48,6 +48,7 @@ impl Words {
     }
 
     /// The words as numbers, in memory of their own.
+    #[inline(never)]
     pub fn to_numbers(&self, alloc: Global) -> Result<Vec<u16>, Memory>
         ensures numbers { IfOk result (λ numbers. numbers.items ≡ self.now) }
         ensures length { IfOk result (λ numbers. vec_len numbers ≡ 65536) }
