@@ -48,6 +48,7 @@ impl Words {
     }
 
     /// The words as numbers, in memory of their own.
+    // A function apart, so that the interpreter's loop lies well (docs/PERFORMANCE.md).
     #[inline(never)]
     pub fn to_numbers(&self, alloc: Global) -> Result<Vec<u16>, Memory>
         ensures numbers { IfOk result (λ numbers. numbers.items ≡ self.now) }

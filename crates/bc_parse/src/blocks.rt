@@ -64,6 +64,7 @@ fn block_body<'s, 't>(
     Ok((found, h, behind))
 }
 
+/// A block, or one command as the block that it is.
 #[cycle(parser)]
 #[tactic(auto, unfolding(bc_reading::specs::Reading::body_read))]
 pub fn body<'s, 't>(

@@ -15,6 +15,7 @@ use bc_token::Symbol;
 use bc_tree::{Constant, Declaration, Definition};
 use std::alloc::Global;
 
+/// A declaration, behind its word.
 #[cycle(parser)]
 #[tactic(auto, unfolding(bc_reading::specs::Reading::declaration_read))]
 pub fn declaration<'s, 't>(

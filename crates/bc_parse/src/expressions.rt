@@ -46,7 +46,7 @@ pub fn exp<'s, 't>(
     )
 }
 
-/// The same in memory of its own.
+/// An expression of at least this level, in memory of its own.
 #[cycle(parser)]
 pub fn exp_apart<'s, 't>(
     alloc: Global,
