@@ -21,7 +21,7 @@ use Rattle.bc_core.specs.Loop.{LoopRound, back, leave, behind_body, while_loop, 
 use Rattle.bc_core.specs.Command.{initialise_one, initialise, declare, perform, perform_block, perform_items, step_of_for}
 use Rattle.bc_core.specs.Primitive.{Primitive, Select, ReadByte, WriteByte, Find, EndStream, byte_of_string, bytes_of_string, on_streams, primitive_work, primitive_frame}
 use Rattle.bc_core.specs.Start.{Placed}
-use Rattle.bc_core.specs.Meaning.{Call as Calling, routine_value, valof_value, valofs_from, place_in, context_in, body_value, passed, with_arguments, in_frame, Callee, OfSection, OfLibrary, callee, enter, calls}
+use Rattle.bc_core.specs.Meaning.{Call as Calling, routine_value, valof_value, valofs_from, place_in, context_in, body_value, passed, with_arguments, in_frame, Callee, OfSection, OfLibrary, callee, entered, entered_of, calls}
 use Rattle.bc_core.specs.Laws.{is_live, Longer, Tidy, CallsAreTidy}
 use Rattle.bc_core.proofs.Outputs.{longer_refl, longer_then, select_longer, read_longer, write_longer, end_longer}
 use Rattle.bc_core.proofs.Liveness.{Outside, filled_outside, passed_outside, live_then, dead_then, given_back, dead_above, set_live}
@@ -235,7 +235,7 @@ tidy_onward top r Returned h = tidy_done top _
 tidy_onward top r (Resulted v) h = tidy_done top _
 tidy_onward top r (Jumped l) h = tidy_done top _
 
-tidy_behind_list : (top : ℕ) (is : Items) (x : Exit) → TidyRun top (behind_list is x)
+tidy_behind_list : (top : ℕ) (is : ℕ → Bool) (x : Exit) → TidyRun top (behind_list is x)
 tidy_behind_list top is Past = tidy_done top _
 tidy_behind_list top is Broke = tidy_done top _
 tidy_behind_list top is Looped = tidy_done top _
@@ -244,7 +244,7 @@ tidy_behind_list top is Returned = tidy_done top _
 tidy_behind_list top is (Resulted v) = tidy_done top _
 tidy_behind_list top is (Jumped l) = tidy_done top _
 
-tidy_listed : (top : ℕ) (is : Items) (items : Entry → Run Exit) (at : Entry) → ((at1 : Entry) → TidyRun top (items at1)) → TidyRun top (listed is items at)
+tidy_listed : (top : ℕ) (is : ℕ → Bool) (items : Entry → Run Exit) (at : Entry) → ((at1 : Entry) → TidyRun top (items at1)) → TidyRun top (listed is items at)
 tidy_listed top is items at h = tidy_repeated top _ at (λ at1. tidy_then top _ _ (h at1) (λ x. tidy_behind_list top is x))
 
 tidy_behind_cases : (top : ℕ) (x : Exit) → TidyRun top (behind_cases x)
@@ -288,9 +288,9 @@ tidy_for top by start limit variable step body hs hl hv ht hb =
     tidy_repeated top _ tt (λ u. tidy_then top variable _ hv (λ i. tidy_choose top (holds (end_relation by) i n) leave _ (tidy_done top (Leave Past))
     (tidy_round top body _ hb (tidy_then top step _ ht (λ u. tidy_back top)))))))
 
-tidy_switched : (top : ℕ) (v : Run ℕ) (is : Items) (items : Entry → Run Exit) → TidyRun top v → ((at : Entry) → TidyRun top (items at)) → TidyRun top (switched v is items)
-tidy_switched top v is items h k =
-    tidy_then top v _ h (λ w. tidy_then top _ behind_cases (tidy_listed top is items (entry_of w is) k) (λ x. tidy_behind_cases top x))
+tidy_switched : (top : ℕ) (v : Run ℕ) (cases is : ℕ → Bool) (items : Entry → Run Exit) → TidyRun top v → ((at : Entry) → TidyRun top (items at)) → TidyRun top (switched v cases is items)
+tidy_switched top v cases is items h k =
+    tidy_then top v _ h (λ w. tidy_then top _ behind_cases (tidy_listed top is items (entry_of cases w) k) (λ x. tidy_behind_cases top x))
 
 mutual
   tidy_perform : (C : Context) → TidyContext C → (c : Command) (p s : ℕ) → TidyRun (p + s) (perform C c p s)
@@ -310,7 +310,7 @@ mutual
       tidy_with_cells 1 (p + s) _ (tidy_up (p + s + 1) top _ one
       (tidy_for top by _ _ _ _ _ (tidy_assign C t start (Frame s) top p (s + 2) le) (tidy_sense C t limit p (s + 2)).0 (tidy_sense C t (Load (Frame s)) p (s + 2)).0
       (tidy_assign C t (step_of_for by s) (Frame s) top p (s + 2) le) (tidy_block C t b p (s + 2))))
-  tidy_perform C t (commands.Switchon e is) p s = tidy_switched (p + s) _ is _ (tidy_sense C t e p s).0 (λ at. tidy_items C t is p s at)
+  tidy_perform C t (commands.Switchon e is) p s = tidy_switched (p + s) _ _ _ _ (tidy_sense C t e p s).0 (λ at. tidy_items C t is p s at)
   tidy_perform C t commands.Break p s = tidy_done (p + s) _
   tidy_perform C t commands.Loop p s = tidy_done (p + s) _
   tidy_perform C t commands.Endcase p s = tidy_done (p + s) _
@@ -321,7 +321,7 @@ mutual
   tidy_perform C t (commands.Nested b) p s = tidy_block C t b p s
 
   tidy_block : (C : Context) → TidyContext C → (b : Block) (p s : ℕ) → TidyRun (p + s) (perform_block C b p s)
-  tidy_block C t (block ds is) p s = tidy_declare C t ds p s _ (tidy_listed (p + (s + cells_declared ds)) is _ Beginning (λ at. tidy_items C t is p (s + cells_declared ds) at))
+  tidy_block C t (block ds is) p s = tidy_declare C t ds p s _ (tidy_listed (p + (s + cells_declared ds)) _ _ Beginning (λ at. tidy_items C t is p (s + cells_declared ds) at))
 
   tidy_items : (C : Context) → TidyContext C → (is : Items) (p s : ℕ) (at : Entry) → TidyRun (p + s) (perform_items C is p s at)
   tidy_items C t no_item p s at = tidy_done (p + s) _
@@ -396,7 +396,7 @@ tidy_with_arguments n f vs r h =
 tidy_in_frame : (f size : ℕ) (r : Run ℕ) → TidyRun f r → TidyRun f (in_frame f size r)
 tidy_in_frame f size r h = tidy_choose f (nat_le (f + size) 65536) _ _ (tidy_turn f r h) (tidy_wild ℕ f)
 
-tidy_enter : (call : Calling) → TidyCall call → (c : Option Callee) (vs : List ℕ) (f : ℕ) → TidyRun f (enter call c vs f)
+tidy_enter : (call : Calling) → TidyCall call → (c : Option Callee) (vs : List ℕ) (f : ℕ) → TidyRun f (entered call (entered_of c) vs f)
 tidy_enter call t None vs f = tidy_wild ℕ f
 tidy_enter call t (Some (OfSection section r)) vs f =
     tidy_in_frame f (frame_size section.core.valofs r) _ (tidy_with_arguments r.parameters f vs _

@@ -20,7 +20,7 @@ use Rattle.bc_core.specs.Loop.{LoopRound, back, leave, behind_body, while_loop, 
 use Rattle.bc_core.specs.Command.{initialise_one, initialise, declare, perform, perform_block, perform_items, step_of_for}
 use Rattle.bc_core.specs.Primitive.{Primitive, primitive_work, primitive_frame, Select, ReadByte, WriteByte, Find, EndStream, byte_of_string, bytes_of_string, string_of, on_streams}
 use Rattle.bc_core.specs.Start.{Placed, placed, start_cells}
-use Rattle.bc_core.specs.Meaning.{Call as Calling, routine_value, valof_value, valofs_from, place_in, context_in, body_value, passed, Callee, OfSection, OfLibrary, callee, enter, calls, result_of, run_of}
+use Rattle.bc_core.specs.Meaning.{Call as Calling, routine_value, valof_value, valofs_from, place_in, context_in, body_value, passed, Callee, OfSection, OfLibrary, callee, entered, entered_of, calls, result_of, run_of}
 use Rattle.bc_core.specs.Laws.{IsCalm, Longer, Tidy, Further, MoreTurnsGoFurther}
 use Rattle.bc_core.proofs.Outputs.{longer_refl, longer_then, select_longer, read_longer, write_longer, end_longer}
 use Rattle.bc_core.proofs.Calm.{CalmRun, calm, no_right}
@@ -293,7 +293,7 @@ more_onward d r q Returned h = more_done d _
 more_onward d r q (Resulted v) h = more_done d _
 more_onward d r q (Jumped l) h = more_done d _
 
-more_behind_list : (d : ℕ) (is : Items) (x : Exit) → MoreRun d (behind_list is x) (behind_list is x)
+more_behind_list : (d : ℕ) (is : ℕ → Bool) (x : Exit) → MoreRun d (behind_list is x) (behind_list is x)
 more_behind_list d is Past = more_done d _
 more_behind_list d is Broke = more_done d _
 more_behind_list d is Looped = more_done d _
@@ -302,7 +302,7 @@ more_behind_list d is Returned = more_done d _
 more_behind_list d is (Resulted v) = more_done d _
 more_behind_list d is (Jumped l) = more_done d _
 
-more_listed : (d : ℕ) (is : Items) (items items1 : Entry → Run Exit) (at : Entry) → ((at1 : Entry) → MoreRun d (items at1) (items1 at1)) → MoreRun d (listed is items at) (listed is items1 at)
+more_listed : (d : ℕ) (is : ℕ → Bool) (items items1 : Entry → Run Exit) (at : Entry) → ((at1 : Entry) → MoreRun d (items at1) (items1 at1)) → MoreRun d (listed is items at) (listed is items1 at)
 more_listed d is items items1 at h = more_repeated d _ _ at (λ at1. more_then d _ _ _ _ (h at1) (λ x. more_behind_list d is x))
 
 more_behind_cases : (d : ℕ) (x : Exit) → MoreRun d (behind_cases x) (behind_cases x)
@@ -314,9 +314,9 @@ more_behind_cases d Returned = more_done d _
 more_behind_cases d (Resulted v) = more_done d _
 more_behind_cases d (Jumped l) = more_done d _
 
-more_switched : (d : ℕ) (v v1 : Run ℕ) (is : Items) (items items1 : Entry → Run Exit) → MoreRun d v v1 → ((at : Entry) → MoreRun d (items at) (items1 at)) → MoreRun d (switched v is items) (switched v1 is items1)
-more_switched d v v1 is items items1 h k =
-    more_then d v v1 _ _ h (λ w. more_then d _ _ behind_cases behind_cases (more_listed d is items items1 (entry_of w is) k) (λ x. more_behind_cases d x))
+more_switched : (d : ℕ) (v v1 : Run ℕ) (cases is : ℕ → Bool) (items items1 : Entry → Run Exit) → MoreRun d v v1 → ((at : Entry) → MoreRun d (items at) (items1 at)) → MoreRun d (switched v cases is items) (switched v1 cases is items1)
+more_switched d v v1 cases is items items1 h k =
+    more_then d v v1 _ _ h (λ w. more_then d _ _ behind_cases behind_cases (more_listed d is items items1 (entry_of cases w) k) (λ x. more_behind_cases d x))
 
 more_back : (d : ℕ) → MoreRun d back back
 more_back d = more_turn d _ _ (more_done d _)
@@ -364,7 +364,7 @@ mutual
   more_perform d C D t (commands.For start limit by b) p s =
       more_with_cells d 1 (p + s) _ _ (more_for d by _ _ _ _ _ _ _ _ _ _ (more_assign d C D t start (Frame s) p (s + 2)) (more_sense d C D t limit p (s + 2)).0
       (more_sense d C D t (Load (Frame s)) p (s + 2)).0 (more_assign d C D t (step_of_for by s) (Frame s) p (s + 2)) (more_block d C D t b p (s + 2)))
-  more_perform d C D t (commands.Switchon e is) p s = more_switched d _ _ is _ _ (more_sense d C D t e p s).0 (λ at. more_items d C D t is p s at)
+  more_perform d C D t (commands.Switchon e is) p s = more_switched d _ _ _ _ _ _ (more_sense d C D t e p s).0 (λ at. more_items d C D t is p s at)
   more_perform d C D t commands.Break p s = more_done d _
   more_perform d C D t commands.Loop p s = more_done d _
   more_perform d C D t commands.Endcase p s = more_done d _
@@ -376,7 +376,7 @@ mutual
 
   more_block : (d : ℕ) (C D : Context) → MoreContext d C D → (b : Block) (p s : ℕ) → MoreRun d (perform_block C b p s) (perform_block D b p s)
   more_block d C D t (block ds is) p s =
-      more_declare d C D t ds p s _ _ (more_listed d is _ _ Beginning (λ at. more_items d C D t is p (s + cells_declared ds) at))
+      more_declare d C D t ds p s _ _ (more_listed d _ _ _ Beginning (λ at. more_items d C D t is p (s + cells_declared ds) at))
 
   more_items : (d : ℕ) (C D : Context) → MoreContext d C D → (is : Items) (p s : ℕ) (at : Entry) → MoreRun d (perform_items C is p s at) (perform_items D is p s at)
   more_items d C D t no_item p s at = more_done d _
@@ -443,7 +443,7 @@ more_body : (d : ℕ) (C D : Context) → MoreContext d C D → (b : Body) (p s 
 more_body d C D t (Gives e) p s = (more_sense d C D t e p s).0
 more_body d C D t (Does b) p s = more_then d _ _ routine_value routine_value (more_block d C D t b p s) (λ x. more_routine_value d x)
 
-more_enter : (d : ℕ) (call call1 : Calling) → MoreCall d call call1 → (c : Option Callee) (vs : List ℕ) (f : ℕ) → MoreRun d (enter call c vs f) (enter call1 c vs f)
+more_enter : (d : ℕ) (call call1 : Calling) → MoreCall d call call1 → (c : Option Callee) (vs : List ℕ) (f : ℕ) → MoreRun d (entered call (entered_of c) vs f) (entered call1 (entered_of c) vs f)
 more_enter d call call1 t None vs f = more_wild ℕ d
 more_enter d call call1 t (Some (OfSection section r)) vs f =
     let valofs = section.core.valofs in

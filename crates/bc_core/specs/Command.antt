@@ -8,7 +8,7 @@ use Rattle.bc_core.specs.Level.{cells_of, cells_of_all, cells_declared, level_in
 use Rattle.bc_core.specs.Outcome.{Done, Run, Finished, ends, then_do, choose, in_turn, with_cells}
 use Rattle.bc_core.specs.Value.{Context, value, truth, assign}
 use Rattle.bc_core.specs.Exit.{Exit, Past, Broke, Looped, LeftCases, Returned, Resulted, Jumped, past, onward}
-use Rattle.bc_core.specs.Lists.{Entry, Beginning, meets_case, meets_default, meets_label, met, from_entry, listed, switched}
+use Rattle.bc_core.specs.Lists.{Entry, Beginning, meets_case, meets_default, meets_label, met, from_entry, has_case, has_label, listed, switched}
 use Rattle.bc_core.specs.Loop.{agrees, while_loop, repeat_loop, repeat_while_loop, for_loop}
 
 -- initialisers from offset k on, at level s
@@ -44,7 +44,7 @@ abbrev mutual
       let s1 = level_in_for s in
       with_cells 1 (p + s) (for_loop by (assign C start (Frame s) p s1) (value C limit p s1) (value C (Load (Frame s)) p s1)
       (assign C (step_of_for by s) (Frame s) p s1) (perform_block C b p s1))
-  perform C (commands.Switchon e is) p s = switched (value C e p s) is (perform_items C is p s)
+  perform C (commands.Switchon e is) p s = switched (value C e p s) (has_case is) (has_label is) (perform_items C is p s)
   perform C commands.Break p s = Done Broke
   perform C commands.Loop p s = Done Looped
   perform C commands.Endcase p s = Done LeftCases
@@ -56,7 +56,7 @@ abbrev mutual
   perform C (commands.Nested b) p s = perform_block C b p s
 
   pub perform_block : Context → Block → (p s : ℕ) → Run Exit
-  perform_block C (block ds is) p s = declare C ds p s (listed is (perform_items C is p (s + cells_declared ds)) Beginning)
+  perform_block C (block ds is) p s = declare C ds p s (listed (has_label is) (perform_items C is p (s + cells_declared ds)) Beginning)
 
   -- the items of a list from an entry on
   pub perform_items : Context → Items → (p s : ℕ) → Entry → Run Exit

@@ -11,23 +11,23 @@ pub data Entry : Type 0 where
   AtDefault : Entry
   AtLabel : ℕ → Entry
 
-abbrev pub has_case : ℕ → Items → Bool
-has_case v no_item = false
-has_case v (command c is) = has_case v is
-has_case v (case k is) = k == v || has_case v is
-has_case v (default is) = has_case v is
-has_case v (label l is) = has_case v is
+abbrev pub has_case : Items → ℕ → Bool
+has_case no_item v = false
+has_case (command c is) v = has_case is v
+has_case (case k is) v = k == v || has_case is v
+has_case (default is) v = has_case is v
+has_case (label l is) v = has_case is v
 
-abbrev pub has_label : ℕ → Items → Bool
-has_label l no_item = false
-has_label l (command c is) = has_label l is
-has_label l (case k is) = has_label l is
-has_label l (default is) = has_label l is
-has_label l (label k is) = k == l || has_label l is
+abbrev pub has_label : Items → ℕ → Bool
+has_label no_item l = false
+has_label (command c is) l = has_label is l
+has_label (case k is) l = has_label is l
+has_label (default is) l = has_label is l
+has_label (label k is) l = k == l || has_label is l
 
 -- SWITCHON goes to the CASE with its value, else to DEFAULT, else past its list
-abbrev pub entry_of : ℕ → Items → Entry
-entry_of v is = cond (has_case v is) (AtCase v) AtDefault
+abbrev pub entry_of : (has_case : ℕ → Bool) → ℕ → Entry
+entry_of has_case v = cond (has_case v) (AtCase v) AtDefault
 
 abbrev pub meets_case : ℕ → Entry → Bool
 meets_case k (AtCase v) = k == v
@@ -52,17 +52,17 @@ from_entry Beginning r = r
 from_entry _ r = Done Past
 
 -- a jump to a label of this list enters it there, every other exit leaves it
-abbrev pub behind_list : Items → Exit → Run (Round Entry Exit)
-behind_list is (Jumped l) = Done (cond (has_label l is) (Again (AtLabel l)) (Leave (Jumped l)))
-behind_list is x = Done (Leave x)
+abbrev pub behind_list : (has_label : ℕ → Bool) → Exit → Run (Round Entry Exit)
+behind_list has_label (Jumped l) = Done (cond (has_label l) (Again (AtLabel l)) (Leave (Jumped l)))
+behind_list has_label x = Done (Leave x)
 
 -- a list from an entry on, over what its items do from each entry on
-abbrev pub listed : Items → (Entry → Run Exit) → Entry → Run Exit
-listed is items at = repeated (λ at1. then_do (items at1) (behind_list is)) at
+abbrev pub listed : (has_label : ℕ → Bool) → (Entry → Run Exit) → Entry → Run Exit
+listed has_label items at = repeated (λ at1. then_do (items at1) (behind_list has_label)) at
 
 abbrev pub behind_cases : Exit → Run Exit
 behind_cases LeftCases = Done Past
 behind_cases x = Done x
 
-abbrev pub switched : Run ℕ → Items → (Entry → Run Exit) → Run Exit
-switched value is items = then_do value (λ v. then_do (listed is items (entry_of v is)) behind_cases)
+abbrev pub switched : Run ℕ → (has_case has_label : ℕ → Bool) → (Entry → Run Exit) → Run Exit
+switched value has_case has_label items = then_do value (λ v. then_do (listed has_label items (entry_of has_case v)) behind_cases)

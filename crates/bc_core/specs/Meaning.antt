@@ -91,21 +91,35 @@ abbrev pub callee : List Placed → ℕ → Option Callee
 callee [] a = of_library (primitive_among primitives a)
 callee (section ∷ sections) a = or_else (callee_among section section.core.places section.addresses a) (callee sections a)
 
+-- what can be called: its parameters, the cells of its frame, and what its body does in a frame
+pub record Entered : Type 0 where
+  pub parameters : ℕ
+  pub frame : ℕ
+  pub body : Call → ℕ → Run ℕ
+
 -- calling a value that is no routine's or primitive's address is wild
-abbrev pub enter : Call → Option Callee → List ℕ → ℕ → Run ℕ
-enter call None vs f = wild
-enter call (Some (OfSection section r)) vs f =
-    let n = r.parameters in
-    in_frame f (frame_size section.core.valofs r)
-    (with_arguments n (f + 2) vs (body_value (context_in section call) r.body f (level_behind_parameters n)))
-enter call (Some (OfLibrary primitive)) vs f =
-    in_frame f primitive_frame (with_arguments 1 (f + 2) vs (primitive_work primitive f))
+abbrev pub entered : Call → Option Entered → List ℕ → ℕ → Run ℕ
+entered call None vs f = wild
+entered call (Some e) vs f = in_frame f e.frame (with_arguments e.parameters (f + 2) vs (e.body call f))
 
 -- calls that nest at most n deep; it is given one more than the turns that are left, and each call takes one,
 -- so that it never runs out before the turns do
+abbrev pub calls_over : (find : ℕ → Option Entered) → ℕ → Call
+calls_over find zero a vs f st = outcomes.Going st.streams
+calls_over find (suc n) a vs f st = entered (calls_over find n) (find a) vs f st
+
+abbrev pub entered_of : Option Callee → Option Entered
+entered_of None = None
+entered_of (Some (OfSection section r)) = Some (record {
+  parameters = r.parameters;
+  frame = frame_size section.core.valofs r;
+  body = λ call f. body_value (context_in section call) r.body f (level_behind_parameters r.parameters);
+})
+entered_of (Some (OfLibrary primitive)) =
+    Some (record { parameters = 1; frame = primitive_frame; body = λ call f. primitive_work primitive f })
+
 abbrev pub calls : List Placed → ℕ → Call
-calls program zero a vs f st = outcomes.Going st.streams
-calls program (suc n) a vs f st = enter (calls program n) (callee program a) vs f st
+calls program n = calls_over (λ a. entered_of (callee program a)) n
 
 -- what a run comes to: it ended with this output, or would go on and has this output so far, or met a wild
 -- cell
