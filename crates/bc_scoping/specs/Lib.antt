@@ -1,0 +1,11 @@
+pub mod Scope
+pub mod Numbering
+pub mod Scoping
+pub mod Sides
+pub mod Source
+pub mod Translation
+pub mod Found
+pub mod Frames
+pub mod Sections
+pub mod Faults
+pub mod Examples
