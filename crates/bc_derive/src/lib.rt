@@ -1,0 +1,12 @@
+//! Derivations: which code an expression, a test or an assignment may have, by the rule table.
+#![tactic(auto)]
+
+mod derivation;
+mod entry;
+mod piece;
+mod rule;
+
+pub use derivation::Derivation;
+pub use entry::Entry;
+pub use piece::Piece;
+pub use rule::{Aim, Mode, Rule, Table};
