@@ -1,3 +1,4 @@
+pub mod Characters
 pub mod Scope
 pub mod Numbering
 pub mod Scoping
