@@ -1,0 +1,6 @@
+pub mod Emit
+pub mod Bodies
+pub mod Section
+pub mod Entries
+pub mod Size
+pub mod Examples

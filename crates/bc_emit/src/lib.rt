@@ -1,0 +1,2 @@
+//! The code of a section, over a choice of its roots' code.
+#![tactic(auto)]
