@@ -23,14 +23,14 @@ pub keeps_down : (top top1 : ℕ) (c0 c1 : List Cell) (m0 m1 : List ℕ) → top
 keeps_down top top1 c0 c1 m0 m1 le k = record { dead = λ a lt d. k.dead a (omega arith) d; same = λ a lt d. k.same a (omega arith) d }
 
 pub holds_up : (top top1 : ℕ) (cells : List Cell) (m : List ℕ) → top ≤ top1 → Holds top cells m → Holds top1 cells m
-holds_up top top1 cells m le h = record { agrees = h.agrees; above = λ a ge. h.above a (omega arith); whole = h.whole; short = h.short }
+holds_up top top1 cells m le h = record { agrees = h.agrees; above = λ a ge. h.above a (omega arith); whole = h.whole; spans = h.spans }
 
 pub holds_down : (top top1 : ℕ) (c0 c1 : List Cell) (m0 m1 : List ℕ) → Holds top c0 m0 → Holds top1 c1 m1 → Keeps top1 c0 m0 c1 m1 → Holds top c1 m1
 holds_down top top1 c0 c1 m0 m1 h g k = record {
   agrees = g.agrees;
   above = λ a ge. ⊎_elim (λ lt. k.dead a lt (h.above a ge)) (λ high. g.above a high) (cases_lt a top1);
   whole = g.whole;
-  short = g.short;
+  spans = g.spans;
 }
 
 differ : (n k : ℕ) → (n ≢ k) ⊎ (n ≡ k)
@@ -43,7 +43,7 @@ holds_held top a v cells m h d = record {
       (λ eq. let never : Dead ≡ Set w = sym d ∙ ap (λ k. cell_at cells k) (sym eq) ∙ e in cc) (differ n a);
   above = h.above;
   whole = length-set m a v ∙ h.whole;
-  short = h.short;
+  spans = h.spans;
 }
 
 pub keeps_held : (top a v : ℕ) (cells : List Cell) (m : List ℕ) → top ≤ a → Keeps top cells m cells (slice_set m a v)

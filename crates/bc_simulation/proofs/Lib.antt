@@ -1,6 +1,9 @@
 pub mod Decoding
+pub mod Keeping
 pub mod Agreeing
-pub mod Landing
+pub mod Items
+pub mod Steps
+pub mod Holding
+pub mod Cells
 pub mod Operands
-pub mod Slice
 pub mod Exchange

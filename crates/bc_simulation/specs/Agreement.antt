@@ -7,7 +7,7 @@ pub record Holds (top : ℕ) (cells : List Cell) (store : List ℕ) : Type 0 whe
   pub agrees : (a w : ℕ) → cell_at cells a ≡ Set w → slice_index store a ≡ w
   pub above : (a : ℕ) → top ≤ a → cell_at cells a ≡ Dead
   pub whole : length store ≡ 65536
-  pub short : length cells ≤ 65536
+  pub spans : length cells ≡ 65536
 
 -- cells below the top that were dead are dead still, and as they were in the store: so held values, links and
 -- code last

@@ -1,6 +1,9 @@
 pub mod Leads
 pub mod Agreement
 pub mod CodeAt
-pub mod Lands
-pub mod Rules
+pub mod Landing
+pub mod Items
+pub mod Goals
+pub mod Premises
+pub mod Keeping
 pub mod Free
