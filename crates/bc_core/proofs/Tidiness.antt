@@ -20,8 +20,8 @@ use Rattle.bc_core.specs.Lists.{Entry, Beginning, AtCase, AtDefault, AtLabel, fr
 use Rattle.bc_core.specs.Loop.{LoopRound, back, leave, behind_body, while_loop, repeat_loop, repeat_while_loop, for_loop, agrees, end_relation}
 use Rattle.bc_core.specs.Command.{initialise_one, initialise, declare, perform, perform_block, perform_items, step_of_for}
 use Rattle.bc_core.specs.Primitive.{Primitive, Select, ReadByte, WriteByte, Find, EndStream, byte_of_string, bytes_of_string, on_streams, primitive_work, primitive_frame}
-use Rattle.bc_core.specs.Start.{Placed}
-use Rattle.bc_core.specs.Meaning.{Call as Calling, routine_value, valof_value, valofs_from, place_in, context_in, body_value, passed, with_arguments, in_frame, Callee, OfSection, OfLibrary, callee, entered, entered_of, calls}
+use Rattle.bc_core.specs.Map.{Placed}
+use Rattle.bc_core.specs.Meaning.{Call as Calling, routine_value, valof_value, valofs_from, context_in, body_value, passed, with_arguments, in_frame, Callee, OfSection, OfLibrary, callee, entered, entered_of, calls}
 use Rattle.bc_core.specs.Laws.{is_live, Longer, Tidy, CallsAreTidy}
 use Rattle.bc_core.proofs.Outputs.{longer_refl, longer_then, select_longer, read_longer, write_longer, end_longer}
 use Rattle.bc_core.proofs.Liveness.{Outside, filled_outside, passed_outside, live_then, dead_then, given_back, dead_above, set_live}
@@ -400,7 +400,7 @@ tidy_enter : (call : Calling) → TidyCall call → (c : Option Callee) (vs : Li
 tidy_enter call t None vs f = tidy_wild ℕ f
 tidy_enter call t (Some (OfSection section r)) vs f =
     tidy_in_frame f (frame_size section.core.valofs r) _ (tidy_with_arguments r.parameters f vs _
-    (tidy_body (context_in section call) (record { call = t; valof = λ n p s. tidy_valofs (place_in section) call t 0 section.core.valofs n p s }) r.body f (2 + r.parameters)))
+    (tidy_body (context_in section call) (record { call = t; valof = λ n p s. tidy_valofs section.address call t 0 section.core.valofs n p s }) r.body f (2 + r.parameters)))
 tidy_enter call t (Some (OfLibrary q)) vs f = tidy_in_frame f primitive_frame _ (tidy_with_arguments 1 f vs _ (tidy_primitive q f (f + (2 + 1))))
 
 pub tidy_calls : (program : List Placed) (n : ℕ) → TidyCall (calls program n)

@@ -19,8 +19,9 @@ use Rattle.bc_core.specs.Lists.{Entry, Beginning, AtCase, AtDefault, AtLabel, fr
 use Rattle.bc_core.specs.Loop.{LoopRound, back, leave, behind_body, while_loop, repeat_loop, repeat_while_loop, for_loop, agrees, end_relation}
 use Rattle.bc_core.specs.Command.{initialise_one, initialise, declare, perform, perform_block, perform_items, step_of_for}
 use Rattle.bc_core.specs.Primitive.{Primitive, primitive_work, primitive_frame, Select, ReadByte, WriteByte, Find, EndStream, byte_of_string, bytes_of_string, string_of, on_streams}
-use Rattle.bc_core.specs.Start.{Placed, placed, start_cells}
-use Rattle.bc_core.specs.Meaning.{Call as Calling, routine_value, valof_value, valofs_from, place_in, context_in, body_value, passed, Callee, OfSection, OfLibrary, callee, entered, entered_of, calls, result_of, run_of}
+use Rattle.bc_core.specs.Map.{Placed, placed, standing}
+use Rattle.bc_core.specs.Start.{start_cells}
+use Rattle.bc_core.specs.Meaning.{Call as Calling, routine_value, valof_value, valofs_from, context_in, body_value, passed, Callee, OfSection, OfLibrary, callee, entered, entered_of, entered_at, calls, result_of, run_of}
 use Rattle.bc_core.specs.Laws.{IsCalm, Longer, Tidy, Further, MoreTurnsGoFurther}
 use Rattle.bc_core.proofs.Outputs.{longer_refl, longer_then, select_longer, read_longer, write_longer, end_longer}
 use Rattle.bc_core.proofs.Calm.{CalmRun, calm, no_right}
@@ -450,7 +451,7 @@ more_enter d call call1 t (Some (OfSection section r)) vs f =
     more_choose d (nat_le (f + frame_size valofs r) 65536) _ _ _ _
     (more_turn d _ _ (more_opened d r.parameters (f + 2) (passed r.parameters (f + 2) vs) _ _
     (more_body d (context_in section call) (context_in section call1)
-    (record { place = λ m. refl; call = t; valof = λ n p s. more_valofs d (place_in section) call call1 t 0 valofs n p s }) r.body f (2 + r.parameters)))) (more_wild ℕ d)
+    (record { place = λ m. refl; call = t; valof = λ n p s. more_valofs d section.address call call1 t 0 valofs n p s }) r.body f (2 + r.parameters)))) (more_wild ℕ d)
 more_enter d call call1 t (Some (OfLibrary q)) vs f =
     more_choose d (nat_le (f + primitive_frame) 65536) _ _ _ _
     (more_turn d _ _ (more_opened d 1 (f + 2) (passed 1 (f + 2) vs) _ _ (more_primitive d q f))) (more_wild ℕ d)
@@ -477,8 +478,8 @@ further d Wild o1 h = ap result_of h
 pub more_turns_go_further : MoreTurnsGoFurther
 more_turns_go_further cores map streams n more =
     let program = placed cores map.places in
-    let st : State = record { cells = start_cells program; streams = streams; turns = n } in
+    let st : State = record { cells = start_cells (standing program); streams = streams; turns = n } in
     let le : suc n ≤ suc (n + more) = omega arith in
     let h = more_then more (read 9) (read 9) (λ start. calls program (suc n) start [] (map.stack_base + 2)) (λ start. calls program (suc (n + more)) start [] (map.stack_base + 2))
     (more_read more 9) (λ start. more_calls more program (suc n) (suc (n + more)) le start [] (map.stack_base + 2)) in
-    further more (run_of program map.stack_base st) (run_of program map.stack_base (later more st)) (h.from st)
+    further more (run_of (entered_at program) map.stack_base st) (run_of (entered_at program) map.stack_base (later more st)) (h.from st)

@@ -1,5 +1,5 @@
 -- Worked examples of the meaning. The expected values are from the language's rules.
-use Rattle.std.specs.Prelude.{ℕ, Bool, ◌≡◌, List, [], ◌∷◌, Option, Some, None, true, false}
+use Rattle.std.specs.Prelude.{ℕ, Bool, ◌≡◌, ◌+◌, List, [], ◌∷◌, Option, Some, None, true, false}
 use Rattle.std.proofs.Common.{refl}
 use Rattle.bc_word.specs.declared.operator.Op.TheVariants.{Add, Subtract, Multiply, Divide, Remainder, Less, Equal, And, ShiftLeft}
 use Rattle.bc_step.specs.StreamStart.{start_streams}
@@ -14,8 +14,9 @@ use Rattle.bc_core.specs.Value.{Context, value, truth, assign}
 use Rattle.bc_core.specs.Layout.{frame_size}
 use Rattle.bc_core.specs.WellFormed.{is_core}
 use Rattle.bc_core.specs.Words.{string_words}
-use Rattle.bc_core.specs.Start.{placed, cells_from}
-use Rattle.bc_core.specs.Meaning.{Result, Ended, Going, Wild, meaning_over}
+use Rattle.bc_core.specs.Map.{placed, standing}
+use Rattle.bc_core.specs.Start.{cells_from}
+use Rattle.bc_core.specs.Meaning.{Result, Ended, Going, Wild, entered_at, meaning_over}
 
 -- Expressions, in a frame at 0 whose cells at 2 and 3 hold 7 and 65,535, whose cell at 4 is unset, and with no
 -- other live cell
@@ -121,8 +122,8 @@ routine global parameters body = Code (record { global = global; parameters = pa
 abbrev run_with : List c.Place → List c.Valof → Block → ℕ → Result
 run_with more valofs body n =
     let core : Core = record { places = routine (Some 1) 0 (Does body) ∷ more; valofs = valofs } in
-    let program = placed (core ∷ []) ((546 ∷ 547 ∷ 548 ∷ []) ∷ []) in
-    meaning_over (cells_from 590 0 program) program 560 (start_streams [] ((79 ∷ []) ∷ [])) n
+    let program = placed (core ∷ []) ((λ label. 545 + label) ∷ []) in
+    meaning_over (cells_from 590 0 (standing program)) (entered_at program) 560 (start_streams [] ((79 ∷ []) ∷ [])) n
 
 abbrev run : Block → Result
 run body = run_with [] [] body 100
@@ -274,8 +275,8 @@ echo = print (call (Load (Glob 13)) [])
 
 reads_input :
     (let core : Core = record { places = routine (Some 1) 0 (Does (commands (echo ∷ echo ∷ []))) ∷ []; valofs = [] } in
-    let program = placed (core ∷ []) ((546 ∷ []) ∷ []) in
-    meaning_over (cells_from 590 0 program) program 560 (start_streams ((73 ∷ [], 104 ∷ []) ∷ []) ((79 ∷ []) ∷ [])) 100) ≡ printed (104 ∷ 255 ∷ [])
+    let program = placed (core ∷ []) ((λ label. 545 + label) ∷ []) in
+    meaning_over (cells_from 590 0 (standing program)) (entered_at program) 560 (start_streams ((73 ∷ [], 104 ∷ []) ∷ []) ((79 ∷ []) ∷ [])) 100) ≡ printed (104 ∷ 255 ∷ [])
 reads_input = refl
 
 -- FINDOUTPUT("O") is 1, FINDOUTPUT("P") is 0

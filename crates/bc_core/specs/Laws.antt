@@ -3,13 +3,12 @@ use Rattle.std.specs.Prelude.{ℕ, ◌≡◌, ◌+◌, ◌≤◌, Bool, true, fa
 use Rattle.bc_step.specs.Streams.{Content}
 use Rattle.bc_step.specs.StreamCalls.{output_of}
 use Rattle.bc_core.specs.Commands.{Core}
-use Rattle.bc_core.specs.Map.{Map}
+use Rattle.bc_core.specs.Map.{Map, Placed}
 use Rattle.bc_core.specs.Store.{Cell, Dead, Unset, Set, cell_at}
 use Rattle.bc_core.specs.Outcome.{State, Outcome, Done, Ending}
 use Rattle.bc_core.specs.Outcome as outcomes
 use Rattle.bc_core.specs.Tree.{Exp}
 use Rattle.bc_core.specs.Value.{Context, has_call, value, truth}
-use Rattle.bc_core.specs.Start.{Placed}
 use Rattle.bc_core.specs.Meaning.{Result, Ended, Going, Wild, meaning, calls}
 
 abbrev pub is_live : Cell → Bool

@@ -5,6 +5,7 @@ pub mod Operand
 pub mod Level
 pub mod Layout
 pub mod WellFormed
+pub mod Numbers
 pub mod Words
 pub mod Store
 pub mod Outcome

@@ -1,13 +1,46 @@
 -- Where the places of sections stand.
-use Rattle.std.specs.Prelude.{ℕ, ◌≡◌, ◌+◌, ◌≤◌, ◌⊎◌, List, [], ◌∷◌, ◌++◌, length, All}
+use Rattle.std.specs.Prelude.{ℕ, ◌≡◌, ◌+◌, ◌≤◌, ◌⊎◌, List, [], ◌∷◌, ◌++◌, length, map, Option, All}
 use Rattle.bc_core.specs.Commands.{Place, Code, Core}
 use Rattle.bc_core.specs.Words.{data_words}
 use Rattle.bc_core.specs.Primitive.{first_primitive_word, primitive_words}
 
--- for each section the addresses of its places, in the order of their labels; and where the stack begins
+-- for each section the address of each of its places, by its label; and where the stack begins
 pub record Map : Type 0 where
-  pub places : List (List ℕ)
+  pub places : List (ℕ → ℕ)
   pub stack_base : ℕ
+
+-- a section, and the address of each of its places, by its label
+pub record Placed : Type 0 where
+  pub core : Core
+  pub address : ℕ → ℕ
+
+abbrev pub placed : List Core → List (ℕ → ℕ) → List Placed
+placed (core ∷ cores) (address ∷ addresses) = record { core = core; address = address } ∷ placed cores addresses
+placed _ _ = []
+
+-- what stands at a place: a routine, which may set a global, or words
+pub data Holding : Type 0 where
+  ARoutine : (global : Option ℕ) → Holding
+  Words : List ℕ → Holding
+
+pub record Standing : Type 0 where
+  pub address : ℕ
+  pub holding : Holding
+
+abbrev pub held_by : Place → Holding
+held_by (Code r) = ARoutine r.global
+held_by place = Words (data_words place)
+
+-- places, the first of which has this label
+abbrev pub standing_from : (ℕ → ℕ) → ℕ → List Place → List Standing
+standing_from address label [] = []
+standing_from address label (place ∷ places) =
+    record { address = address label; holding = held_by place } ∷ standing_from address (label + 1) places
+
+-- the places of all sections; a section's are labelled from 1 on
+abbrev pub standing : List Placed → List Standing
+standing [] = []
+standing (section ∷ sections) = standing_from section.address 1 section.core.places ++ standing sections
 
 -- neighbouring words: the first one's address, and how many there are
 pub record Range : Type 0 where
@@ -18,17 +51,16 @@ abbrev pub range : ℕ → ℕ → Range
 range from size = record { from = from; size = size }
 
 -- a routine has at least the word at which it begins
-abbrev pub range_of : Place → ℕ → Range
-range_of (Code r) address = range address 1
-range_of place address = range address (length (data_words place))
+abbrev pub size_of : Holding → ℕ
+size_of (ARoutine global) = 1
+size_of (Words words) = length words
 
-abbrev pub ranges_of_section : List Place → List ℕ → List Range
-ranges_of_section (place ∷ places) (address ∷ addresses) = range_of place address ∷ ranges_of_section places addresses
-ranges_of_section _ _ = []
+abbrev pub range_of : Standing → Range
+range_of s = range s.address (size_of s.holding)
 
-abbrev pub ranges_of : List Core → List (List ℕ) → List Range
-ranges_of (core ∷ cores) (addresses ∷ all) = ranges_of_section core.places addresses ++ ranges_of cores all
-ranges_of _ _ = []
+-- of the primitives and of all places
+abbrev pub ranges : List Standing → List Range
+ranges all = range first_primitive_word primitive_words ∷ map range_of all
 
 abbrev pub Apart : Range → Range → Type 0
 Apart x y = (x.from + x.size ≤ y.from) ⊎ (y.from + y.size ≤ x.from)
@@ -41,13 +73,7 @@ AllApart (x ∷ xs) = All (Apart x) xs × AllApart xs
 abbrev pub Inside : ℕ → Range → Type 0
 Inside stack_base x = (520 ≤ x.from) × (x.from + x.size ≤ stack_base)
 
--- each place of each section has an address
-abbrev pub EachHasAddress : List Core → List (List ℕ) → Type 0
-EachHasAddress [] [] = Unit {0}
-EachHasAddress (core ∷ cores) (addresses ∷ all) = (length core.places ≡ length addresses) × EachHasAddress cores all
-EachHasAddress _ _ = ⊥
-
 pub record IsMap (cores : List Core) (map : Map) : Type 0 where
-  pub named : EachHasAddress cores map.places
-  pub inside : All (Inside map.stack_base) (range first_primitive_word primitive_words ∷ ranges_of cores map.places)
-  pub apart : AllApart (range first_primitive_word primitive_words ∷ ranges_of cores map.places)
+  pub named : length cores ≡ length map.places
+  pub inside : All (Inside map.stack_base) (ranges (standing (placed cores map.places)))
+  pub apart : AllApart (ranges (standing (placed cores map.places)))

@@ -1,11 +1,11 @@
 -- What a program of resolved sections means.
-use Rattle.std.specs.Prelude.{ℕ, zero, suc, ◌+◌, ◌-◌, ◌==◌, nat_le, true, false, List, [], ◌∷◌, slice_index, slice_set, Option, Some, None}
+use Rattle.std.specs.Prelude.{ℕ, zero, suc, ◌+◌, ◌==◌, nat_le, true, false, List, [], ◌∷◌, slice_set, Option, Some, None}
 use Rattle.bc_step.specs.Streams.{Content}
 use Rattle.bc_step.specs.StreamCalls.{output_of}
 use Rattle.bc_core.specs.Commands.{Place, Code, Routine, Body, Gives, Does, Core, Valof}
 use Rattle.bc_core.specs.Level.{level_behind_parameters}
 use Rattle.bc_core.specs.Layout.{frame_size}
-use Rattle.bc_core.specs.Map.{Map}
+use Rattle.bc_core.specs.Map.{Map, Placed, placed, standing}
 use Rattle.bc_core.specs.Store.{Cell, Unset, Set}
 use Rattle.bc_core.specs.Outcome.{State, Outcome, Done, Run, Ending, Finished, wild, then_do, choose, in_turn, left}
 use Rattle.bc_core.specs.Outcome as outcomes
@@ -13,7 +13,7 @@ use Rattle.bc_core.specs.Value.{Context, value}
 use Rattle.bc_core.specs.Exit.{Exit, Past, Returned, Resulted}
 use Rattle.bc_core.specs.Command.{perform_block}
 use Rattle.bc_core.specs.Primitive.{Primitive, primitives, primitive_among, primitive_frame, primitive_work}
-use Rattle.bc_core.specs.Start.{Placed, placed, start_cells}
+use Rattle.bc_core.specs.Start.{start_cells}
 
 -- a routine of BE has the value 0; no other exit can leave a routine
 abbrev pub routine_value : Exit → Run ℕ
@@ -43,13 +43,10 @@ valofs_from place call first (v ∷ vs) n p s =
       | false ↦ inner n p s
     ]
 
-abbrev pub place_in : Placed → ℕ → ℕ
-place_in section label = slice_index section.addresses (label - 1)
-
 -- what the expressions of a section stand among
 abbrev pub context_in : Placed → Call → Context
 context_in section call =
-    context (place_in section) call (valofs_from (place_in section) call 0 section.core.valofs)
+    context section.address call (valofs_from section.address call 0 section.core.valofs)
 
 abbrev pub body_value : Context → Body → (p s : ℕ) → Run ℕ
 body_value C (Gives e) p s = value C e p s
@@ -72,11 +69,12 @@ pub data Callee : Type 0 where
   OfSection : Placed → Routine → Callee
   OfLibrary : Primitive → Callee
 
-abbrev pub callee_among : Placed → List Place → List ℕ → ℕ → Option Callee
-callee_among section (Code r ∷ places) (address ∷ addresses) a =
-    elim (address == a) [ true ↦ Some (OfSection section r) | false ↦ callee_among section places addresses a ]
-callee_among section (place ∷ places) (address ∷ addresses) a = callee_among section places addresses a
-callee_among section _ _ a = None
+-- among places, the first of which has this label
+abbrev pub callee_among : Placed → (label : ℕ) → List Place → ℕ → Option Callee
+callee_among section label [] a = None
+callee_among section label (Code r ∷ places) a =
+    elim (section.address label == a) [ true ↦ Some (OfSection section r) | false ↦ callee_among section (label + 1) places a ]
+callee_among section label (place ∷ places) a = callee_among section (label + 1) places a
 
 abbrev pub of_library : Option Primitive → Option Callee
 of_library None = None
@@ -89,7 +87,7 @@ or_else None other = other
 -- the routine or primitive with this address
 abbrev pub callee : List Placed → ℕ → Option Callee
 callee [] a = of_library (primitive_among primitives a)
-callee (section ∷ sections) a = or_else (callee_among section section.core.places section.addresses a) (callee sections a)
+callee (section ∷ sections) a = or_else (callee_among section 1 section.core.places a) (callee sections a)
 
 -- what can be called: its parameters, the cells of its frame, and what its body does in a frame
 pub record Entered : Type 0 where
@@ -118,8 +116,11 @@ entered_of (Some (OfSection section r)) = Some (record {
 entered_of (Some (OfLibrary primitive)) =
     Some (record { parameters = 1; frame = primitive_frame; body = λ call f. primitive_work primitive f })
 
+abbrev pub entered_at : List Placed → ℕ → Option Entered
+entered_at program a = entered_of (callee program a)
+
 abbrev pub calls : List Placed → ℕ → Call
-calls program n = calls_over (λ a. entered_of (callee program a)) n
+calls program n = calls_over (entered_at program) n
 
 -- what a run comes to: it ended with this output, or would go on and has this output so far, or met a wild
 -- cell
@@ -136,15 +137,17 @@ result_of (outcomes.Going streams) = Going (output_of streams)
 result_of outcomes.Wild = Wild
 
 -- global 1 is called in the frame two cells above the stack base
-abbrev pub run_of : List Placed → ℕ → Run ℕ
-run_of program stack_base st =
-    then_do (outcomes.read 9) (λ start. calls program (suc st.turns) start [] (stack_base + 2)) st
+abbrev pub run_of : (find : ℕ → Option Entered) → ℕ → Run ℕ
+run_of find stack_base st =
+    then_do (outcomes.read 9) (λ start. calls_over find (suc st.turns) start [] (stack_base + 2)) st
 
-abbrev pub meaning_over : List Cell → List Placed → ℕ → Content → ℕ → Result
-meaning_over cells program stack_base streams n =
-    result_of (run_of program stack_base (record { cells = cells; streams = streams; turns = n }))
+-- over these cells and streams as the run begins, in n turns
+abbrev pub meaning_over : List Cell → (find : ℕ → Option Entered) → ℕ → Content → ℕ → Result
+meaning_over cells find stack_base streams n =
+    result_of (run_of find stack_base (record { cells = cells; streams = streams; turns = n }))
 
 -- of sections, where a map has their places, over streams as handed in, in n turns
 abbrev pub meaning : List Core → Map → Content → ℕ → Result
 meaning cores map streams n =
-    let program = placed cores map.places in meaning_over (start_cells program) program map.stack_base streams n
+    let program = placed cores map.places in
+    meaning_over (start_cells (standing program)) (entered_at program) map.stack_base streams n
