@@ -6,7 +6,7 @@ use Rattle.bc_core.specs.declared.operands.Operand.{Operand}
 use Rattle.bc_core.specs.Tree.{Exp, Bin}
 use Rattle.bc_core.specs.Operand.{operand_of}
 use Rattle.bc_core.specs.Level.{operand_level}
-use Rattle.bc_core.specs.Outcome.{State, Outcome, Wild, Run, then_do}
+use Rattle.bc_core.specs.Outcome.{State, Outcome, Wild, Run, then_do, both, write}
 use Rattle.bc_core.specs.Value.{Context, has_call, given, value}
 
 abbrev pub is_direct : Option Operand → Bool
@@ -21,7 +21,7 @@ are_free a b = not (has_call a || has_call b) || is_direct (operand_of a) || is_
 abbrev pub exchanged : Op → Run ℕ → Run ℕ → Run ℕ
 exchanged op left right = then_do right (λ y. then_do left (λ x. given (value_of op x y)))
 
-abbrev pub SameUnlessWild : Outcome ℕ → Outcome ℕ → Type 0
+abbrev pub SameUnlessWild : {A : Type 0} → Outcome A → Outcome A → Type 0
 SameUnlessWild source other = (source ≡ other) ⊎ (source ≡ Wild)
 
 -- where the operands are free the other order gives the same, or the source is wild
@@ -29,3 +29,10 @@ abbrev pub FreeOperandsExchange : Type 0
 FreeOperandsExchange =
     (C : Context) (op : Op) (l r : Exp) → are_free l r ≡ true → (p s : ℕ) (st : State)
     → SameUnlessWild (value C (Bin op l r) p s st) (exchanged op (value C l p (operand_level s)) (value C r p (operand_level s)) st)
+
+-- and so of the two sides of an assignment, for any address and value
+abbrev pub FreeSidesExchange : Type 0
+FreeSidesExchange =
+    (C : Context) (v a : Exp) → are_free v a ≡ true → (p s : ℕ) (st : State)
+    → SameUnlessWild (both (has_call v || has_call a) (value C v p s) (value C a p s) (λ w address. write address w) st)
+    (then_do (value C a p s) (λ address. then_do (value C v p s) (λ w. write address w)) st)
