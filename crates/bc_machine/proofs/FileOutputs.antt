@@ -7,50 +7,50 @@ use Rattle.std.proofs.lemmas.List.{map-set}
 use Rattle.bc_step.specs.Streams.{Output, numbered}
 use Rattle.bc_machine.specs.Known.{AllKnown}
 use Rattle.bc_machine.specs.FileContent.{told, file_outputs}
-use Rattle.bc_machine.specs.declared.files.FileOutput.{FileOutput}
+use Rattle.bc_machine.specs.declared.names.NamedOutput.{NamedOutput}
 use Rattle.bc_machine.proofs.Tables.{numbered-get}
 
 abbrev pub Told : Type 0
 Told = Option (List ℕ)
 
-abbrev pub file_output : FileOutput → Told → Output
+abbrev pub file_output : NamedOutput → Told → Output
 file_output o bytes = record { name = o.name.items; written = told bytes; ended = o.ended }
 
-pub file_outputs-append : (os : List FileOutput) (bytes : List Told) (o : FileOutput) (b : Told) → length os ≡ length bytes
+pub file_outputs-append : (os : List NamedOutput) (bytes : List Told) (o : NamedOutput) (b : Told) → length os ≡ length bytes
     → file_outputs (os ++ o ∷ []) (bytes ++ b ∷ []) ≡ file_outputs os bytes ++ file_output o b ∷ []
 file_outputs-append [] [] o b h = refl
 file_outputs-append [] (c ∷ bytes) o b h = absurd (omega arith)
 file_outputs-append (p ∷ os) [] o b h = absurd (omega arith)
 file_outputs-append (p ∷ os) (c ∷ bytes) o b h = let same : length os ≡ length bytes = omega arith in rw (file_outputs-append os bytes o b same) refl
 
-pub file_outputs-get : (os : List FileOutput) (bytes : List Told) (k : ℕ) (o : FileOutput) (b : Told) → slice_get os k ≡ Some o → slice_get bytes k ≡ Some b
+pub file_outputs-get : (os : List NamedOutput) (bytes : List Told) (k : ℕ) (o : NamedOutput) (b : Told) → slice_get os k ≡ Some o → slice_get bytes k ≡ Some b
     → slice_get (file_outputs os bytes) k ≡ Some (file_output o b)
 file_outputs-get [] bytes k o b h j = absurd cc
 file_outputs-get (p ∷ os) [] k o b h j = absurd cc
 file_outputs-get (p ∷ os) (c ∷ bytes) zero o b h j = let x : p ≡ o = cc in let y : c ≡ b = cc in rw (x, y) refl
 file_outputs-get (p ∷ os) (c ∷ bytes) (suc k) o b h j = file_outputs-get os bytes k o b h j
 
-pub file_outputs-written : (os : List FileOutput) (bytes : List Told) (k : ℕ) (o : FileOutput) (b : Told) → slice_get os k ≡ Some o
+pub file_outputs-written : (os : List NamedOutput) (bytes : List Told) (k : ℕ) (o : NamedOutput) (b : Told) → slice_get os k ≡ Some o
     → file_outputs os (set bytes k b) ≡ slice_set (file_outputs os bytes) k (file_output o b)
 file_outputs-written [] bytes k o b h = absurd cc
 file_outputs-written (p ∷ os) [] k o b h = refl
 file_outputs-written (p ∷ os) (c ∷ bytes) zero o b h = let x : p ≡ o = cc in rw x refl
 file_outputs-written (p ∷ os) (c ∷ bytes) (suc k) o b h = rw (file_outputs-written os bytes k o b h) refl
 
-pub file_outputs-ended : (os : List FileOutput) (bytes : List Told) (k : ℕ) (o : FileOutput) (b : Told) → slice_get bytes k ≡ Some b
+pub file_outputs-ended : (os : List NamedOutput) (bytes : List Told) (k : ℕ) (o : NamedOutput) (b : Told) → slice_get bytes k ≡ Some b
     → file_outputs (set os k o) bytes ≡ slice_set (file_outputs os bytes) k (file_output o b)
 file_outputs-ended [] bytes k o b h = refl
 file_outputs-ended (p ∷ os) [] k o b h = absurd cc
 file_outputs-ended (p ∷ os) (c ∷ bytes) zero o b h = let y : c ≡ b = cc in rw y refl
 file_outputs-ended (p ∷ os) (c ∷ bytes) (suc k) o b h = rw (file_outputs-ended os bytes k o b h) refl
 
-pub names_of_outputs : (os : List FileOutput) (bytes : List Told) → length os ≡ length bytes
-    → map (λ (o : Output). o.name) (file_outputs os bytes) ≡ map (λ (o : FileOutput). o.name.items) os
+pub names_of_outputs : (os : List NamedOutput) (bytes : List Told) → length os ≡ length bytes
+    → map (λ (o : Output). o.name) (file_outputs os bytes) ≡ map (λ (o : NamedOutput). o.name.items) os
 names_of_outputs [] bytes h = refl
 names_of_outputs (o ∷ os) [] h = absurd (omega arith)
 names_of_outputs (o ∷ os) (b ∷ bytes) h = let same : length os ≡ length bytes = omega arith in ap (λ names. o.name.items ∷ names) (names_of_outputs os bytes same)
 
-pub length_outputs : (os : List FileOutput) (bytes : List Told) → length os ≡ length bytes → length (file_outputs os bytes) ≡ length os
+pub length_outputs : (os : List NamedOutput) (bytes : List Told) → length os ≡ length bytes → length (file_outputs os bytes) ≡ length os
 length_outputs [] bytes h = refl
 length_outputs (o ∷ os) [] h = absurd (omega arith)
 length_outputs (o ∷ os) (b ∷ bytes) h = let same : length os ≡ length bytes = omega arith in ap suc (length_outputs os bytes same)
@@ -82,7 +82,7 @@ module _ {X : Type 0} (f : X → Told) (xs : List X) (n : ℕ) (x : X) (some : 0
   known_after y h p = rw (map-set f xs (n - 1) y) (known_set (map f xs) (n - 1) (f y) h p)
 
 -- the output of a number
-pub numbered_output : (n : ℕ) (os : List FileOutput) (bytes : List Told) (o : FileOutput) (b : Told) → 0 < n → n ≤ length os → o ≡ get_or os (n - 1) o → slice_get bytes (n - 1) ≡ Some b
+pub numbered_output : (n : ℕ) (os : List NamedOutput) (bytes : List Told) (o : NamedOutput) (b : Told) → 0 < n → n ≤ length os → o ≡ get_or os (n - 1) o → slice_get bytes (n - 1) ≡ Some b
     → numbered (file_outputs os bytes) n ≡ Some (file_output o b)
 numbered_output n os bytes o b some within is at =
     let less : n - 1 < length os = omega arith in

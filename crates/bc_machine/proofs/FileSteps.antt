@@ -11,7 +11,7 @@ use Rattle.bc_step.specs.declared.streams.Side.TheVariants as sides
 use Rattle.bc_machine.specs.Known.{AllKnown}
 use Rattle.bc_machine.specs.FileContent.{told, file_outputs, devices}
 use Rattle.bc_machine.specs.declared.names.Named.{Named}
-use Rattle.bc_machine.specs.declared.files.FileOutput.{FileOutput}
+use Rattle.bc_machine.specs.declared.names.NamedOutput.{NamedOutput}
 use Rattle.bc_machine.proofs.Tables.{content, after_write-ended, after_write-open, end_output-at}
 use Rattle.bc_machine.proofs.FileOutputs.{Told, file_output, told_get, numbered_output, file_outputs-written, file_outputs-ended, known_at, known_after}
 use Rattle.std.proofs.lemmas.Option.{slice_get_read}
@@ -36,7 +36,7 @@ pub same_told : {X Y : Type 0} (f : X → Y) (xs : List X) (k : ℕ) (x y : X) �
 same_told f xs k x y is h = map-set_same f xs k y x (h ∙ ap f is)
 
 -- writes and ends of the selected output
-module _ {W : Type 0} (contents : W → Told) (inputs : List Input) (os : List FileOutput) (ws : List W) (input n : ℕ) (o : FileOutput) (some : 0 < n) (within : n ≤ length os) (same_length : length ws ≡ length os) (is : o ≡ get_or os (n - 1) o) where
+module _ {W : Type 0} (contents : W → Told) (inputs : List Input) (os : List NamedOutput) (ws : List W) (input n : ℕ) (o : NamedOutput) (some : 0 < n) (within : n ≤ length os) (same_length : length ws ≡ length os) (is : o ≡ get_or os (n - 1) o) where
   abbrev outputs : List Output
   outputs = file_outputs os (map contents ws)
 
@@ -74,7 +74,7 @@ module _ {W : Type 0} (contents : W → Told) (inputs : List Input) (os : List F
         ∙ ap (λ bytes. content inputs (slice_set outputs (n - 1) (record (file_output o (contents w)) { written = bytes })) input n) h
         ∙ sym (after_write-open inputs outputs input n byte (file_output o (contents w)) at_told open_still)
 
-    pub ends_output : (p : FileOutput) → p.name ≡ o.name → p.ended ≡ true → contents v ≡ contents w
+    pub ends_output : (p : NamedOutput) → p.name ≡ o.name → p.ended ≡ true → contents v ≡ contents w
         → content inputs (file_outputs (set os (n - 1) p) (map contents (set ws (n - 1) v))) input 0
         ≡ end_stream sides.Output (content inputs outputs input n)
     ends_output p named ended h =

@@ -6,7 +6,7 @@ use Rattle.bc_machine.specs.Known.{AllKnown}
 use Rattle.bc_step.specs.StreamStart.{fresh_input}
 use Rattle.bc_machine.specs.declared.names.Named.{Named}
 use Rattle.bc_machine.specs.declared.files.FileInput.{FileInput}
-use Rattle.bc_machine.specs.declared.files.FileOutput.{FileOutput}
+use Rattle.bc_machine.specs.declared.names.NamedOutput.{NamedOutput}
 use Rattle.bc_machine.specs.declared.files.FileStreams.{FileStreams}
 
 -- the bytes that are told
@@ -18,7 +18,7 @@ abbrev pub file_input : {R : Type 0} → (R → Option (List ℕ)) → FileInput
 file_input remaining i = record { name = i.name.items; rest = cond i.at_end [] (told (remaining i.reader)); ended = i.ended }
 
 -- each output's name beside what its writer tells
-abbrev pub file_outputs : List FileOutput → List (Option (List ℕ)) → List Output
+abbrev pub file_outputs : List NamedOutput → List (Option (List ℕ)) → List Output
 file_outputs [] written = []
 file_outputs (o ∷ os) [] = []
 file_outputs (o ∷ os) (bytes ∷ written) =

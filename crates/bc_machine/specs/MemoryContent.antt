@@ -1,8 +1,8 @@
 -- What streams in memory hold.
-use Rattle.std.specs.Prelude.{ℕ, ◌+◌, ◌==◌, List, [], ◌∷◌, map, filter, drop, ◌++◌, Option, Some, None, cond}
+use Rattle.std.specs.Prelude.{ℕ, ◌+◌, ◌≡◌, ◌≤◌, ◌==◌, List, [], ◌∷◌, map, filter, drop, length, ◌++◌, Option, Some, None, Bool, true, false, cond}
 use Rattle.bc_step.specs.Streams.{Input, Output, Content, numbered}
 use Rattle.bc_machine.specs.declared.memory.MemoryInput.{MemoryInput}
-use Rattle.bc_machine.specs.declared.memory.MemoryOutput.{MemoryOutput}
+use Rattle.bc_machine.specs.declared.names.NamedOutput.{NamedOutput}
 use Rattle.bc_machine.specs.declared.memory.MemoryStreams.{MemoryStreams}
 
 abbrev pub memory_input : MemoryInput → Input
@@ -13,7 +13,7 @@ abbrev pub bytes_to : ℕ → List (ℕ × ℕ) → List ℕ
 bytes_to number written = map (λ (w : ℕ × ℕ). w.1) (filter (λ (w : ℕ × ℕ). w.0 == number) written)
 
 -- the outputs from this number on
-abbrev pub memory_outputs : ℕ → List (ℕ × ℕ) → List MemoryOutput → List Output
+abbrev pub memory_outputs : ℕ → List (ℕ × ℕ) → List NamedOutput → List Output
 memory_outputs number written [] = []
 memory_outputs number written (o ∷ os) =
     record { name = o.name.items; written = bytes_to number written; ended = o.ended } ∷ memory_outputs (number + 1) written os
@@ -35,7 +35,7 @@ abbrev pub memory_room : MemoryStreams → ℕ
 memory_room m = m.room
 
 -- an open output takes the byte, another drops it
-abbrev pub written_to : Option MemoryOutput → ℕ → ℕ → List (ℕ × ℕ) → List (ℕ × ℕ)
+abbrev pub written_to : Option NamedOutput → ℕ → ℕ → List (ℕ × ℕ) → List (ℕ × ℕ)
 written_to None number byte written = written
 written_to (Some o) number byte written = cond o.ended written (written ++ (number, byte) ∷ [])
 
@@ -46,3 +46,20 @@ written_after byte m = written_to (numbered m.outputs.items m.output) m.output b
 -- how often the room was found spent
 abbrev pub memory_failures : MemoryStreams → ℕ
 memory_failures m = m.failures
+
+-- the room and the count stay
+abbrev pub StaysAsRoom : MemoryStreams → MemoryStreams → Type 0
+StaysAsRoom old new = (memory_room new ≡ memory_room old) × (memory_failures new ≡ memory_failures old)
+
+-- nothing is written, and the room and the count stay
+abbrev pub WritesNothing : MemoryStreams → MemoryStreams → Type 0
+WritesNothing old new = (memory_written new ≡ memory_written old) × StaysAsRoom old new
+
+-- whether an output takes a byte: one that is open does
+abbrev pub takes : Option NamedOutput → Bool
+takes None = false
+takes (Some o) = cond o.ended false true
+
+-- the selected output takes a byte, and the room for it is spent
+abbrev pub IsSpent : MemoryStreams → Type 0
+IsSpent m = (takes (numbered m.outputs.items m.output) ≡ true) × (memory_room m ≤ length (memory_written m))

@@ -3,7 +3,7 @@ ghost use Rattle.std.specs.Io.KnownBytes.{Appends, Keeps};
 ghost use Rattle.bc_machine.specs.Known.{AllKnown};
 
 use crate::faults::{DeviceFault, StreamsError};
-use crate::names::{HasName, Named, chosen, number_of, number_of_first, refusal};
+use crate::names::{HasName, Named, NamedOutput, chosen, number_of, number_of_first, refusal};
 use crate::streams::Streams;
 use bc_step::Side;
 use bc_word::{Memory, Word};
@@ -19,23 +19,8 @@ struct FileInput<R> {
     ended: bool,
 }
 
-/// The name of an output, and whether it was ended.
-#[derive(Drop)]
-struct FileOutput {
-    name: Vec<u8>,
-    ended: bool,
-}
-
 impl<R> HasName for FileInput<R> {
     ghost name_of = { λ i. i.name.items };
-
-    fn name(&self) -> &[u8] {
-        self.name.as_slice()
-    }
-}
-
-impl HasName for FileOutput {
-    ghost name_of = { λ o. o.name.items };
 
     fn name(&self) -> &[u8] {
         self.name.as_slice()
@@ -108,7 +93,7 @@ fn flush_all<W: Write>(writers: &mut [W]) -> Result<(), DeviceFault>
 #[derive(Drop)]
 pub struct FileStreams<R, W> {
     inputs: Vec<FileInput<R>>,
-    outputs: Vec<FileOutput>,
+    outputs: Vec<NamedOutput>,
     writers: Vec<W>,
     input: u16,
     output: u16,
@@ -146,7 +131,7 @@ impl<R: Read> FileInput<R> {
 /// The outputs' names, and their writers, each in order.
 #[derive(Drop)]
 struct Outputs<W> {
-    names: Vec<FileOutput>,
+    names: Vec<NamedOutput>,
     writers: Vec<W>,
     ghost same_length: { vec_len writers ≡ vec_len names },
 }
@@ -166,7 +151,7 @@ impl<W: Write> Outputs<W> {
         let mut writers = Vec::with_capacity(alloc, outputs.len())?;
         for output in outputs {
             let Named { name, device } = output;
-            names.push(FileOutput { name, ended: false })?;
+            names.push(NamedOutput { name, ended: false })?;
             writers.push(device)?;
         }
         Ok(Outputs { names, writers })
@@ -179,7 +164,7 @@ impl<R: Read, W: Write> FileStreams<R, W> {
     ghost use Rattle.bc_machine.specs.Rose.{Rose};
     ghost use Rattle.bc_machine.specs.Refusal.{refusal_of};
     ghost use Rattle.bc_machine.specs.declared.faults.StreamsError.TheVariants as faults;
-    ghost use Rattle.bc_machine.specs.Names.{names_of};
+    ghost use Rattle.bc_machine.specs.Names.{given_names};
     ghost use Rattle.bc_machine.specs.FileContent.{file_content, file_writers, file_failures, fresh_inputs, fresh_outputs, devices, AllTell, AllTold};
 
     /// The streams over these named readers and writers, with input 1 and output 1 selected.
@@ -195,11 +180,12 @@ impl<R: Read, W: Write> FileStreams<R, W> {
     where
         R: Drop,
         W: Drop,
-        ensures refused { IfErr result (λ fault. fault ≢ faults.Memory → refusal_of (names_of inputs.items) (names_of outputs.items) ≡ Some fault) }
-        ensures accepted { OnOk result (refusal_of (names_of inputs.items) (names_of outputs.items) ≡ None) }
+        ensures refused { IfErr result (λ fault. fault ≢ faults.Memory → refusal_of (given_names inputs.items) (given_names outputs.items) ≡ Some fault) }
+        ensures accepted { OnOk result (refusal_of (given_names inputs.items) (given_names outputs.items) ≡ None) }
         ensures content { IfOk result (λ streams. file_content R.remaining W.contents streams ≡ opened (fresh_inputs R.remaining inputs.items) (fresh_outputs W.contents outputs.items)) }
         ensures known { IfOk result (λ streams. AllTell R.remaining inputs.items → AllTell W.contents outputs.items → AllTold R.remaining W.contents streams) }
         ensures writers { IfOk result (λ streams. file_writers streams ≡ devices outputs.items) }
+        ensures unfailed { IfOk result (λ streams. file_failures streams ≡ 0) }
     {
         if let Some(fault) = refusal(inputs.as_slice()) {
             return Err(fault);

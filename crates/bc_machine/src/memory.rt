@@ -1,7 +1,7 @@
 ghost use Rattle.std.specs.Prelude.{◌≡◌, ◌≤◌, [], IfOk, vec_len, vec_capacity};
 
 use crate::faults::{DeviceFault, StreamsError};
-use crate::names::{HasName, Named, chosen, number_of, number_of_first, refusal};
+use crate::names::{HasName, Named, NamedOutput, chosen, number_of, number_of_first, refusal};
 use crate::streams::Streams;
 use bc_step::Side;
 use bc_word::{Memory, Word};
@@ -16,23 +16,8 @@ struct MemoryInput {
     ended: bool,
 }
 
-/// The name of an output, and whether it was ended.
-#[derive(Drop)]
-struct MemoryOutput {
-    name: Vec<u8>,
-    ended: bool,
-}
-
 impl HasName for MemoryInput {
     ghost name_of = { λ i. i.name.items };
-
-    fn name(&self) -> &[u8] {
-        self.name.as_slice()
-    }
-}
-
-impl HasName for MemoryOutput {
-    ghost name_of = { λ o. o.name.items };
 
     fn name(&self) -> &[u8] {
         self.name.as_slice()
@@ -82,19 +67,19 @@ impl MemoryInput {
     }
 }
 
-impl MemoryOutput {
+impl NamedOutput {
     ghost use Rattle.std.specs.Prelude.{◌≡◌, [], IfOk, map};
     ghost use Rattle.bc_step.specs.StreamStart.{fresh_output};
     ghost use Rattle.bc_machine.specs.MemoryContent.{memory_outputs};
     ghost use Rattle.bc_machine.specs.Names.{bytes_of};
 
     /// The table of outputs of these names, to which nothing was written.
-    fn table(alloc: Global, names: Vec<Vec<u8>>) -> Result<Vec<MemoryOutput>, Memory>
+    fn table(alloc: Global, names: Vec<Vec<u8>>) -> Result<Vec<NamedOutput>, Memory>
         ensures { IfOk result (λ table. memory_outputs 1 [] table.items ≡ map fresh_output (bytes_of names.items)) }
     {
         let mut table = Vec::with_capacity(alloc, names.len())?;
         for name in names {
-            table.push(MemoryOutput { name, ended: false })?;
+            table.push(NamedOutput { name, ended: false })?;
         }
         Ok(table)
     }
@@ -112,7 +97,7 @@ fn room_for(alloc: Global, room: usize) -> Result<Vec<(Word, u8)>, Memory>
 #[derive(Drop)]
 pub struct MemoryStreams {
     inputs: Vec<MemoryInput>,
-    outputs: Vec<MemoryOutput>,
+    outputs: Vec<NamedOutput>,
     written: Vec<(Word, u8)>,
     room: usize,
     input: u16,
@@ -129,8 +114,8 @@ impl MemoryStreams {
     ghost use Rattle.bc_step.specs.StreamStart.{start_streams};
     ghost use Rattle.bc_machine.specs.Refusal.{refusal_of};
     ghost use Rattle.bc_machine.specs.declared.faults.StreamsError.TheVariants as faults;
-    ghost use Rattle.bc_machine.specs.Names.{names_of, bytes_of, named_bytes};
-    ghost use Rattle.bc_machine.specs.MemoryContent.{memory_content, memory_written, memory_room};
+    ghost use Rattle.bc_machine.specs.Names.{given_names, bytes_of, named_bytes};
+    ghost use Rattle.bc_machine.specs.MemoryContent.{memory_content, memory_written, memory_room, memory_failures};
 
     /// The streams over inputs of these names and bytes and outputs of these names, with input 1 and
     /// output 1 selected, and room for `room` bytes of output.
@@ -144,10 +129,11 @@ impl MemoryStreams {
         outputs: Vec<Vec<u8>>,
         room: usize,
     ) -> Result<MemoryStreams, StreamsError>
-        ensures refused { IfErr result (λ fault. fault ≢ faults.Memory → refusal_of (names_of inputs.items) (bytes_of outputs.items) ≡ Some fault) }
-        ensures accepted { OnOk result (refusal_of (names_of inputs.items) (bytes_of outputs.items) ≡ None) }
+        ensures refused { IfErr result (λ fault. fault ≢ faults.Memory → refusal_of (given_names inputs.items) (bytes_of outputs.items) ≡ Some fault) }
+        ensures accepted { OnOk result (refusal_of (given_names inputs.items) (bytes_of outputs.items) ≡ None) }
         ensures content { IfOk result (λ streams. memory_content streams ≡ start_streams (named_bytes inputs.items) (bytes_of outputs.items)) }
         ensures room { IfOk result (λ streams. memory_room streams ≡ room) }
+        ensures unfailed { IfOk result (λ streams. memory_failures streams ≡ 0) }
     {
         if let Some(fault) = refusal(inputs.as_slice()) {
             return Err(fault);
@@ -156,7 +142,7 @@ impl MemoryStreams {
             return Err(fault);
         }
         let inputs = MemoryInput::table(alloc, inputs)?;
-        let outputs = MemoryOutput::table(alloc, outputs)?;
+        let outputs = NamedOutput::table(alloc, outputs)?;
         let written = room_for(alloc, room)?;
         let input = number_of_first(inputs.as_slice());
         let output = number_of_first(outputs.as_slice());
@@ -180,10 +166,10 @@ impl MemoryStreams {
 }
 
 impl Streams for MemoryStreams {
-    ghost use Rattle.std.specs.Prelude.{◌≡◌, ◌≤◌, OnOk, OnErr, length};
-    ghost use Rattle.bc_step.specs.StreamCalls.{after_write};
+    ghost use Rattle.std.specs.Prelude.{◌≡◌, ◌≤◌, OnOk, OnErr, Ok};
+    ghost use Rattle.bc_step.specs.StreamCalls.{select_stream, read_byte, after_read, after_write, end_stream};
     ghost use Rattle.bc_machine.specs.Rose.{Rose};
-    ghost use Rattle.bc_machine.specs.MemoryContent.{memory_content, memory_failures, memory_written, memory_room, written_after};
+    ghost use Rattle.bc_machine.specs.MemoryContent.{memory_content, memory_failures, memory_written, memory_room, written_after, StaysAsRoom, WritesNothing, IsSpent};
 
     ghost content = { memory_content };
 
@@ -198,14 +184,22 @@ impl Streams for MemoryStreams {
         }
     }
 
-    fn select(&mut self, side: Side, number: Word) {
+    fn select(&mut self, side: Side, number: Word)
+        ensures content { memory_content self.new ≡ select_stream side number (memory_content self.old) }
+        ensures stays { WritesNothing self.old self.new }
+    {
         match side {
             Side::Input => self.input = chosen(number, self.inputs.len()),
             Side::Output => self.output = chosen(number, self.outputs.len()),
         }
     }
 
-    fn read(&mut self) -> Result<Option<u8>, DeviceFault> {
+    /// It never fails.
+    fn read(&mut self) -> Result<Option<u8>, DeviceFault>
+        ensures byte { result ≡ Ok (read_byte (memory_content self.old)) }
+        ensures content { memory_content self.new ≡ after_read (memory_content self.old) }
+        ensures stays { WritesNothing self.old self.new }
+    {
         if self.input == 0 {
             return Ok(None);
         }
@@ -222,7 +216,12 @@ impl Streams for MemoryStreams {
         ensures failed { OnErr result (Rose (memory_failures self.old) (memory_failures self.new)) }
         ensures counted { memory_failures self.old ≤ memory_failures self.new }
         ensures written { OnOk result (memory_written self.new ≡ written_after byte self.old) }
-        ensures room { OnErr result (memory_room self.old ≤ length (memory_written self.old)) }
+        ensures kept { OnErr result (memory_written self.new ≡ memory_written self.old) }
+        ensures room { memory_room self.new ≡ memory_room self.old }
+        ensures unfailed { OnOk result (memory_failures self.new ≡ memory_failures self.old) }
+        // A fault comes just where the room is spent.
+        ensures spent { OnErr result (IsSpent self.old) }
+        ensures given { OnOk result (IsSpent self.old → ⊥) }
     {
         if self.output == 0 {
             return Ok(());
@@ -238,7 +237,12 @@ impl Streams for MemoryStreams {
         Err(DeviceFault)
     }
 
-    fn end(&mut self, side: Side) -> Result<(), DeviceFault> {
+    /// It never fails.
+    fn end(&mut self, side: Side) -> Result<(), DeviceFault>
+        ensures ended { result ≡ Ok tt }
+        ensures content { memory_content self.new ≡ end_stream side (memory_content self.old) }
+        ensures stays { WritesNothing self.old self.new }
+    {
         match side {
             Side::Input => if self.input > 0 {
                 let input = &mut self.inputs[self.input as usize - 1];

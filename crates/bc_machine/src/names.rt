@@ -15,6 +15,13 @@ pub struct Named<T> {
     pub device: T,
 }
 
+/// The name of an output, and whether the output was ended.
+#[derive(Drop)]
+pub struct NamedOutput {
+    pub name: Vec<u8>,
+    pub ended: bool,
+}
+
 /// What has the name of a stream.
 pub trait HasName {
     ghost name_of: { Self → List ℕ };
@@ -26,6 +33,14 @@ pub trait HasName {
 
 impl<T> HasName for Named<T> {
     ghost name_of = { λ n. n.name.items };
+
+    fn name(&self) -> &[u8] {
+        self.name.as_slice()
+    }
+}
+
+impl HasName for NamedOutput {
+    ghost name_of = { λ o. o.name.items };
 
     fn name(&self) -> &[u8] {
         self.name.as_slice()

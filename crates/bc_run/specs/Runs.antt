@@ -1,11 +1,11 @@
 -- What reading, linking and running a text answers.
-use Rattle.std.specs.Prelude.{ℕ, ◌≡◌, ◌⊎◌, List, ◌∷◌, ◌++◌, Option, None, Result, Ok, Err, IfSome}
+use Rattle.std.specs.Prelude.{ℕ, ◌≡◌, ◌⊎◌, List, ◌∷◌, ◌++◌, Option, None, IfSome}
 use Rattle.bc_item.specs.declared.item.Item.{Item}
 use Rattle.bc_step.specs.Streams.{Content}
 use Rattle.bc_step.specs.State.{State, start}
 use Rattle.bc_step.specs.declared.state.End.{End}
 use Rattle.bc_text.specs.Texts.{IsText}
-use Rattle.bc_text.specs.Faults.{IsFaultOf}
+use Rattle.bc_text.specs.Faults.{HasFault, IsUnended}
 use Rattle.bc_text.specs.declared.text_error.TextError.{TextError}
 use Rattle.bc_text.specs.declared.text_error.TextError.TheVariants as texts
 use Rattle.bc_link.specs.Refusals.{refusal_of}
@@ -23,10 +23,19 @@ IsTextOf known segments = (bytes : List ℕ) × IfSome known (λ xs. xs ≡ byte
 abbrev pub BeginsWith : List ℕ → List ℕ → Type 0
 BeginsWith bytes all = (rest : List ℕ) × (all ≡ bytes ++ rest)
 
--- What is wrong with the bytes that a reader gave, perhaps before its end, or memory was refused. Where the reader tells
--- its bytes, they begin with these.
+-- The bytes that a reader gave first have this fault, which stays whatever comes behind them. Where the reader tells its
+-- bytes, they begin with these.
+abbrev pub HasFaultInFront : Option (List ℕ) → TextError → Type 0
+HasFaultInFront known fault = (bytes : List ℕ) × IfSome known (BeginsWith bytes) × HasFault bytes fault
+
+-- The bytes that a reader gives to its end are no text, and go on to one. Where the reader tells its bytes, they are these.
+abbrev pub IsUnendedInAll : Option (List ℕ) → Type 0
+IsUnendedInAll known = (bytes : List ℕ) × IfSome known (λ xs. xs ≡ bytes) × IsUnended bytes
+
+-- What is wrong with the bytes that a reader gives, or memory was refused. That they are unended is said of all of them,
+-- and any other fault of a front.
 abbrev pub IsTextFault : Option (List ℕ) → TextError → Type 0
-IsTextFault known fault = (fault ≡ texts.Memory) ⊎ ((bytes : List ℕ) × IfSome known (BeginsWith bytes) × IsFaultOf bytes fault)
+IsTextFault known fault = (fault ≡ texts.Memory) ⊎ (HasFaultInFront known fault ⊎ ((fault ≡ texts.Unended) × IsUnendedInAll known))
 
 -- the segments with the primitives in front of them
 abbrev pub behind : List (List Item) → List (List Item)

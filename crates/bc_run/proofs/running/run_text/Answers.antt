@@ -1,5 +1,4 @@
-use Rattle.std.proofs.Common.{◌≡◌, ◌∙◌, ap, sym, subst, refl, None, Option, ℕ}
-use Rattle.bc_item.specs.declared.item.Item.{Item}
+use Rattle.std.proofs.Common.{◌≡◌, ◌∙◌, ap, sym, subst, refl, None, Option}
 use Rattle.bc_link.specs.Linked.{image_of}
 use Rattle.bc_link.specs.Refusals.{refusal_of}
 use Rattle.bc_machine.specs.Ran.{Ran, RanFrom, held_state}

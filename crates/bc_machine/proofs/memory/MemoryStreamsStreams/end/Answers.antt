@@ -4,16 +4,16 @@ use Rattle.bc_machine.proofs.Tables.{content, ends_input, end_output-at}
 use Rattle.bc_machine.proofs.MemoryOutputs.{numbered_output, memory_outputs-ended, output_at}
 use Rattle.bc_machine.proofs.memory.MemoryStreamsStreams.end.Goals as goal
 
-pub returns-then-self-gt0-clause-ok : goal.returns-then-self-gt0-clause-ok
-returns-then-self-gt0-clause-ok c = λ _.
+pub returns-then-self-gt0-clause-content : goal.returns-then-self-gt0-clause-content
+returns-then-self-gt0-clause-content c =
     let m = c.args.self.now in
     let within : m.input ≤ length m.inputs.items = omega (arith, m.input_exists, m.inputs.ok.0) in
     rw c.in-Input.is (
     ends_input memory_input m.inputs.items (memory_outputs 1 m.written.items m.outputs.items) m.input m.output c.index_mut-input.result.now
     (omega arith) within c.index_mut-input.ensures.value (record c.index_mut-input.result.now { ended = true }) refl)
 
-pub returns-then-self-gt0-2-clause-ok : goal.returns-then-self-gt0-2-clause-ok
-returns-then-self-gt0-2-clause-ok c = λ _.
+pub returns-then-self-gt0-2-clause-content : goal.returns-then-self-gt0-2-clause-content
+returns-then-self-gt0-2-clause-content c =
     let m = c.args.self.now in
     let o = c.index_mut-output.result.now in
     let within : m.output ≤ length m.outputs.items = omega (arith, m.output_exists, m.outputs.ok.0) in

@@ -3,7 +3,7 @@ use Rattle.std.proofs.lemmas.List.{map-append}
 use Rattle.bc_step.specs.StreamStart.{fresh_output}
 use Rattle.bc_machine.specs.Names.{Bytes}
 use Rattle.bc_machine.proofs.MemoryOutputs.{memory_outputs-fresh}
-use Rattle.bc_machine.proofs.memory.MemoryOutput.table.Goals as goal
+use Rattle.bc_machine.proofs.names.NamedOutput.table.Goals as goal
 
 pub loop-name-preserved : goal.loop-name-preserved
 loop-name-preserved c =
