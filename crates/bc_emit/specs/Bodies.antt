@@ -4,6 +4,9 @@ use Rattle.bc_item.specs.declared.item.Item.{Item}
 use Rattle.bc_item.specs.declared.item.Item.TheVariants as items
 use Rattle.bc_derive.specs.declared.piece.Piece.{Piece}
 use Rattle.bc_derive.specs.declared.piece.Piece.TheVariants as pieces
+use Rattle.bc_derive.specs.declared.rule.Table.{Table}
+use Rattle.bc_derive.specs.Rules.{Tree, RootDerives, root_shape}
+use Rattle.bc_derive.specs.Code.{root_code, root_labels}
 use Rattle.bc_core.specs.Tree.{Root, Value}
 use Rattle.bc_core.specs.Commands.{Block, Body, Gives, Does, Valof}
 use Rattle.bc_emit.specs.Emit.{Code, Roots, Exits, zero_item, execute, emit_block}
@@ -27,10 +30,16 @@ fill of levels bodies (pieces.Body n ∷ ps) f =
     let x = fill of levels bodies ps b.1 in
     (b.0 ++ x.0, x.1, b.0 ∷ x.2)
 
--- A choice of the roots' code: the pieces of each, by target and first label, and how many labels they take.
+-- A choice of the roots' code: the pieces of each, by target and first label, how many labels they take, and the
+-- tree of rules that they come from.
 pub record Coding : Type 0 where
   pub pieces : Root → (target first : ℕ) → List Piece
   pub labels : Root → ℕ
+  pub derivation : Root → Tree
+
+-- the code of the derivations that are chosen
+abbrev pub coding_of : {T : Table} → ((r : Root) → RootDerives T r) → Coding
+coding_of choice = record { pieces = λ r t f. root_code (choice r) t f; labels = λ r. root_labels (choice r); derivation = λ r. root_shape (choice r) }
 
 -- a root takes the labels of its pieces, and then its VALOFs' bodies take theirs
 abbrev pub over : Coding → (levels : ℕ → ℕ) → BodiesCode Item → Roots Item

@@ -1,18 +1,21 @@
 -- The entries of a section: where the code of each root stands.
 use Rattle.std.specs.Prelude.{ℕ, ◌+◌, List, [], ◌∷◌, map}
 use Rattle.bc_item.specs.declared.item.Item.{Item}
+use Rattle.bc_derive.specs.Rules.{Tree}
+use Rattle.bc_derive.specs.Entry.{Entry}
 use Rattle.bc_core.specs.Tree.{Root}
 use Rattle.bc_core.specs.Commands.{Core}
 use Rattle.bc_emit.specs.Emit.{Roots}
 use Rattle.bc_emit.specs.Bodies.{BodiesCode, Coding, fill, level_of}
 use Rattle.bc_emit.specs.Section.{routines_over}
 
--- a root with the target and the first label of its code, and how many items each of its VALOFs' bodies has, in
--- the order of the code
+-- a root with its derivation, the target and the first label of its code, and how many items each of its VALOFs'
+-- bodies has, in the order of the code
 pub record Mark : Type 0 where
   pub target : ℕ
   pub first : ℕ
   pub root : Root
+  pub derivation : Tree
   pub bodies : List ℕ
 
 -- items, and between them a mark where a root's code begins
@@ -34,26 +37,25 @@ count_items (Begins m ∷ ps) = count_items ps
 abbrev pub marked_over : Coding → (levels : ℕ → ℕ) → BodiesCode Marked → Roots Marked
 marked_over coding levels bodies r target f =
     let x = fill Plain levels bodies (coding.pieces r target f) (f + coding.labels r) in
-    (Begins (record { target = target; first = f; root = r; bodies = map count_items x.2 }) ∷ x.0, x.1)
+    (Begins (record { target = target; first = f; root = r; derivation = coding.derivation r; bodies = map count_items x.2 }) ∷ x.0, x.1)
 
 abbrev pub marked_code : Coding → Core → List Marked
 marked_code coding core = (routines_over Plain (marked_over coding (level_of core.valofs)) core).0
 
--- a root's mark, and the index of the first item of its code
-pub record Standing : Type 0 where
-  pub item : ℕ
-  pub mark : Mark
+-- the entry of a root whose code begins at this index
+abbrev pub entry_at : ℕ → Mark → Entry
+entry_at k m = record { segment = 0; item = k; target = m.target; first = m.first; root = m.root; derivation = m.derivation; bodies = m.bodies }
 
--- with k items before these
-abbrev pub standing_from : (k : ℕ) → List Marked → List Standing
-standing_from k [] = []
-standing_from k (Plain i ∷ ps) = standing_from (k + 1) ps
-standing_from k (Begins m ∷ ps) = record { item = k; mark = m } ∷ standing_from k ps
+-- the entries of these, with k items before them
+abbrev pub entries_from : (k : ℕ) → List Marked → List Entry
+entries_from k [] = []
+entries_from k (Plain i ∷ ps) = entries_from (k + 1) ps
+entries_from k (Begins m ∷ ps) = entry_at k m ∷ entries_from k ps
 
 -- the entries in the order of the code, a root before those of its VALOFs' bodies
-abbrev pub section_entries : Coding → Core → List Standing
-section_entries coding core = standing_from 0 (marked_code coding core)
+abbrev pub section_entries : Coding → Core → List Entry
+section_entries coding core = entries_from 0 (marked_code coding core)
 
 -- the roots, in the order of the code
 abbrev pub section_roots : Coding → Core → List Root
-section_roots coding core = map (λ (e : Standing). e.mark.root) (section_entries coding core)
+section_roots coding core = map (λ (e : Entry). e.root) (section_entries coding core)
