@@ -1,11 +1,19 @@
 -- Tokens that are written as text are read back from it.
-use Rattle.std.specs.Prelude.{◌≡◌, ◌≢◌, ℕ, ◌<◌, ◌≤◌, false, List, [], ◌∷◌, ◌++◌, length, map, None}
-use Rattle.std.specs.List.{AllByRecursion, list_any}
+use Rattle.std.specs.Prelude.{◌≡◌, ◌≢◌, ℕ, ◌<◌, ◌≤◌, List, [], ◌∷◌, ◌++◌, length, map, All, None, Ok}
+use Rattle.std.specs.List.{AllByRecursion}
 use Rattle.bc_token.specs.declared.symbol.Symbol.TheVariants as sign
 use Rattle.bc_token.specs.Spelling.{symbol_of}
-use Rattle.bc_token.specs.Token as token
-use Rattle.bc_token.specs.Token.{Kind, Lexeme}
+use Rattle.bc_token.specs.Token.{Lexeme}
 use Rattle.bc_tree.specs.Parts.{Part, A, Name, Number, Character, String, NewLine}
+use Rattle.bc_tree.specs.Tree.{Declarations}
+use Rattle.bc_tree.specs.Height.{declarations_height}
+use Rattle.bc_tree.specs.Spelling.{SpellsSection}
+use Rattle.bc_tree.specs.Canonical.{section_spelling}
+use Rattle.bc_close.specs.Closing.{kind_part}
+use Rattle.bc_canonical.specs.Tokens.{IsBare}
+use Rattle.bc_canonical.specs.Open.{most_open}
+use Rattle.bc_canonical.specs.Repeated.{RepeatsNoValof}
+use Rattle.bc_parse.specs.Parsing.{parsed}
 use Rattle.bc_lex.specs.Lexemes.{IsName}
 use Rattle.bc_lex.specs.Quotes.{Spells}
 use Rattle.bc_lex.specs.Tokens.{HasTokens}
@@ -24,21 +32,33 @@ IsToken (Character c) = c < 256
 IsToken (String s) = IsString s
 IsToken NewLine = ⊥
 
--- the part that a kind of token is
-abbrev pub part_of : Kind → Part
-part_of (token.Sign s) = A s
-part_of (token.Name n) = Name n
-part_of (token.Number n) = Number n
-part_of (token.Character c) = Character c
-part_of (token.String s) = String s
-
--- a file with the text of the parts has these parts as its tokens, none behind a line break
+-- a file with the text of the parts has these parts as its tokens, none behind a line break, and no tag behind a `$)`
 pub record IsReread (name : List ℕ) (ts : List Part) : Type 0 where
   pub tokens : List Lexeme
   pub read : HasTokens (record { name = name; text = rendered ts } ∷ []) 0 tokens
-  pub same : map (λ t. part_of t.kind) tokens ≡ ts
-  pub lines : list_any (λ t. t.line_before) tokens ≡ false
+  pub same : map (λ t. kind_part t.kind) tokens ≡ ts
+  pub bare : All IsBare tokens
 
 -- at most 60,000 tokens are read back from their text
 abbrev pub AreReread : Type 0
 AreReread = (name : List ℕ) (ts : List Part) → AllByRecursion IsToken ts → length ts ≤ 60000 → IsReread name ts
+
+-- A section that the grammar has a spelling for, whose canonical spelling can be read back: it nests at most 200 deep, and its
+-- canonical spelling has at most 60,000 tokens, each one of some source, opens at most 400 round brackets at once, and has no
+-- REPEAT word behind a VALOF's body.
+pub record IsReadable (ds : Declarations) : Type 0 where
+  pub some_spelling : List Part
+  pub is_spelled : SpellsSection ds some_spelling
+  pub tokens : AllByRecursion IsToken (section_spelling ds)
+  pub few : length (section_spelling ds) ≤ 60000
+  pub nests : declarations_height ds ≤ 200
+  pub brackets : most_open 0 (section_spelling ds) ≤ 400
+  pub repeats : RepeatsNoValof (section_spelling ds)
+
+-- a file with the text of the section's canonical spelling has tokens that are parsed as the section
+abbrev pub ComesBack : List ℕ → Declarations → Type 0
+ComesBack name ds = (tokens : List Lexeme) × HasTokens (record { name = name; text = rendered (section_spelling ds) } ∷ []) 0 tokens × (parsed tokens ≡ Ok ds)
+
+-- spelled, written, lexed and parsed, a section is the same
+abbrev pub SectionsComeBack : Type 0
+SectionsComeBack = (name : List ℕ) (ds : Declarations) → IsReadable ds → ComesBack name ds
