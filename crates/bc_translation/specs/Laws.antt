@@ -1,17 +1,24 @@
 -- Laws: the translation keeps the meaning, and fits.
-use Rattle.std.specs.Prelude.{ℕ, ◌≡◌, ◌≤◌, true, None, List, map}
+use Rattle.std.specs.Prelude.{ℕ, ◌≡◌, ◌+◌, ◌≤◌, true, None, List, [], ◌∷◌, map}
 use Rattle.bc_step.specs.Streams.{Content}
-use Rattle.bc_tree.specs.Tree.{Exp, Command, Declarations}
+use Rattle.bc_tree.specs.Tree.{Exp, Exps, Command, Declarations}
 use Rattle.bc_tree.specs.Size.{declarations_size}
+use Rattle.bc_core.specs.Tree as core
+use Rattle.bc_core.specs.Commands.{Place, Code, Valof}
+use Rattle.bc_core.specs.Level.{side_level, cells_declared}
+use Rattle.bc_core.specs.Layout.{frame_size}
 use Rattle.bc_core.specs.Map.{Map}
 use Rattle.bc_core.specs.WellFormed.{is_core}
 use Rattle.bc_core.specs.Value.{sense}
 use Rattle.bc_core.specs.Command.{perform}
 use Rattle.bc_core.specs.Meaning.{context, valofs_from, meaning}
 use Rattle.bc_scoping.specs.Scope.{Env, Numbers}
+use Rattle.bc_scoping.specs.Scoping.{count, level_behind}
+use Rattle.bc_scoping.specs.Sides.{side_levels}
 use Rattle.bc_scoping.specs.Source.{Around, worth, run_command}
-use Rattle.bc_scoping.specs.Translation.{forms, core_command}
-use Rattle.bc_scoping.specs.Found.{found, found_in_command, valofs_of, core_of}
+use Rattle.bc_scoping.specs.Translation.{Forms, forms, forms_of_all, core_arguments, core_declarations, core_command}
+use Rattle.bc_scoping.specs.Found.{Thing, AValof, ARoutine, Data, found, found_in_command, valofs_of, found_in_section, core_of}
+use Rattle.bc_scoping.specs.Frames.{frame_of}
 use Rattle.bc_scoping.specs.Faults.{section_fault}
 use Rattle.bc_scoping.specs.Sections.{meaning_of_sections}
 
@@ -31,6 +38,56 @@ abbrev pub CommandsKeepTheirMeaning : Type 0
 CommandsKeepTheirMeaning =
     (A : Around) (E : Env) (at : Numbers) (c : Command) (p s : ℕ)
     → run_command A E at c p s ≡ perform (context A.place A.call (valofs_from A.place A.call at.valof (valofs_of (found_in_command E at c s)))) (core_command E at c s) p s
+
+-- Levels and frame sizes are the section's own. The level behind declarations is that behind the cells of their
+-- translation, the sides of an assignment stand where the translated addresses say, a call has as many arguments.
+pub record LevelsAreTheSections : Type 0 where
+  pub behind_declarations :
+      (E : Env) (at : Numbers) (s : ℕ) (ds : Declarations) → level_behind E at s ds ≡ s + cells_declared (core_declarations E at s ds)
+  pub of_sides : (E : Env) (at : Numbers) (xs : Exps) (s : ℕ) → side_levels E xs s ≡ map (λ (f : Forms). side_level f.address s) (forms_of_all E at xs)
+  pub of_arguments : (E : Env) (at : Numbers) (es : Exps) → core.count (core_arguments E at es) ≡ count es
+
+abbrev pub frames_found : List Thing → List ℕ
+frames_found [] = []
+frames_found (ARoutine r ∷ things) = frame_of r ∷ frames_found things
+frames_found (AValof f ∷ things) = frames_found things
+frames_found (Data label d ∷ things) = frames_found things
+
+abbrev pub frames_of_places : List Valof → List Place → List ℕ
+frames_of_places valofs [] = []
+frames_of_places valofs (Code r ∷ places) = frame_size valofs r ∷ frames_of_places valofs places
+frames_of_places valofs (place ∷ places) = frames_of_places valofs places
+
+-- routine by routine
+abbrev pub FramesAreTheSections : Type 0
+FramesAreTheSections =
+    (ds : Declarations) → frames_of_places (core_of ds).valofs (core_of ds).places ≡ frames_found (found_in_section ds)
+
+-- Places are labelled 1, 2, .. and VALOFs numbered 0, 1, .. in text order
+
+abbrev pub labels_found : List Thing → List ℕ
+labels_found [] = []
+labels_found (ARoutine r ∷ things) = r.label ∷ labels_found things
+labels_found (Data label d ∷ things) = label ∷ labels_found things
+labels_found (AValof f ∷ things) = labels_found things
+
+abbrev pub numbers_found : List Thing → List ℕ
+numbers_found [] = []
+numbers_found (AValof f ∷ things) = f.number ∷ numbers_found things
+numbers_found (ARoutine r ∷ things) = numbers_found things
+numbers_found (Data label d ∷ things) = numbers_found things
+
+-- as many as these, from a number on
+abbrev pub counted : ℕ → List ℕ → List ℕ
+counted n [] = []
+counted n (k ∷ ks) = n ∷ counted (n + 1) ks
+
+abbrev pub NumbersRise : Type 0
+NumbersRise =
+    (ds : Declarations) →
+    let labels = labels_found (found_in_section ds) in
+    let numbers = numbers_found (found_in_section ds) in
+    (labels ≡ counted 1 labels) × (numbers ≡ counted 0 numbers)
 
 -- a section without fault, with at most 524,288 definitions, commands and expressions, gives a `Core`
 abbrev pub SectionsFit : Type 0

@@ -1,6 +1,6 @@
 //! Laws of the translation. Each is the contract of a function that does nothing.
 
-ghost use Rattle.bc_translation.specs.Laws.{SectionsKeepTheirMeaning, ExpressionsKeepTheirMeaning, CommandsKeepTheirMeaning, SectionsFit};
+ghost use Rattle.bc_translation.specs.Laws.{SectionsKeepTheirMeaning, ExpressionsKeepTheirMeaning, CommandsKeepTheirMeaning, LevelsAreTheSections, FramesAreTheSections, NumbersRise, SectionsFit};
 
 /// A list of sections means what the list of their translations means: for every map of addresses, all
 /// inputs and every number of turns.
@@ -16,6 +16,23 @@ pub fn expressions_keep_their_meaning()
 /// A command's translation means what the command means.
 pub fn commands_keep_their_meaning()
     ensures { CommandsKeepTheirMeaning }
+{}
+
+/// The levels in a translation are those of the section: behind declarations, of both sides of an
+/// assignment, and of a call's arguments, of which there are as many.
+pub fn levels_are_the_sections()
+    ensures { LevelsAreTheSections }
+{}
+
+/// The frame sizes of a translation are those of the section, routine by routine.
+pub fn frames_are_the_sections()
+    ensures { FramesAreTheSections }
+{}
+
+/// The places that are found in a section are labelled 1, 2, .. and its VALOFs numbered 0, 1, .. in
+/// text order.
+pub fn numbers_rise()
+    ensures { NumbersRise }
 {}
 
 /// A section without fault is translated to one that fits `Core`.
