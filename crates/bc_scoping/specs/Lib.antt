@@ -10,3 +10,6 @@ pub mod Frames
 pub mod Sections
 pub mod Faults
 pub mod Examples
+pub mod FaultExamples
+pub mod TranslationExamples
+pub mod MeaningExamples

@@ -4,7 +4,8 @@ use Rattle.bc_core.specs.Level.{side_level}
 use Rattle.bc_core.specs.Layout.{cells_of_valofs}
 use Rattle.bc_scoping.specs.Translation.{Forms, forms_of_all}
 use Rattle.bc_scoping.specs.Found.{Thing, AValof, ARoutine, Data, AStatic, ATable, AText, found_in_section, places_of, valofs_of}
-use Rattle.bc_translation.specs.Laws.{LevelsAreTheSections, FramesAreTheSections, NumbersRise, frames_found, frames_of_places, labels_found, numbers_found, counted}
+use Rattle.bc_scoping.specs.Frames.{frames_found}
+use Rattle.bc_translation.specs.Laws.{LevelsAreTheSections, FramesAreTheSections, NumbersRise, frames_of_places, labels_found, numbers_found, counted}
 use Rattle.bc_translation.proofs.Forms.{count_kept}
 use Rattle.bc_translation.proofs.Items.{levels}
 use Rattle.bc_translation.proofs.Declared as declared

@@ -18,7 +18,7 @@ use Rattle.bc_scoping.specs.Sides.{side_levels}
 use Rattle.bc_scoping.specs.Source.{Around, worth, run_command}
 use Rattle.bc_scoping.specs.Translation.{Forms, forms, forms_of_all, core_arguments, core_declarations, core_command}
 use Rattle.bc_scoping.specs.Found.{Thing, AValof, ARoutine, Data, found, found_in_command, valofs_of, found_in_section, core_of}
-use Rattle.bc_scoping.specs.Frames.{frame_of}
+use Rattle.bc_scoping.specs.Frames.{frames_found}
 use Rattle.bc_scoping.specs.Faults.{section_fault}
 use Rattle.bc_scoping.specs.Sections.{meaning_of_sections}
 
@@ -46,12 +46,6 @@ pub record LevelsAreTheSections : Type 0 where
       (E : Env) (at : Numbers) (s : ℕ) (ds : Declarations) → level_behind E at s ds ≡ s + cells_declared (core_declarations E at s ds)
   pub of_sides : (E : Env) (at : Numbers) (xs : Exps) (s : ℕ) → side_levels E xs s ≡ map (λ (f : Forms). side_level f.address s) (forms_of_all E at xs)
   pub of_arguments : (E : Env) (at : Numbers) (es : Exps) → core.count (core_arguments E at es) ≡ count es
-
-abbrev pub frames_found : List Thing → List ℕ
-frames_found [] = []
-frames_found (ARoutine r ∷ things) = frame_of r ∷ frames_found things
-frames_found (AValof f ∷ things) = frames_found things
-frames_found (Data label d ∷ things) = frames_found things
 
 abbrev pub frames_of_places : List Valof → List Place → List ℕ
 frames_of_places valofs [] = []
