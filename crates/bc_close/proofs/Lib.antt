@@ -1,3 +1,5 @@
 pub mod Unwinding
 pub mod Stepping
 pub mod Weights
+pub mod Breaks
+pub mod Plain

@@ -7,15 +7,15 @@ use Rattle.bc_tree.specs.Parts.{Part, A, Name, Number, Character, String, NewLin
 use Rattle.bc_tree.specs.Size.{weight_of, weight}
 use Rattle.bc_close.specs.Closing.{Fault, Unclosed, ◌>>=◌, Step, Placed, Role, Opens, Closes, Stays, role_of, step_by, token_step, closing, closes, tag_of, kind_part, begins_command, broken, is_empty, closed, closed_list, parts_in}
 
-abbrev Yields : {X : Type 0} → Result X Fault → (X → Type 0) → Type 0
+abbrev pub Yields : {X : Type 0} → Result X Fault → (X → Type 0) → Type 0
 Yields (Ok x) P = P x
 Yields (Err e) P = Unit {0}
 
-then : {X Y : Type 0} (r : Result X Fault) (f : X → Result Y Fault) (P : X → Type 0) (Q : Y → Type 0) → Yields r P → ((x : X) → P x → Yields (f x) Q) → Yields (r >>= f) Q
+pub then : {X Y : Type 0} (r : Result X Fault) (f : X → Result Y Fault) (P : X → Type 0) (Q : Y → Type 0) → Yields r P → ((x : X) → P x → Yields (f x) Q) → Yields (r >>= f) Q
 then (Ok x) f P Q p next = next x p
 then (Err e) f P Q p next = tt
 
-from_yields : {X : Type 0} (r : Result X Fault) (x : X) (Q : X → Type 0) → Yields r Q → r ≡ Ok x → Q x
+pub from_yields : {X : Type 0} (r : Result X Fault) (x : X) (Q : X → Type 0) → Yields r Q → r ≡ Ok x → Q x
 from_yields (Ok y) x Q p e = let same : y ≡ x = cc in subst Q same p
 from_yields (Err d) x Q p e = absurd cc
 

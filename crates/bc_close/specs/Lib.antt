@@ -1,3 +1,4 @@
 pub mod Closing
 pub mod Seen
+pub mod Lawful
 pub mod Laws
