@@ -1,0 +1,10 @@
+pub mod Least
+pub mod Options
+pub mod Choices
+pub mod Folds
+pub mod Lower
+pub mod Readings
+pub mod Makes
+pub mod Attained
+pub mod Chosen
+pub mod Laws

@@ -1,0 +1,7 @@
+//! Derivations of least words: what they are, and that there is one wherever there is a derivation.
+#![tactic(auto)]
+
+mod choice;
+pub mod laws;
+
+pub use choice::{Candidate, Choice, Choices, Node};
