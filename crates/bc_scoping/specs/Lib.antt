@@ -9,6 +9,7 @@ pub mod Found
 pub mod Frames
 pub mod Sections
 pub mod Faults
+pub mod Words
 pub mod Examples
 pub mod FaultExamples
 pub mod TranslationExamples

@@ -79,7 +79,7 @@ sound_valof {P} {L} {E} h = record { from = λ q. valof_fits P L E q (h.from q) 
 sound_parameters : {P : ℕ} {L : List ℕ} (ps : List Name) (E : Env) → Sound P L E → Sound P [] (in_parameters ps E)
 sound_parameters {P} {L} ps E h = sound_variables ps 2 (in_routine E) (record { from = λ q. routine_fits P L E q (h.from q) })
 
-all_joined : (Q : Thing → Type 0) (fs gs : List Thing) → AllThings Q fs → AllThings Q gs → AllThings Q (fs ++ gs)
+pub all_joined : (Q : Thing → Type 0) (fs gs : List Thing) → AllThings Q fs → AllThings Q gs → AllThings Q (fs ++ gs)
 all_joined Q [] gs h k = k
 all_joined Q (x ∷ fs) gs h k = (h.0, all_joined Q fs gs h.1 k)
 

@@ -7,6 +7,7 @@ use Rattle.bc_core.specs.Tree as core
 use Rattle.bc_core.specs.Commands.{Place, Code, Valof}
 use Rattle.bc_core.specs.Level.{side_level, cells_declared}
 use Rattle.bc_core.specs.Layout.{frame_size}
+use Rattle.bc_core.specs.Numbers.{core_has_words}
 use Rattle.bc_core.specs.Map.{Map}
 use Rattle.bc_core.specs.WellFormed.{is_core}
 use Rattle.bc_core.specs.Value.{sense}
@@ -20,6 +21,7 @@ use Rattle.bc_scoping.specs.Translation.{Forms, forms, forms_of_all, core_argume
 use Rattle.bc_scoping.specs.Found.{Thing, AValof, ARoutine, Data, found, found_in_command, valofs_of, found_in_section, core_of}
 use Rattle.bc_scoping.specs.Frames.{frames_found}
 use Rattle.bc_scoping.specs.Faults.{section_fault}
+use Rattle.bc_scoping.specs.Words.{DeclarationsHaveWords}
 use Rattle.bc_scoping.specs.Sections.{meaning_of_sections}
 
 -- a list of sections means what the list of their translations means: for all maps, inputs and numbers of turns
@@ -87,3 +89,7 @@ NumbersRise =
 abbrev pub SectionsFit : Type 0
 SectionsFit =
     (ds : Declarations) → declarations_size ds ≤ 524288 → section_fault ds ≡ None → is_core (core_of ds) ≡ true
+
+-- where the numbers of a section are words, as the parser's are, those of its translation are
+abbrev pub WordsAreKept : Type 0
+WordsAreKept = (ds : Declarations) → DeclarationsHaveWords ds → core_has_words (core_of ds) ≡ true

@@ -1,6 +1,6 @@
 //! Laws of the translation. Each is the contract of a function that does nothing.
 
-ghost use Rattle.bc_translation.specs.Laws.{SectionsKeepTheirMeaning, ExpressionsKeepTheirMeaning, CommandsKeepTheirMeaning, LevelsAreTheSections, FramesAreTheSections, NumbersRise, SectionsFit};
+ghost use Rattle.bc_translation.specs.Laws.{SectionsKeepTheirMeaning, ExpressionsKeepTheirMeaning, CommandsKeepTheirMeaning, LevelsAreTheSections, FramesAreTheSections, NumbersRise, SectionsFit, WordsAreKept};
 
 /// A list of sections means what the list of their translations means: for every map of addresses, all
 /// inputs and every number of turns.
@@ -38,4 +38,9 @@ pub fn numbers_rise()
 /// A section without fault is translated to one that fits `Core`.
 pub fn sections_fit()
     ensures { SectionsFit }
+{}
+
+/// Where the numbers of a section are words and its strings are bytes, those of its translation are.
+pub fn words_are_kept()
+    ensures { WordsAreKept }
 {}
