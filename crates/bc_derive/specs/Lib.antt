@@ -2,6 +2,9 @@ pub mod Free
 pub mod Rules
 pub mod Piece
 pub mod Code
+pub mod Parts
+pub mod ByShape
 pub mod Entry
 pub mod View
 pub mod Examples
+pub mod Laws

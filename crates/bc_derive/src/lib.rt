@@ -3,6 +3,7 @@
 
 mod derivation;
 mod entry;
+pub mod laws;
 mod piece;
 mod rule;
 

@@ -1,0 +1,4 @@
+pub mod ByShape
+pub mod Words
+pub mod Tables
+pub mod Likeness
