@@ -30,24 +30,24 @@ fails_is (errors.GetMissing file at) read h = inr h
 fails_is (errors.GetTooDeep file at) read h = inr h
 fails_is (errors.TooManyTokens file at) read h = inr h
 
-pub answers_tokens : {X : Type 0} (files : List File) (main : ℕ) (view : X → List Lexeme) (r : Result X LexError) → lexing.Reads view r (read_of files main) → IfOk r (λ v. HasTokens files main (view v))
+pub answers_tokens : {X : Type 0} (files : List File) (main : ℕ) (view : X → List Lexeme) (r : Result X LexError) → lexing.ReadsAs view r (read_of files main) → IfOk r (λ v. HasTokens files main (view v))
 answers_tokens files main view (Ok v) h = has_tokens files main (read_of files main) (view v) (source_reads files main) h
 answers_tokens files main view (Err e) h = tt
 
-pub answers_fault : {X : Type 0} (files : List File) (main : ℕ) (view : X → List Lexeme) (r : Result X LexError) → lexing.Reads view r (read_of files main) → IfErr r (λ e. (e ≡ errors.Memory) ⊎ HasFault files main e)
+pub answers_fault : {X : Type 0} (files : List File) (main : ℕ) (view : X → List Lexeme) (r : Result X LexError) → lexing.ReadsAs view r (read_of files main) → IfErr r (λ e. (e ≡ errors.Memory) ⊎ HasFault files main e)
 answers_fault files main view (Ok v) h = tt
 answers_fault files main view (Err e) h = elim (fails_is e (read_of files main) h) [
   | inl memory ↦ inl memory
   | inr read ↦ inr (has_fault files main (read_of files main) e (source_reads files main) read)
 ]
 
-pub answers_only_tokens : {X : Type 0} (files : List File) (main : ℕ) (view : X → List Lexeme) (r : Result X LexError) → lexing.Reads view r (read_of files main) → (tokens : List Lexeme) → HasTokens files main tokens → MatchResult r (λ v. view v ≡ tokens) (λ e. e ≡ errors.Memory)
+pub answers_only_tokens : {X : Type 0} (files : List File) (main : ℕ) (view : X → List Lexeme) (r : Result X LexError) → lexing.ReadsAs view r (read_of files main) → (tokens : List Lexeme) → HasTokens files main tokens → MatchResult r (λ v. view v ≡ tokens) (λ e. e ≡ errors.Memory)
 answers_only_tokens files main view (Ok v) h tokens has = let read : read_of files main ≡ Ok tokens = tokens_read files main tokens has in cc
 answers_only_tokens files main view (Err e) h tokens has =
     let read : read_of files main ≡ Ok tokens = tokens_read files main tokens has in
     elim (fails_is e (read_of files main) h) [ inl memory ↦ memory | inr other ↦ cc ]
 
-pub answers_only_fault : {X : Type 0} (files : List File) (main : ℕ) (view : X → List Lexeme) (r : Result X LexError) → lexing.Reads view r (read_of files main) → (x : LexError) → HasFault files main x → MatchResult r (λ v. ⊥) (λ e. (e ≡ x) ⊎ (e ≡ errors.Memory))
+pub answers_only_fault : {X : Type 0} (files : List File) (main : ℕ) (view : X → List Lexeme) (r : Result X LexError) → lexing.ReadsAs view r (read_of files main) → (x : LexError) → HasFault files main x → MatchResult r (λ v. ⊥) (λ e. (e ≡ x) ⊎ (e ≡ errors.Memory))
 answers_only_fault files main view (Ok v) h x has = let read : read_of files main ≡ Err x = fault_read files main x has in cc
 answers_only_fault files main view (Err e) h x has =
     let read : read_of files main ≡ Err x = fault_read files main x has in
@@ -73,7 +73,7 @@ at_most files levels file before at line bytes tokens ending (GetUnnamed l f b a
 at_most files levels file before at line bytes tokens ending (GetNoString l f b a i gap space after g end space_gap none) h = omega arith
 at_most files levels file before at line bytes tokens ending (GetFaulty l f b a i gap space rest kind behind g end space_gap faulty) h = omega arith
 
-pub answers_few : {X : Type 0} (files : List File) (main : ℕ) (view : X → List Lexeme) (r : Result X LexError) → lexing.Reads view r (read_of files main) → IfOk r (λ v. length (view v) ≤ 60000)
+pub answers_few : {X : Type 0} (files : List File) (main : ℕ) (view : X → List Lexeme) (r : Result X LexError) → lexing.ReadsAs view r (read_of files main) → IfOk r (λ v. length (view v) ≤ 60000)
 answers_few files main view (Ok v) h =
     let some : 0 + length (view v) ≤ 60000 = at_most files 8 main 0 0 false _ (view v) _ (answers_tokens files main view (Ok v) h) (omega arith) in
     omega arith

@@ -14,13 +14,14 @@ use Rattle.bc_lex.specs.Bytes.{is_name_byte}
 use Rattle.bc_lex.specs.Gaps.{Holds, breaks, begins, opens_block, IsGap}
 use Rattle.bc_lex.specs.Lexemes.{Ends, IsLexeme, Word}
 use Rattle.bc_lex.specs.Faults.{IsFaulty}
-use Rattle.bc_lex.specs.Files.{File, text_of, source_from}
+use Rattle.bc_lex.specs.Files.{File, text_of}
+use Rattle.bc_lex.specs.Search.{source_from}
 use Rattle.bc_lex.specs.Errors.{error_of}
 use Rattle.bc_lex.specs.Reading.{fault_at, string_of}
 use Rattle.bc_lex.specs.Blank.{gap_of}
-use Rattle.bc_lex.specs.Lexeme.{◌>>=◌, lexeme_of}
+use Rattle.bc_lex.specs.Lexeme.{◌>>=◌, lexeme_in_front}
 use Rattle.bc_lex.specs.Lexing as lexing
-use Rattle.bc_lex.specs.Lexing.{Found, located, found_or, skipped, string_end_of, lexeme_at, part, named_on, target_on, target_of, is_get, item_by, item_on, item_of, pushed, place_at, Deeper, found_on, rest_of, file_of, deeper_of, read_of}
+use Rattle.bc_lex.specs.Lexing.{Found, located, found_or, skipped, string_end_of, lexeme_at, part, named_on, target_on, target_of, is_get, item_by, item_on, item_of, pushed, place_at, Deeper, found_on, rest_of, file_to_end, deeper_of, read_of}
 use Rattle.bc_lex.specs.Tokens.{IsFirstNamed, IsUnnamed, IsNoString, IsFaultyString, IsGet, Ending, Whole, Faulty, token, Reads, End, Next, TooMany, Fault as FaultHere, Get, GetFault, GetTooDeep, GetUnnamed, GetNoString, GetFaulty, HasTokens, HasFault}
 use Rattle.bc_lex.proofs.Runs.{length-append_ℕ}
 use Rattle.bc_lex.proofs.Gapping.{NoBlank, gap_whole, gap_cut}
@@ -42,11 +43,11 @@ skip_cut file text at gap rest e g unclosed =
 
 -- lexemes
 
-word_at : (file : ℕ) (text : List ℕ) (at : ℕ) (bytes : List ℕ) (kind : Kind) (n : ℕ) → drop at text ≡ bytes → lexeme_of bytes ≡ Ok (kind, n) → lexeme_at file text at ≡ Ok (kind, at + n)
+word_at : (file : ℕ) (text : List ℕ) (at : ℕ) (bytes : List ℕ) (kind : Kind) (n : ℕ) → drop at text ≡ bytes → lexeme_in_front bytes ≡ Ok (kind, n) → lexeme_at file text at ≡ Ok (kind, at + n)
 unfolding lexeme_at
 word_at file text at bytes kind n e h = rw (e, h) refl
 
-fault_in : (file : ℕ) (text : List ℕ) (at : ℕ) (bytes : List ℕ) (kind : FaultKind) (n : ℕ) → drop at text ≡ bytes → lexeme_of bytes ≡ Err (fault_at kind n) → lexeme_at file text at ≡ Err (error_of kind file (at + n))
+fault_in : (file : ℕ) (text : List ℕ) (at : ℕ) (bytes : List ℕ) (kind : FaultKind) (n : ℕ) → drop at text ≡ bytes → lexeme_in_front bytes ≡ Err (fault_at kind n) → lexeme_at file text at ≡ Err (error_of kind file (at + n))
 unfolding lexeme_at
 fault_in file text at bytes kind n e h = rw (e, h) refl
 
@@ -207,7 +208,7 @@ target_bad files file start at space [] kind n h g begin r = let m : false ≡ t
 target_bad files file start at space (b ∷ bs) kind n h g begin r =
     let b_is : b ≡ 34 = eqb-true b 34 begin in
     let behind = behind_at files file at space (b ∷ bs) h in
-    let read : lexeme_of (34 ∷ bs) ≡ Err (fault_at kind n) = ap (λ c. lexeme_of (c ∷ bs)) (sym b_is) ∙ r.read in
+    let read : lexeme_in_front (34 ∷ bs) ≡ Err (fault_at kind n) = ap (λ c. lexeme_in_front (c ∷ bs)) (sym b_is) ∙ r.read in
     target_skips files file start at space (b ∷ bs) h g r.no_blank
     ∙ string_fails files file start (at + length space) bs kind n (behind.there ∙ ap (λ c. c ∷ bs) b_is) (string_faulty bs (fault_at kind n) read)
 
@@ -287,7 +288,7 @@ first_item files file at line gap space string after name named h g get first =
     get_item files file at line gap (space ++ (string ++ after)) (Ok (named, at + length gap + 3 + length space + length string)) h g get.word (target_first files file (at + length gap) (at + length gap + 3) space string after name named (behind_word files file at gap (space ++ (string ++ after)) h) get first)
 
 deeper_suc : (files : List File) (levels file start named : ℕ) (before : List Lexeme) → deeper_of files (suc levels) file start named before ≡ rest_of (deeper_of files levels) files named (length (text_of files named)) (place_at 0 true) before
-unfolding deeper_of file_of
+unfolding deeper_of file_to_end
 deeper_suc files levels file start named before = refl
 
 deeper_zero : (files : List File) (file start named : ℕ) (before : List Lexeme) → deeper_of files zero file start named before ≡ Err (errors.GetTooDeep file start)
@@ -369,7 +370,7 @@ complete files levels file before at line bytes tokens ending (GetFaulty levels'
 -- what is read of a source
 
 read_whole : (files : List File) (main : ℕ) (tokens : List Lexeme) (ending : Ending) → Reads files 8 main 0 0 false (text_of files main) tokens ending → read_of files main ≡ outcome [] tokens ending
-unfolding read_of file_of
+unfolding read_of file_to_end
 read_whole files main tokens ending h = complete files 8 main 0 0 false (text_of files main) tokens ending h [] refl (length (text_of files main)) (omega arith) (whole_at files main)
 
 pub tokens_read : (files : List File) (main : ℕ) (tokens : List Lexeme) → HasTokens files main tokens → read_of files main ≡ Ok tokens

@@ -17,7 +17,7 @@ use Rattle.bc_lex.specs.Quotes.{IsCharacter}
 use Rattle.bc_lex.specs.Lexemes.{Ends, IsName, is_digit_of, value_behind, IsNumber, Decimal, Octal, Hexadecimal, IsSign, IsLexeme, Word, Named, Numeral, Constant, Literal, Marked, Bracket}
 use Rattle.bc_lex.specs.Faults.{is_sign_byte, NoDigits, IsFaulty, LargeNumber, NoNumber, LongString, OpenString, BadString, BadConstant, OpenConstant, NoToken}
 use Rattle.bc_lex.specs.Reading.{fault_at, number_of, string_of, string_from, character_by, quoted_of}
-use Rattle.bc_lex.specs.Lexeme.{◌>>=◌, named, word_of, short_of, long_of, string_at, number_at, character_at, sign_at, lexeme_of}
+use Rattle.bc_lex.specs.Lexeme.{◌>>=◌, named, word_of, short_of, long_of, string_at, number_at, character_at, sign_at, lexeme_in_front}
 use Rattle.bc_lex.proofs.Runs.{run_sound, run_length, run_complete, take-front, drop-front, length-append_ℕ}
 use Rattle.bc_lex.proofs.Quoting.{Front, Closes, Cuts, Spoils, Stands, quoted_front, quoted_character, quoted_bad, StringRead, Closed, Cut, Spoiled, Long, string_reads}
 use Rattle.bc_lex.proofs.Numbering.{DigitsRead, NoDigit, Small, Large, read_digits, digits_read, digits_small, digits_large, digits_none}
@@ -45,8 +45,8 @@ word_reads b bs h =
     let same : word_of (b ∷ bs) ≡ (named text (symbol_of text), suc m) = ap (λ k. (named (take k (b ∷ bs)) (symbol_of (take k (b ∷ bs))), k)) n in
     rw same (word_named (b ∷ bs) text (drop m bs) (suc m) (symbol_of text) (ap (λ ys. b ∷ ys) (sym (take-append-drop m bs))) (h, p.0) p.1 (omega arith) refl)
 
-pub word_complete : (text after : List ℕ) → IsName text → Ends is_name_byte after → lexeme_of (text ++ after) ≡ Ok (named text (symbol_of text), length text)
-unfolding lexeme_of
+pub word_complete : (text after : List ℕ) → IsName text → Ends is_name_byte after → lexeme_in_front (text ++ after) ≡ Ok (named text (symbol_of text), length text)
+unfolding lexeme_in_front
 word_complete [] after name end = absurd name
 word_complete (b ∷ bs) after name end =
     let all : list_all is_name_byte (b ∷ bs) ≡ true = and_from (is_name_byte b) (list_all is_name_byte bs) (letter_name b name.0) name.1 in
@@ -94,8 +94,8 @@ number_reads b bs false e h =
 or_left_true : (x y : Bool) → x ≡ true → (x || y) ≡ true
 or_left_true x y h = rw h refl
 
-dispatch_number : (b : ℕ) (bs : List ℕ) → is_letter b ≡ false → (is_digit b || nat_eq b 35) ≡ true → lexeme_of (b ∷ bs) ≡ number_at (b ∷ bs)
-unfolding lexeme_of
+dispatch_number : (b : ℕ) (bs : List ℕ) → is_letter b ≡ false → (is_digit b || nat_eq b 35) ≡ true → lexeme_in_front (b ∷ bs) ≡ number_at (b ∷ bs)
+unfolding lexeme_in_front
 dispatch_number b bs l h = cond-false (is_letter b) _ _ l ∙ cond-true (is_digit b || nat_eq b 35) _ _ h
 
 number_found : (b : ℕ) (bs : List ℕ) (v m k : ℕ) → number_of (b ∷ bs) ≡ Ok (v, m) → m ≡ k → number_at (b ∷ bs) ≡ Ok (Number v, k)
@@ -105,7 +105,7 @@ number_refused : (b : ℕ) (bs : List ℕ) (f : Fault) → number_of (b ∷ bs) 
 number_refused b bs f e = rw e refl
 
 -- the reading of a number is that of its digits
-pub number_splits : (text after : List ℕ) (n : ℕ) → IsNumber text after n → (n ≤ 65535 → lexeme_of (text ++ after) ≡ Ok (Number n, length text)) × (65535 < n → lexeme_of (text ++ after) ≡ Err (fault_at faults.NumberTooLarge 0))
+pub number_splits : (text after : List ℕ) (n : ℕ) → IsNumber text after n → (n ≤ 65535 → lexeme_in_front (text ++ after) ≡ Ok (Number n, length text)) × (65535 < n → lexeme_in_front (text ++ after) ≡ Err (fault_at faults.NumberTooLarge 0))
 number_splits text after n (Decimal b bs rest all end) =
     let first : is_digit_of 10 b ≡ true = (and_parts (is_digit_of 10 b) (list_all (is_digit_of 10) bs) all).0 in
     let digit : is_digit b ≡ true = ten_digit b first in
@@ -134,7 +134,7 @@ none_step [] true h no_digits = let n : false ≡ true = h in cc
 none_step (c ∷ bs) true h no_digits = digits_none 16 2 bs (no_digits.1 bs (ap (λ n. n ∷ bs) (eqb-true c 88 h)))
 none_step bs false h no_digits = digits_none 8 1 bs no_digits.0
 
-pub no_number : (bs : List ℕ) → NoDigits bs → lexeme_of (35 ∷ bs) ≡ Err (fault_at faults.BadCharacter 0)
+pub no_number : (bs : List ℕ) → NoDigits bs → lexeme_in_front (35 ∷ bs) ≡ Err (fault_at faults.BadCharacter 0)
 no_number bs h = dispatch_number 35 bs refl refl ∙ number_refused 35 bs (fault_at faults.BadCharacter 0) (none_step bs (begins 88 bs) refl h)
 
 -- character constants
@@ -328,6 +328,6 @@ lexeme_letter : (b : ℕ) (bs : List ℕ) (t : Bool) → is_letter b ≡ t → i
 lexeme_letter b bs true e sp l k = word_reads b bs e
 lexeme_letter b bs false e sp l k = lexeme_digit b bs (is_digit b || nat_eq b 35) refl e sp l k
 
-pub lexeme_reads : (b : ℕ) (bs : List ℕ) → is_space b ≡ false → opens_line (b ∷ bs) ≡ false → opens_block (b ∷ bs) ≡ false → LexemeRead (b ∷ bs) (lexeme_of (b ∷ bs))
-unfolding lexeme_of
+pub lexeme_reads : (b : ℕ) (bs : List ℕ) → is_space b ≡ false → opens_line (b ∷ bs) ≡ false → opens_block (b ∷ bs) ≡ false → LexemeRead (b ∷ bs) (lexeme_in_front (b ∷ bs))
+unfolding lexeme_in_front
 lexeme_reads b bs sp l k = lexeme_letter b bs (is_letter b) refl sp l k

@@ -18,7 +18,7 @@ use Rattle.bc_lex.specs.Quotes.{IsCharacter, Spells, IsBadEscape}
 use Rattle.bc_lex.specs.Lexemes.{Ends, IsName, is_digit_of, IsNumber, Decimal, Octal, Hexadecimal, NoLetter, IsSign, IsLexeme, Word, Named, Numeral, Constant, Literal, Marked, Bracket}
 use Rattle.bc_lex.specs.Faults.{is_sign_byte, IsFaulty, OpenComment, LargeNumber, NoNumber, LongString, OpenString, BadString, BadConstant, OpenConstant, NoToken}
 use Rattle.bc_lex.specs.Reading.{fault_at, string_of, string_from, string_on, character_by, quoted_of}
-use Rattle.bc_lex.specs.Lexeme.{◌>>=◌, named, short_of, long_of, sign_of, string_at, sign_at, lexeme_of}
+use Rattle.bc_lex.specs.Lexeme.{◌>>=◌, named, short_of, long_of, sign_of, string_at, sign_at, lexeme_in_front}
 use Rattle.bc_lex.proofs.Runs.{run_complete, take-front, drop-front, length-append_ℕ}
 use Rattle.bc_lex.proofs.Gapping.{NoBlank}
 use Rattle.bc_lex.proofs.Quoting.{Front, Closes, Cuts, Spoils, Stands, quoted_front, quoted_character, quoted_cut, quoted_bad, string_skips}
@@ -93,8 +93,8 @@ lexeme_no_blank text after kind (Bracket bracket tag rest s e has all end) = bra
 
 -- lexemes
 
-constant_found : (text rest : List ℕ) (c : ℕ) → IsCharacter 39 text c → lexeme_of (39 ∷ (text ++ 39 ∷ rest)) ≡ Ok (Character c, length text + 2)
-unfolding lexeme_of
+constant_found : (text rest : List ℕ) (c : ℕ) → IsCharacter 39 text c → lexeme_in_front (39 ∷ (text ++ 39 ∷ rest)) ≡ Ok (Character c, length text + 2)
+unfolding lexeme_in_front
 constant_found text rest c ch =
     let bs = text ++ 39 ∷ rest in
     let front : quoted_of 39 bs ≡ quoted.Character c (length text) = quoted_character 39 text (39 ∷ rest) c refl ch in
@@ -122,8 +122,8 @@ string_lexeme whole rest bs n same n_is of =
     let front : take n bs ≡ whole = ap (take n) same ∙ ap (λ m. take m (whole ++ rest)) n_is ∙ take-front whole rest in
     rw (of, front) refl
 
-string_found : (text cs rest : List ℕ) → Spells 34 text cs → length cs < 256 → lexeme_of (34 ∷ (text ++ 34 ∷ rest)) ≡ Ok (String (34 ∷ (text ++ 34 ∷ [])), length (34 ∷ (text ++ 34 ∷ [])))
-unfolding lexeme_of
+string_found : (text cs rest : List ℕ) → Spells 34 text cs → length cs < 256 → lexeme_in_front (34 ∷ (text ++ 34 ∷ rest)) ≡ Ok (String (34 ∷ (text ++ 34 ∷ [])), length (34 ∷ (text ++ 34 ∷ [])))
+unfolding lexeme_in_front
 string_found text cs rest sp short =
     string_lexeme (34 ∷ (text ++ 34 ∷ [])) rest (34 ∷ (text ++ 34 ∷ rest)) (length (34 ∷ (text ++ 34 ∷ []))) (ap (λ ys. 34 ∷ ys) (sym (append_assoc text (34 ∷ []) rest))) refl (string_whole text cs rest sp short)
 
@@ -135,12 +135,12 @@ string_error bs f (Ok n) h = cc
 string_error bs f (Err g) h = let same : g ≡ f = cc in ap Err same
 
 -- a faulty lexeme that begins as a string is a faulty string
-pub string_faulty : (bs : List ℕ) (f : Fault) → lexeme_of (34 ∷ bs) ≡ Err f → string_of (34 ∷ bs) ≡ Err f
-unfolding lexeme_of
+pub string_faulty : (bs : List ℕ) (f : Fault) → lexeme_in_front (34 ∷ bs) ≡ Err f → string_of (34 ∷ bs) ≡ Err f
+unfolding lexeme_in_front
 string_faulty bs f h = string_error (34 ∷ bs) f (string_of (34 ∷ bs)) h
 
-pub dispatch_sign : (b : ℕ) (bs : List ℕ) → is_sign_byte b ≡ true → lexeme_of (b ∷ bs) ≡ sign_at (b ∷ bs)
-unfolding lexeme_of
+pub dispatch_sign : (b : ℕ) (bs : List ℕ) → is_sign_byte b ≡ true → lexeme_in_front (b ∷ bs) ≡ sign_at (b ∷ bs)
+unfolding lexeme_in_front
 dispatch_sign b bs h =
     let o = other_parts b h in
     cond-false (is_letter b) _ _ o.letter ∙ cond-false (is_digit b || nat_eq b 35) _ _ (rw (o.digit, o.hash) refl) ∙ cond-false (nat_eq b 34) _ _ o.double ∙ cond-false (nat_eq b 39) _ _ o.single
@@ -160,12 +160,12 @@ two_found b c rest s n e n_is = sign_of-long b c rest ∙ ap (long_of (b ∷ c �
 as_sign : (bs : List ℕ) (s : Symbol) (n : ℕ) → sign_of bs ≡ Ok (s, n) → sign_at bs ≡ Ok (Sign s, n)
 as_sign bs s n e = rw e refl
 
-marked_found : (text after : List ℕ) (s : Symbol) → IsSign text after s → has_tag s ≡ false → Shape text s → lexeme_of (text ++ after) ≡ Ok (Sign s, length text)
+marked_found : (text after : List ℕ) (s : Symbol) → IsSign text after s → has_tag s ≡ false → Shape text s → lexeme_in_front (text ++ after) ≡ Ok (Sign s, length text)
 marked_found text after s h tag (Letters b bs s' letter t) = absurd (both_ways (is_letter b) h.sign letter)
 marked_found text after s h tag (One b s' sign t) = dispatch_sign b after sign ∙ as_sign (b ∷ after) s' 1 (one_found b after s' h.spelled h.longest)
 marked_found text after s h tag (Two b c s' sign t) = dispatch_sign b (c ∷ after) sign ∙ as_sign (b ∷ c ∷ after) s' 2 (two_found b c after s' 2 h.spelled (rw tag refl))
 
-bracket_found : (text tag after : List ℕ) (s : Symbol) → symbol_of text ≡ Some s → has_tag s ≡ true → list_all is_name_byte tag ≡ true → Ends is_name_byte after → Shape text s → lexeme_of (text ++ (tag ++ after)) ≡ Ok (Sign s, length (text ++ tag))
+bracket_found : (text tag after : List ℕ) (s : Symbol) → symbol_of text ≡ Some s → has_tag s ≡ true → list_all is_name_byte tag ≡ true → Ends is_name_byte after → Shape text s → lexeme_in_front (text ++ (tag ++ after)) ≡ Ok (Sign s, length (text ++ tag))
 bracket_found text tag after s e has all end (Letters b bs s' letter t) = absurd (both_ways (has_tag s') t has)
 bracket_found text tag after s e has all end (One b s' sign t) = absurd (both_ways (has_tag s') t has)
 bracket_found text tag after s e has all end (Two b c s' sign t) =
@@ -173,18 +173,18 @@ bracket_found text tag after s e has all end (Two b c s' sign t) =
     let n : 2 + cond (has_tag s') (prefix_len is_name_byte (tag ++ after)) 0 ≡ length (b ∷ c ∷ tag) = rw (has, run) (omega arith) in
     dispatch_sign b (c ∷ (tag ++ after)) sign ∙ as_sign (b ∷ c ∷ (tag ++ after)) s' (length (b ∷ c ∷ tag)) (two_found b c (tag ++ after) s' (length (b ∷ c ∷ tag)) e n)
 
-pub lexeme_found : (text after : List ℕ) (kind : Kind) → IsLexeme text after kind → lexeme_of (text ++ after) ≡ Ok (kind, length text)
+pub lexeme_found : (text after : List ℕ) (kind : Kind) → IsLexeme text after kind → lexeme_in_front (text ++ after) ≡ Ok (kind, length text)
 lexeme_found text after kind (Word word rest s name end e) = word_complete word rest name end ∙ ap (λ o. Ok (named word o, length word)) e
 lexeme_found text after kind (Named word rest name end e) = word_complete word rest name end ∙ ap (λ o. Ok (named word o, length word)) e
 lexeme_found text after kind (Numeral digits rest n number small) = (number_splits digits rest n number).0 small
 lexeme_found text after kind (Constant spelled rest c ch) =
     let l : length (spelled ++ 39 ∷ []) ≡ length spelled + 1 = length-append_ℕ spelled (39 ∷ []) in
-    ap (λ ys. lexeme_of (39 ∷ ys)) (append_assoc spelled (39 ∷ []) rest) ∙ constant_found spelled rest c ch ∙ ap (λ n. Ok (Character c, n)) (omega arith)
+    ap (λ ys. lexeme_in_front (39 ∷ ys)) (append_assoc spelled (39 ∷ []) rest) ∙ constant_found spelled rest c ch ∙ ap (λ n. Ok (Character c, n)) (omega arith)
 lexeme_found text after kind (Literal spelled rest cs sp short) =
-    ap (λ ys. lexeme_of (34 ∷ ys)) (append_assoc spelled (34 ∷ []) rest) ∙ string_found spelled cs rest sp short
+    ap (λ ys. lexeme_in_front (34 ∷ ys)) (append_assoc spelled (34 ∷ []) rest) ∙ string_found spelled cs rest sp short
 lexeme_found text after kind (Marked sign rest s is_sign tag) = marked_found sign rest s is_sign tag (shape sign s is_sign.spelled)
 lexeme_found text after kind (Bracket bracket tag rest s e has all end) =
-    ap lexeme_of (append_assoc bracket tag rest) ∙ bracket_found bracket tag rest s e has all end (shape bracket s e)
+    ap lexeme_in_front (append_assoc bracket tag rest) ∙ bracket_found bracket tag rest s e has all end (shape bracket s e)
 
 -- faults
 
@@ -192,10 +192,10 @@ lexeme_found text after kind (Bracket bracket tag rest s e has all end) =
 pub record Refused (bs : List ℕ) (kind : FaultKind) (at : ℕ) : Type 0 where
   pub some : 1 ≤ length bs
   pub no_blank : NoBlank bs
-  pub read : lexeme_of bs ≡ Err (fault_at kind at)
+  pub read : lexeme_in_front bs ≡ Err (fault_at kind at)
 
-string_refused : (bs : List ℕ) (f : Fault) → string_of (34 ∷ bs) ≡ Err f → lexeme_of (34 ∷ bs) ≡ Err f
-unfolding lexeme_of
+string_refused : (bs : List ℕ) (f : Fault) → string_of (34 ∷ bs) ≡ Err f → lexeme_in_front (34 ∷ bs) ≡ Err f
+unfolding lexeme_in_front
 string_refused bs f e = ap (λ r. r >>= λ n. Ok (String (take n (34 ∷ bs)), n)) e
 
 long_string : (text cs after : List ℕ) → Spells 34 text cs → length cs ≡ 256 → string_of (34 ∷ (text ++ after)) ≡ Err (fault_at faults.StringTooLong 0)
@@ -204,8 +204,8 @@ long_string text cs after sp long =
     let e : 256 ≡ length cs + 0 = omega arith in
     string_skips text cs sp 256 0 1 after e
 
-constant_refused : (after : List ℕ) (f : Fault) → character_by (39 ∷ after) (quoted_of 39 after) ≡ Err f → lexeme_of (39 ∷ after) ≡ Err f
-unfolding lexeme_of
+constant_refused : (after : List ℕ) (f : Fault) → character_by (39 ∷ after) (quoted_of 39 after) ≡ Err f → lexeme_in_front (39 ∷ after) ≡ Err f
+unfolding lexeme_in_front
 constant_refused after f e = ap as_character e
 
 abbrev ended : ℕ → ℕ → Bool → Result (ℕ × ℕ) Fault

@@ -5,7 +5,7 @@ use Rattle.bc_token.specs.Token.{Kind}
 use Rattle.bc_lex.specs.declared.fault.Fault.{Fault}
 use Rattle.bc_lex.specs.Bytes.{is_letter}
 use Rattle.bc_lex.specs.Blank.{ends_comment, closing_from, blank_of, gap_from, gap_on}
-use Rattle.bc_lex.specs.Lexeme.{lexeme_of, word_of}
+use Rattle.bc_lex.specs.Lexeme.{lexeme_in_front, word_of}
 
 pub closing_turn : (at : ℕ) (bytes : List ℕ) (read : Option ℕ) → at < length bytes → ends_comment (drop at bytes) ≡ false → closing_from at (drop at bytes) ≡ read → closing_from (at + 1) (drop (at + 1) bytes) ≡ read
 closing_turn at bytes read h e r =
@@ -23,7 +23,7 @@ gap_goes_on k i at n bytes read h ne e r =
     let no : nat_eq n 0 ≡ false = ne_eqb n 0 ne in
     rw (← drop-drop n at bytes) (rw no at (gap_turn k i at (drop at bytes) (Some n) read h e r))
 
-pub lexeme_of-word : (bs : List ℕ) (x : Kind × ℕ) → 0 < length bs → is_letter (get_or bs 0 0) ≡ true → word_of bs ≡ x → lexeme_of bs ≡ Ok x
-unfolding lexeme_of
-lexeme_of-word [] x h e w = absurd (omega arith)
-lexeme_of-word (b ∷ bs) x h e w = cond-true (is_letter b) _ _ e ∙ ap Ok w
+pub lexeme_in_front-word : (bs : List ℕ) (x : Kind × ℕ) → 0 < length bs → is_letter (get_or bs 0 0) ≡ true → word_of bs ≡ x → lexeme_in_front bs ≡ Ok x
+unfolding lexeme_in_front
+lexeme_in_front-word [] x h e w = absurd (omega arith)
+lexeme_in_front-word (b ∷ bs) x h e w = cond-true (is_letter b) _ _ e ∙ ap Ok w

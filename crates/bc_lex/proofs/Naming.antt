@@ -2,7 +2,8 @@
 use Rattle.std.proofs.Common.{◌≡◌, ◌≢◌, ◌∙◌, refl, sym, ap, arith, ℕ, zero, suc, ◌+◌, ◌<◌, Bool, true, false, inl, inr, List, [], ◌∷◌, ◌++◌, length, Some, None, cond, nat_eq, append_assoc, slice_get}
 use Rattle.std.proofs.lemmas.Bool.{eq-eqb, eqb-true, both_ways, cases_Bool}
 use Rattle.bc_lex.specs.Quotes.{IsCharacter, Spells, Empty, More}
-use Rattle.bc_lex.specs.Files.{File, is_closed, same_as, names_on, names_from, names_of, source_from}
+use Rattle.bc_lex.specs.Files.{File}
+use Rattle.bc_lex.specs.Search.{is_closed, same_as, names_on, names_from, spells_name, source_from}
 use Rattle.bc_lex.specs.Tokens.{IsFirstNamed, IsUnnamed}
 use Rattle.bc_lex.proofs.Runs.{drop-front}
 use Rattle.bc_lex.proofs.Quoting.{quoted_character}
@@ -41,11 +42,11 @@ names_complete text cs (More first more c others ch sp) rest =
 
 -- a string that names one name alone
 pub record Names (string name : List ℕ) : Type 0 where
-  pub only : (other : List ℕ) → names_of string other ≡ true → other ≡ name
-  pub this : names_of string name ≡ true
+  pub only : (other : List ℕ) → spells_name string other ≡ true → other ≡ name
+  pub this : spells_name string name ≡ true
 
 pub string_names : (text cs : List ℕ) → Spells 34 text cs → Names (34 ∷ (text ++ 34 ∷ [])) cs
-unfolding names_of
+unfolding spells_name
 string_names text cs sp = record { only = λ other h. names_sound text cs sp other [] h; this = names_complete text cs sp [] }
 
 -- the first of the files has the name
@@ -63,35 +64,35 @@ later_first f files name k ne h (suc j) other lt get = h j other (omega arith) g
 first_later : (f : File) (files : List File) (name : List ℕ) (k : ℕ) → f.name ≢ name → IsFirstNamed files name k → IsFirstNamed (f ∷ files) name (suc k)
 first_later f files name k ne h = record { text = h.text; there = h.there; first = later_first f files name k ne h.first }
 
-source_step : (string name : List ℕ) → Names string name → (i : ℕ) (f : File) (files : List File) (j : ℕ) (t : Bool) → names_of string f.name ≡ t → (source_from string (i + 1) files ≡ Some j → (k : ℕ) × (j ≡ i + 1 + k) × IsFirstNamed files name k) → cond t (Some i) (source_from string (i + 1) files) ≡ Some j → (k : ℕ) × (j ≡ i + k) × IsFirstNamed (f ∷ files) name k
+source_step : (string name : List ℕ) → Names string name → (i : ℕ) (f : File) (files : List File) (j : ℕ) (t : Bool) → spells_name string f.name ≡ t → (source_from string (i + 1) files ≡ Some j → (k : ℕ) × (j ≡ i + 1 + k) × IsFirstNamed files name k) → cond t (Some i) (source_from string (i + 1) files) ≡ Some j → (k : ℕ) × (j ≡ i + k) × IsFirstNamed (f ∷ files) name k
 source_step string name names i f files j true e ih h = let same : i ≡ j = cc in (0, omega arith, first_here f files name (names.only f.name e))
 source_step string name names i f files j false e ih h =
     let p = ih h in
-    let ne : f.name ≢ name = λ same. both_ways (names_of string f.name) e (ap (names_of string) same ∙ names.this) in
+    let ne : f.name ≢ name = λ same. both_ways (spells_name string f.name) e (ap (spells_name string) same ∙ names.this) in
     let j_is : j ≡ i + 1 + p.0 = p.1 in
     (suc p.0, omega arith, first_later f files name p.0 ne p.2)
 
 pub source_some : (string name : List ℕ) → Names string name → (i : ℕ) (files : List File) (j : ℕ) → source_from string i files ≡ Some j → (k : ℕ) × (j ≡ i + k) × IsFirstNamed files name k
 source_some string name names i [] j h = let n : None ≡ Some j = h in cc
-source_some string name names i (f ∷ files) j h = source_step string name names i f files j (names_of string f.name) refl (source_some string name names (i + 1) files j) h
+source_some string name names i (f ∷ files) j h = source_step string name names i f files j (spells_name string f.name) refl (source_some string name names (i + 1) files j) h
 
 unnamed_later : (f : File) (files : List File) (name : List ℕ) → f.name ≢ name → IsUnnamed files name → IsUnnamed (f ∷ files) name
 unnamed_later f files name ne h zero other get = let same : f ≡ other = cc in λ e. ne (ap (λ g. g.name) same ∙ e)
 unnamed_later f files name ne h (suc j) other get = h j other get
 
-none_step : (string name : List ℕ) → Names string name → (i : ℕ) (f : File) (files : List File) (t : Bool) → names_of string f.name ≡ t → (source_from string (i + 1) files ≡ None → IsUnnamed files name) → cond t (Some i) (source_from string (i + 1) files) ≡ None → IsUnnamed (f ∷ files) name
+none_step : (string name : List ℕ) → Names string name → (i : ℕ) (f : File) (files : List File) (t : Bool) → spells_name string f.name ≡ t → (source_from string (i + 1) files ≡ None → IsUnnamed files name) → cond t (Some i) (source_from string (i + 1) files) ≡ None → IsUnnamed (f ∷ files) name
 none_step string name names i f files true e ih h = let n : Some i ≡ None = h in cc
 none_step string name names i f files false e ih h =
-    unnamed_later f files name (λ same. both_ways (names_of string f.name) e (ap (names_of string) same ∙ names.this)) (ih h)
+    unnamed_later f files name (λ same. both_ways (spells_name string f.name) e (ap (spells_name string) same ∙ names.this)) (ih h)
 
 pub source_none : (string name : List ℕ) → Names string name → (i : ℕ) (files : List File) → source_from string i files ≡ None → IsUnnamed files name
 source_none string name names i [] h = λ j other get. let n : None ≡ Some other = get in cc
-source_none string name names i (f ∷ files) h = none_step string name names i f files (names_of string f.name) refl (source_none string name names (i + 1) files) h
+source_none string name names i (f ∷ files) h = none_step string name names i f files (spells_name string f.name) refl (source_none string name names (i + 1) files) h
 
 -- and back
 
-apart_names : (string name : List ℕ) → Names string name → (other : List ℕ) → other ≢ name → names_of string other ≡ false
-apart_names string name names other ne = elim (cases_Bool (names_of string other)) [ inl t ↦ absurd (ne (names.only other t)) | inr f ↦ f ]
+apart_names : (string name : List ℕ) → Names string name → (other : List ℕ) → other ≢ name → spells_name string other ≡ false
+apart_names string name names other ne = elim (cases_Bool (spells_name string other)) [ inl t ↦ absurd (ne (names.only other t)) | inr f ↦ f ]
 
 pub source_first : (string name : List ℕ) → Names string name → (i : ℕ) (files : List File) (k : ℕ) → IsFirstNamed files name k → source_from string i files ≡ Some (i + k)
 source_first string name names i [] k h = let n : None ≡ Some (let g : File = record { name = name; text = h.text } in g) = h.there in cc
@@ -99,7 +100,7 @@ source_first string name names i (f ∷ files) zero h =
     let there : Some f ≡ Some (let g : File = record { name = name; text = h.text } in g) = h.there in
     let same : f ≡ (let g : File = record { name = name; text = h.text } in g) = cc in
     let z : i ≡ i + 0 = omega arith in
-    ap (λ t. cond t (Some i) (source_from string (i + 1) files)) (ap (λ g. names_of string g.name) same ∙ names.this) ∙ ap Some z
+    ap (λ t. cond t (Some i) (source_from string (i + 1) files)) (ap (λ g. spells_name string g.name) same ∙ names.this) ∙ ap Some z
 source_first string name names i (f ∷ files) (suc k) h =
     let ne : f.name ≢ name = h.first 0 f (omega arith) refl in
     let later : IsFirstNamed files name k = record { text = h.text; there = h.there; first = λ j other lt get. h.first (suc j) other (omega arith) get } in

@@ -16,13 +16,14 @@ use Rattle.bc_lex.specs.Tags.{has_tag}
 use Rattle.bc_lex.specs.Gaps.{Holds, breaks, begins, IsGap, Nothing}
 use Rattle.bc_lex.specs.Lexemes.{Ends, NoLetter, IsLexeme, Word, Named, Numeral, Constant, Literal, Marked, Bracket, Decimal, Octal, Hexadecimal}
 use Rattle.bc_lex.specs.Faults.{OpenComment, LongString, OpenString, BadString}
-use Rattle.bc_lex.specs.Files.{File, text_of, source_from}
+use Rattle.bc_lex.specs.Files.{File, text_of}
+use Rattle.bc_lex.specs.Search.{source_from}
 use Rattle.bc_lex.specs.Errors.{error_of}
 use Rattle.bc_lex.specs.Reading.{string_of, string_from}
 use Rattle.bc_lex.specs.Blank.{gap_of}
-use Rattle.bc_lex.specs.Lexeme.{◌>>=◌, lexeme_of}
+use Rattle.bc_lex.specs.Lexeme.{◌>>=◌, lexeme_in_front}
 use Rattle.bc_lex.specs.Lexing as lexing
-use Rattle.bc_lex.specs.Lexing.{Found, located, found_or, skipped, string_end_of, lexeme_at, part, named_on, target_on, target_of, is_get, item_by, item_on, item_of, pushed, place_at, Deeper, found_on, rest_of, file_of, deeper_of, read_of}
+use Rattle.bc_lex.specs.Lexing.{Found, located, found_or, skipped, string_end_of, lexeme_at, part, named_on, target_on, target_of, is_get, item_by, item_on, item_of, pushed, place_at, Deeper, found_on, rest_of, file_to_end, deeper_of, read_of}
 use Rattle.bc_lex.specs.Tokens.{IsFirstNamed, IsUnnamed, IsNoString, IsFaultyString, IsGet, Whole, Faulty, token, Reads, End, Next, TooMany, Fault as FaultHere, Get, GetFault, GetTooDeep, GetUnnamed, GetNoString, GetFaulty, HasTokens, HasFault}
 use Rattle.bc_lex.proofs.Runs.{take-front, drop-front, length-append_ℕ}
 use Rattle.bc_lex.proofs.Gapping.{NoBlank, GapRead, Whole as GapWhole, Cut as GapCut, gap_reads}
@@ -198,8 +199,8 @@ item_lexeme files file whole place bytes gap rest start read there e g s_is at_s
 item_there : (files : List File) (file : ℕ) (whole : List ℕ) (place : Place) (bytes gap : List ℕ) (b : ℕ) (bs : List ℕ) (start : ℕ) → drop place.at whole ≡ bytes → bytes ≡ gap ++ (b ∷ bs) → IsGap gap (b ∷ bs) → NoBlank (b ∷ bs) → start ≡ place.at + length gap → drop start whole ≡ b ∷ bs → ItemRead files file place.at place.line bytes (lexeme_at file whole start >>= item_by files file whole place start)
 unfolding lexeme_at
 item_there files file whole place bytes gap b bs start there e g no_blank s_is at_start =
-    let read = item_lexeme files file whole place bytes gap (b ∷ bs) start (lexeme_of (b ∷ bs)) there e g s_is at_start (lexeme_reads b bs no_blank.0 no_blank.1 no_blank.2) in
-    let P : List ℕ → Type 0 = λ ys. ItemRead files file place.at place.line bytes (located file start (lexeme_of ys) >>= (λ x. Ok (x.0, start + x.1)) >>= item_by files file whole place start) in
+    let read = item_lexeme files file whole place bytes gap (b ∷ bs) start (lexeme_in_front (b ∷ bs)) there e g s_is at_start (lexeme_reads b bs no_blank.0 no_blank.1 no_blank.2) in
+    let P : List ℕ → Type 0 = λ ys. ItemRead files file place.at place.line bytes (located file start (lexeme_in_front ys) >>= (λ x. Ok (x.0, start + x.1)) >>= item_by files file whole place start) in
     subst P (sym at_start) read
 
 item_rest : (files : List File) (file : ℕ) (whole : List ℕ) (place : Place) (bytes gap rest : List ℕ) (start : ℕ) (t : Bool) → nat_eq start (length whole) ≡ t → drop place.at whole ≡ bytes → bytes ≡ gap ++ rest → IsGap gap rest → NoBlank rest → start ≡ place.at + length gap → drop start whole ≡ rest → start + length rest ≡ length whole → ItemRead files file place.at place.line bytes (cond t (Ok lexing.End) (lexeme_at file whole start >>= item_by files file whole place start))
@@ -365,8 +366,8 @@ rest_reads files levels file deep (suc k) place before within few =
     let here : Stands files file k place bytes = record { there = refl; sum = omega arith; few = few } in
     turn_read files levels file (rest_of (deeper_of files levels) files file k) k place bytes before (item_of files file place) deep (rest_reads files levels file deep k) here (item_reads files file place within)
 
-file_reads : (files : List File) (levels : ℕ) → Deep files levels → (file : ℕ) (line : Bool) (before : List Lexeme) → RestRead files levels file before 0 line (text_of files file) (file_of (deeper_of files levels) files file line before)
-unfolding file_of
+file_reads : (files : List File) (levels : ℕ) → Deep files levels → (file : ℕ) (line : Bool) (before : List Lexeme) → RestRead files levels file before 0 line (text_of files file) (file_to_end (deeper_of files levels) files file line before)
+unfolding file_to_end
 file_reads files levels deep file line before = rest_reads files levels file deep (length (text_of files file)) (place_at 0 line) before (omega arith) (omega arith)
 
 deep_reads : (files : List File) (levels : ℕ) → Deep files levels
@@ -385,4 +386,4 @@ source_read files main read (Fails tokens e h) = HasFirst e (tokens, h)
 
 pub source_reads : (files : List File) (main : ℕ) → SourceRead files main (read_of files main)
 unfolding read_of
-source_reads files main = source_read files main (file_of (deeper_of files 8) files main false []) (file_reads files 8 (deep_reads files 8) main false [])
+source_reads files main = source_read files main (file_to_end (deeper_of files 8) files main false []) (file_reads files 8 (deep_reads files 8) main false [])

@@ -6,7 +6,7 @@ use Rattle.bc_lex.specs.declared.error.LexError.TheVariants as errors
 use Rattle.bc_lex.specs.declared.reading.Place.{Place}
 use Rattle.bc_lex.specs.Lexeme.{◌>>=◌}
 use Rattle.bc_lex.specs.Files.{File}
-use Rattle.bc_lex.specs.Lexing.{Fails, Found, Deeper, item_of, found_on, rest_of, file_of, deeper_of}
+use Rattle.bc_lex.specs.Lexing.{Fails, Found, Deeper, item_of, found_on, rest_of, file_to_end, deeper_of}
 
 -- where one reading's faults are another's
 pub Fails-through : {Y Z : Type 0} (e : LexError) (r : Result Y LexError) (s : Result Z LexError) → ((x : LexError) → r ≡ Err x → s ≡ Err x) → Fails e r → Fails e s
@@ -44,7 +44,7 @@ deeper_of-zero files levels file start named tokens e = rw e refl
 pub bind_goes_on : {A B : Type 0} (r : Result A LexError) (f : A → Result B LexError) (read : Result B LexError) (x : A) → (r >>= f) ≡ read → r ≡ Ok x → f x ≡ read
 bind_goes_on r f read x h e = rw e at h
 
-pub deeper_of-suc : (files : List File) (levels file start named : ℕ) (tokens : List Lexeme) → (levels ≡ 0 → ⊥) → deeper_of files levels file start named tokens ≡ file_of (deeper_of files (levels - 1)) files named true tokens
+pub deeper_of-suc : (files : List File) (levels file start named : ℕ) (tokens : List Lexeme) → (levels ≡ 0 → ⊥) → deeper_of files levels file start named tokens ≡ file_to_end (deeper_of files (levels - 1)) files named true tokens
 unfolding deeper_of
 deeper_of-suc files levels file start named tokens ne =
     let s : levels ≡ suc (levels - 1) = omega arith in

@@ -1,4 +1,4 @@
--- Blanks, line breaks and comments in front of a list of bytes, read from left to right.
+-- For proofs: blanks, line breaks and comments in front of a list of bytes, read from left to right.
 use Rattle.std.specs.Prelude.{ℕ, zero, suc, ◌+◌, Bool, false, not, ◌==◌, ◌&&◌, List, [], ◌∷◌, length, drop, Option, Some, None, option_map, Result, Ok, Err, if◌then◌else◌}
 use Rattle.std.specs.List.{prefix_len}
 use Rattle.bc_lex.specs.declared.fault.Fault.{Fault}

@@ -1,19 +1,19 @@
--- What the code found behind a place, without where it lies in memory.
+-- For proofs: what the code found behind a place, without where it lies in memory.
 use Rattle.std.specs.Prelude.{ℕ, ◌<◌, ◌≤◌, List, length}
 use Rattle.bc_token.specs.Token.{lexeme_of}
 use Rattle.bc_lex.specs.declared.source.Source.{Source}
-use Rattle.bc_lex.specs.declared.reading.Item.{Item}
-use Rattle.bc_lex.specs.declared.reading.Item.TheVariants as item
+use Rattle.bc_lex.specs.declared.reading.Found as code
+use Rattle.bc_lex.specs.declared.reading.Found.TheVariants as item
 use Rattle.bc_lex.specs.Files.{files_of, text_of}
 use Rattle.bc_lex.specs.Lexing.{Found, End, Token, Get}
 
-abbrev pub found : Item → Found
+abbrev pub found : code.Found → Found
 found item.End = End
 found (item.Token t) = Token (lexeme_of t)
 found (item.Get start named behind) = Get start named behind
 
 -- the place behind what was found is in the file, and the file that a GET names is there
-abbrev pub IsWithin : List Source → ℕ → Item → Type 0
+abbrev pub IsWithin : List Source → ℕ → code.Found → Type 0
 IsWithin sources file item.End = Unit {0}
 IsWithin sources file (item.Token t) = t.end ≤ length (text_of (files_of sources) file)
 IsWithin sources file (item.Get start named behind) = (named < length sources) × (behind ≤ length (text_of (files_of sources) file))

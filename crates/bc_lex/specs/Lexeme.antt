@@ -1,4 +1,4 @@
--- The lexeme in front of a list of bytes, read from left to right.
+-- For proofs: the lexeme in front of a list of bytes, read from left to right.
 use Rattle.std.specs.Prelude.{◌≡◌, ℕ, ◌+◌, ◌==◌, ◌||◌, nat_lt, List, [], ◌∷◌, length, take, drop, Option, Some, None, Result, Ok, Err, if◌then◌else◌}
 use Rattle.std.specs.List.{prefix_len}
 use Rattle.bc_token.specs.declared.symbol.Symbol.{Symbol}
@@ -64,6 +64,6 @@ lexeme_by b bs =
     else (if b == 39 then character_at bs
     else sign_at bs)))
 
-unfoldable pub lexeme_of : List ℕ → Result (Kind × ℕ) Fault
-lexeme_of [] = Err (fault_at faults.BadCharacter 0)
-lexeme_of (b ∷ bs) = lexeme_by b (b ∷ bs)
+unfoldable pub lexeme_in_front : List ℕ → Result (Kind × ℕ) Fault
+lexeme_in_front [] = Err (fault_at faults.BadCharacter 0)
+lexeme_in_front (b ∷ bs) = lexeme_by b (b ∷ bs)

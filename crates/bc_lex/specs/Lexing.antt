@@ -1,4 +1,4 @@
--- The tokens of a file, read from left to right, with the first fault that is met.
+-- For proofs: the tokens of a file, read from left to right, with the first fault that is met.
 use Rattle.std.specs.Prelude.{◌≡◌, ℕ, zero, suc, ◌+◌, ◌-◌, Bool, true, false, ◌==◌, ◌||◌, nat_lt, List, [], ◌∷◌, ◌++◌, length, take, drop, Option, Some, None, Result, Ok, Err, if◌then◌else◌}
 use Rattle.bc_token.specs.declared.symbol.Symbol.TheVariants as symbol
 use Rattle.bc_token.specs.Token.{Kind, Sign, Lexeme}
@@ -9,8 +9,9 @@ use Rattle.bc_lex.specs.declared.reading.Place.{Place}
 use Rattle.bc_lex.specs.Reading.{string_of}
 use Rattle.bc_lex.specs.Gaps.{begins, breaks}
 use Rattle.bc_lex.specs.Blank.{gap_of}
-use Rattle.bc_lex.specs.Lexeme.{◌>>=◌, lexeme_of}
-use Rattle.bc_lex.specs.Files.{File, text_of, source_from}
+use Rattle.bc_lex.specs.Lexeme.{◌>>=◌, lexeme_in_front}
+use Rattle.bc_lex.specs.Files.{File, text_of}
+use Rattle.bc_lex.specs.Search.{source_from}
 use Rattle.bc_lex.specs.Errors.{error_of}
 
 -- what a function returned, seen by view, is what was read, unless memory ran out
@@ -25,9 +26,9 @@ Fails (errors.GetMissing f o) read = read ≡ Err (errors.GetMissing f o)
 Fails (errors.GetTooDeep f o) read = read ≡ Err (errors.GetTooDeep f o)
 Fails (errors.TooManyTokens f o) read = read ≡ Err (errors.TooManyTokens f o)
 
-abbrev pub Reads : {X Y : Type 0} → (X → Y) → Result X LexError → Result Y LexError → Type 0
-Reads view (Ok x) read = read ≡ Ok (view x)
-Reads view (Err e) read = Fails e read
+abbrev pub ReadsAs : {X Y : Type 0} → (X → Y) → Result X LexError → Result Y LexError → Type 0
+ReadsAs view (Ok x) read = read ≡ Ok (view x)
+ReadsAs view (Err e) read = Fails e read
 
 -- a fault behind a place becomes an error of the file
 abbrev pub located : {X : Type 0} → ℕ → ℕ → Result X Fault → Result X LexError
@@ -48,7 +49,7 @@ string_end_of file text at = located file at (string_of (drop at text)) >>= λ n
 
 -- a lexeme, and the place behind it
 unfoldable pub lexeme_at : ℕ → List ℕ → ℕ → Result (Kind × ℕ) LexError
-lexeme_at file text at = located file at (lexeme_of (drop at text)) >>= λ x. Ok (x.0, at + x.1)
+lexeme_at file text at = located file at (lexeme_in_front (drop at text)) >>= λ x. Ok (x.0, at + x.1)
 
 -- the part of a text from a place to another
 abbrev pub part : List ℕ → ℕ → ℕ → List ℕ
@@ -120,14 +121,14 @@ rest_of deeper files file (suc k) place tokens =
     item_of files file place >>= found_on (rest_of deeper files file k) deeper file tokens
 
 -- a file to its end, behind a line break or not
-unfoldable pub file_of : Deeper → List File → ℕ → Bool → List Lexeme → Result (List Lexeme) LexError
-file_of deeper files file line tokens =
+unfoldable pub file_to_end : Deeper → List File → ℕ → Bool → List Lexeme → Result (List Lexeme) LexError
+file_to_end deeper files file line tokens =
     rest_of deeper files file (length (text_of files file)) (place_at 0 line) tokens
 
 -- GETs may nest this deep
 unfoldable pub deeper_of : List File → ℕ → Deeper
 deeper_of files zero file start named tokens = Err (errors.GetTooDeep file start)
-deeper_of files (suc k) file start named tokens = file_of (deeper_of files k) files named true tokens
+deeper_of files (suc k) file start named tokens = file_to_end (deeper_of files k) files named true tokens
 
 unfoldable pub read_of : List File → ℕ → Result (List Lexeme) LexError
-read_of files main = file_of (deeper_of files 8) files main false []
+read_of files main = file_to_end (deeper_of files 8) files main false []

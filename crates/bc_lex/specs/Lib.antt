@@ -3,6 +3,7 @@ pub mod Reading
 pub mod Blank
 pub mod Lexeme
 pub mod Files
+pub mod Search
 pub mod Errors
 pub mod Lexing
 pub mod Found

@@ -1,4 +1,4 @@
--- What stands in front of a list of bytes, read from left to right.
+-- For proofs: what stands in front of a list of bytes, read from left to right.
 use Rattle.std.specs.Prelude.{ℕ, zero, suc, ◌+◌, ◌*◌, ◌≤◌, ◌==◌, nat_lt, List, [], ◌∷◌, length, take, drop, Option, Some, None, is_some, unwrap_or, Result, Ok, Err, if◌then◌else◌}
 use Rattle.std.specs.List.{prefix_len}
 use Rattle.bc_lex.specs.declared.fault.Fault.{Fault}

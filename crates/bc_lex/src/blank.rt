@@ -47,6 +47,7 @@ pub fn gap(bytes: &[u8]) -> Result<usize, Fault>
     ensures fault { IfErr result (λ f. f.at ≤ length bytes.now) }
 {
     let mut at = 0;
+    // Each turn goes on by a byte at least.
     for _ in 0..bytes.len() {
         match blank(behind(bytes, at)) {
             Some(0) => return Ok(at),

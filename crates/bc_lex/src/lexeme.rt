@@ -1,7 +1,7 @@
 ghost use Rattle.std.specs.Prelude.{◌≡◌, ◌<◌, ◌≤◌, length, IfOk, IfErr};
 ghost use Rattle.bc_token.specs.Token.{kind_of};
 ghost use Rattle.bc_lex.specs.Tags.{has_tag as with_tag};
-ghost use Rattle.bc_lex.specs.Lexeme.{named, word_of, sign_of, lexeme_of, Gives};
+ghost use Rattle.bc_lex.specs.Lexeme.{named, word_of, sign_of, lexeme_in_front, Gives};
 
 use crate::byte::is_letter;
 use crate::fault::{Fault, FaultKind};
@@ -51,17 +51,16 @@ fn sign(bytes: &[u8]) -> Result<(Symbol, usize), Fault>
 }
 
 /// The lexeme in front, where no blank and no comment stands, with the number of its bytes.
-#[tactic(auto, unfolding(crate::specs::Lexeme::lexeme_of))]
+#[tactic(auto, unfolding(crate::specs::Lexeme::lexeme_in_front))]
 pub fn lexeme<'s>(bytes: &'s [u8]) -> Result<(TokenKind<'s>, usize), Fault>
     requires { 0 < length bytes.now }
-    ensures value { Gives (λ x. (kind_of x.0, x.1)) result (lexeme_of bytes.now) }
+    ensures value { Gives (λ x. (kind_of x.0, x.1)) result (lexeme_in_front bytes.now) }
     ensures within { IfOk result (λ x. x.1 ≤ length bytes.now) }
     ensures fault { IfErr result (λ f. f.at ≤ length bytes.now) }
 {
     let first = bytes[0];
     if is_letter(first) {
-        let (kind, count) = word(bytes);
-        Ok((kind, count))
+        Ok(word(bytes))
     } else if first.is_ascii_digit() || first == b'#' {
         let (value, count) = number(bytes)?;
         Ok((TokenKind::Number(value), count))

@@ -44,6 +44,7 @@ pub fn string(bytes: &[u8]) -> Result<usize, Fault>
     ensures fault { IfErr result (λ f. f.at ≤ length bytes.now) }
 {
     let mut at = 1;
+    // A string has at most 255 characters, and then its end.
     for _ in 0..256usize {
         match next_quoted(b'"', behind(bytes, at)) {
             Quoted::Closed => return Ok(at + 1),

@@ -1,7 +1,7 @@
 ghost use Rattle.std.specs.Prelude.{◌≡◌, ◌<◌, ◌≤◌, ◌⊎◌, List, length, IfOk, IfErr, MatchResult, IsTrue};
 ghost use Rattle.bc_token.specs.Token.{Lexeme, kind_of, lexeme_of, lexemes_of};
 ghost use Rattle.bc_lex.specs.Files.{files_of, text_of};
-ghost use Rattle.bc_lex.specs.Lexing.{Reads, skipped, string_end_of, lexeme_at, target_of, is_get as is_get_word, item_of, pushed, file_of, deeper_of, read_of};
+ghost use Rattle.bc_lex.specs.Lexing.{ReadsAs, skipped, string_end_of, lexeme_at, target_of, is_get as is_get_word, item_of, pushed, file_to_end, deeper_of, read_of};
 ghost use Rattle.bc_lex.specs.Gaps.{begins, breaks};
 ghost use Rattle.bc_lex.specs.declared.error.LexError.{LexError};
 ghost use Rattle.bc_lex.specs.Tokens.{HasTokens, HasFault};
@@ -33,10 +33,9 @@ pub struct Place {
 #[tactic(auto, unfolding(crate::specs::Lexing::skipped))]
 fn skip(file: usize, text: &[u8], at: usize) -> Result<usize, LexError>
     requires { at ≤ length text.now }
-    ensures value { Reads (λ x. x) result (skipped file text.now at) }
+    ensures value { ReadsAs (λ x. x) result (skipped file text.now at) }
     ensures within { IfOk result (λ x. (at ≤ x) × (x ≤ length text.now)) }
 {
-    let length = text.len();
     match gap(behind(text, at)) {
         Ok(count) => Ok(at + count),
         Err(fault) => Err(fault.in_file(file, at)),
@@ -47,10 +46,9 @@ fn skip(file: usize, text: &[u8], at: usize) -> Result<usize, LexError>
 #[tactic(auto, unfolding(crate::specs::Lexing::string_end_of))]
 fn string_end(file: usize, text: &[u8], at: usize) -> Result<usize, LexError>
     requires { at < length text.now }
-    ensures value { Reads (λ x. x) result (string_end_of file text.now at) }
+    ensures value { ReadsAs (λ x. x) result (string_end_of file text.now at) }
     ensures within { IfOk result (λ x. (at < x) × (x ≤ length text.now)) }
 {
-    let length = text.len();
     match string(behind(text, at)) {
         Ok(count) => Ok(at + count),
         Err(fault) => Err(fault.in_file(file, at)),
@@ -65,10 +63,9 @@ fn lexeme_behind<'s>(
     at: usize,
 ) -> Result<(TokenKind<'s>, usize), LexError>
     requires { at < length text.now }
-    ensures value { Reads (λ x. (kind_of x.0, x.1)) result (lexeme_at file text.now at) }
+    ensures value { ReadsAs (λ x. (kind_of x.0, x.1)) result (lexeme_at file text.now at) }
     ensures within { IfOk result (λ x. (at ≤ x.1) × (x.1 ≤ length text.now)) }
 {
-    let length = text.len();
     match lexeme(behind(text, at)) {
         Ok((kind, count)) => Ok((kind, at + count)),
         Err(fault) => Err(fault.in_file(file, at)),
@@ -94,7 +91,7 @@ fn target(
     end: usize,
 ) -> Result<(usize, usize), LexError>
     requires { end ≤ length text.now }
-    ensures value { Reads (λ x. x) result (target_of (files_of sources.now) file text.now start end) }
+    ensures value { ReadsAs (λ x. x) result (target_of (files_of sources.now) file text.now start end) }
     ensures named { IfOk result (λ x. x.0 < length sources.now) }
     ensures within { IfOk result (λ x. x.1 ≤ length text.now) }
 {
@@ -111,7 +108,7 @@ fn target(
 
 /// What comes first behind a place.
 #[derive(Clone, Copy, Debug)]
-enum Item<'s> {
+enum Found<'s> {
     /// The end of the file.
     End,
     /// A token.
@@ -140,27 +137,27 @@ fn is_get(kind: TokenKind) -> bool
 
 /// What comes first behind a place, blanks, line breaks and comments aside.
 #[tactic(auto, unfolding(crate::specs::Lexing::item_of, crate::specs::Lexing::item_by))]
-fn find_item<'s>(sources: &[Source<'s>], file: usize, place: Place) -> Result<Item<'s>, LexError>
+fn find<'s>(sources: &[Source<'s>], file: usize, place: Place) -> Result<Found<'s>, LexError>
     requires file { file < length sources.now }
     requires place { place.at ≤ length (text_of (files_of sources.now) file) }
-    ensures value { Reads (λ x. found x) result (item_of (files_of sources.now) file place) }
+    ensures value { ReadsAs (λ x. found x) result (item_of (files_of sources.now) file place) }
     ensures within { IfOk result (IsWithin sources.now file) }
 {
     let text = text_at(sources, file);
     let start = skip(file, text, place.at)?;
     if start == text.len() {
-        return Ok(Item::End);
+        return Ok(Found::End);
     }
     let (kind, end) = lexeme_behind(file, text, start)?;
     if is_get(kind) {
         let (named, behind) = target(sources, file, text, start, end)?;
-        return Ok(Item::Get {
+        return Ok(Found::Get {
             start,
             named,
             behind,
         });
     }
-    Ok(Item::Token(Token {
+    Ok(Found::Token(Token {
         kind,
         text: &text[start..end],
         file,
@@ -172,7 +169,7 @@ fn find_item<'s>(sources: &[Source<'s>], file: usize, place: Place) -> Result<It
 
 /// One more token.
 fn push<'s>(tokens: &mut Vec<Token<'s>>, token: Token<'s>) -> Result<(), LexError>
-    ensures { Reads (λ _. lexemes_of tokens.new.items) result (pushed (lexeme_of token.entry) (lexemes_of tokens.old.items)) }
+    ensures { ReadsAs (λ _. lexemes_of tokens.new.items) result (pushed (lexeme_of token.entry) (lexemes_of tokens.old.items)) }
 {
     if tokens.len() >= MOST_TOKENS {
         return Err(LexError::TooManyTokens(token.file, token.start));
@@ -181,8 +178,8 @@ fn push<'s>(tokens: &mut Vec<Token<'s>>, token: Token<'s>) -> Result<(), LexErro
     Ok(())
 }
 
-/// Reads a file to its end. `line` says whether a line break stands before it, `levels` how deep GETs may nest in it.
-#[tactic(auto, unfolding(crate::specs::Lexing::file_of, crate::specs::Lexing::deeper_of))]
+/// ReadsAs a file to its end. `line` says whether a line break stands before it, `levels` how deep GETs may nest in it.
+#[tactic(auto, unfolding(crate::specs::Lexing::file_to_end, crate::specs::Lexing::deeper_of))]
 fn read_file<'s>(
     sources: &[Source<'s>],
     levels: usize,
@@ -191,20 +188,21 @@ fn read_file<'s>(
     tokens: &mut Vec<Token<'s>>,
 ) -> Result<(), LexError>
     requires { file < length sources.now }
-    ensures { Reads (λ _. lexemes_of tokens.new.items) result (file_of (deeper_of (files_of sources.now) levels) (files_of sources.now) file line (lexemes_of tokens.old.items)) }
+    ensures { ReadsAs (λ _. lexemes_of tokens.new.items) result (file_to_end (deeper_of (files_of sources.now) levels) (files_of sources.now) file line (lexemes_of tokens.old.items)) }
 {
     let mut place = Place { at: 0, line };
+    // Each turn goes on by a byte at least.
     for _ in 0..text_at(sources, file).len() {
-        match find_item(sources, file, place)? {
-            Item::End => return Ok(()),
-            Item::Token(token) => {
+        match find(sources, file, place)? {
+            Found::End => return Ok(()),
+            Found::Token(token) => {
                 push(tokens, token)?;
                 place = Place {
                     at: token.end,
                     line: false,
                 };
             }
-            Item::Get {
+            Found::Get {
                 start,
                 named,
                 behind,
@@ -227,7 +225,7 @@ fn read_file<'s>(
 #[tactic(auto, unfolding(crate::specs::Lexing::read_of))]
 fn read<'s>(alloc: Global, sources: &[Source<'s>], main: usize) -> Result<Vec<Token<'s>>, LexError>
     requires { main < length sources.now }
-    ensures { Reads (λ v. lexemes_of v.items) result (read_of (files_of sources.now) main) }
+    ensures { ReadsAs (λ v. lexemes_of v.items) result (read_of (files_of sources.now) main) }
 {
     let mut tokens = Vec::new(alloc);
     read_file(sources, MOST_LEVELS, main, false, &mut tokens)?;

@@ -1,6 +1,7 @@
 ghost use Rattle.std.specs.Prelude.{◌≡◌, ◌<◌, ◌≤◌, length, IfOk, IfSome};
 ghost use Rattle.bc_lex.specs.Reading.{quoted_of};
-ghost use Rattle.bc_lex.specs.Files.{files_of, text_of, is_closed, same_of, names_of, source_from};
+ghost use Rattle.bc_lex.specs.Files.{files_of, text_of};
+ghost use Rattle.bc_lex.specs.Search.{is_closed, same_of, spells_name, source_from};
 
 use crate::quoted::{Quoted, next_quoted};
 use crate::run::behind;
@@ -31,10 +32,10 @@ fn closes(bytes: &[u8]) -> bool
 }
 
 /// Whether the string, which stands with its signs, spells the name.
-#[tactic(auto, unfolding(crate::specs::Files::names_of))]
+#[tactic(auto, unfolding(crate::specs::Search::spells_name))]
 fn names(string: &[u8], name: &[u8]) -> bool
     requires { 0 < length string.now }
-    ensures { result ≡ names_of string.now name.now }
+    ensures { result ≡ spells_name string.now name.now }
 {
     let mut at = 1;
     for expected in name {

@@ -1,7 +1,7 @@
 use Rattle.std.proofs.Common.{◌≡◌, ◌≤◌, ◌-◌, length}
 use Rattle.bc_token.specs.Token.{lexemes_of}
 use Rattle.bc_lex.specs.Files.{files_of, text_of}
-use Rattle.bc_lex.specs.Lexing.{rest_of, file_of, deeper_of}
+use Rattle.bc_lex.specs.Lexing.{rest_of, file_to_end, deeper_of}
 use Rattle.bc_lex.proofs.reading.+read_file.Given as goal
 
 abbrev pub decreases-read_file : goal.decreases-read_file
@@ -11,5 +11,5 @@ abbrev pub invariant-loop : goal.invariant-loop
 invariant-loop l = record {
   within : l.place.at ≤ length (text_of (files_of l.sources) l.file);
   read : rest_of (deeper_of (files_of l.sources) l.levels) (files_of l.sources) l.file (length (text_of (files_of l.sources) l.file) - l.counter) l.place (lexemes_of l.tokens.items)
-      ≡ file_of (deeper_of (files_of l.sources) l.levels) (files_of l.sources) l.file l.line (lexemes_of l.initial.tokens.items);
+      ≡ file_to_end (deeper_of (files_of l.sources) l.levels) (files_of l.sources) l.file l.line (lexemes_of l.initial.tokens.items);
 }

@@ -1,5 +1,6 @@
 use Rattle.std.proofs.Common.{◌≡◌, drop}
-use Rattle.bc_lex.specs.Files.{files_of, source_from}
+use Rattle.bc_lex.specs.Files.{files_of}
+use Rattle.bc_lex.specs.Search.{source_from}
 use Rattle.bc_lex.proofs.source.source_named.Given as goal
 
 abbrev pub invariant-loop-index : goal.invariant-loop-index
