@@ -1,4 +1,4 @@
--- The parts of an image, as far as segments were added.
+-- For proofs: the parts of an image, as far as segments were added.
 use Rattle.std.specs.Prelude.{ℕ, ◌≡◌, ◌+◌, ◌-◌, replicate, List, [], ◌∷◌, ◌++◌, None, vec_len}
 use Rattle.bc_item.specs.Sizes.{size_of_all}
 use Rattle.bc_item.specs.Assembled.{assembled, label_places, global_settings}

@@ -1,4 +1,4 @@
--- How assemblers go on from item to item: neighbouring bytes share a word.
+-- For proofs: how assemblers go on from item to item: neighbouring bytes share a word.
 use Rattle.std.specs.Prelude.{ℕ, List, ◌∷◌, Bool, true, false, Option, Some, None}
 use Rattle.bc_item.specs.Sizes.{size}
 use Rattle.bc_item.specs.declared.item.Item.{Item}

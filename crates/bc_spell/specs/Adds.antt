@@ -1,5 +1,5 @@
--- What one call puts behind the tokens that are there.
-use Rattle.std.specs.Prelude.{◌≡◌, Bool, true, false, List, [], ◌∷◌, ◌++◌, Vec, Result, IfOk}
+-- For proofs: what one call puts behind the tokens that are there.
+use Rattle.std.specs.Prelude.{◌≡◌, ℕ, Bool, true, false, List, [], ◌∷◌, ◌++◌, Vec, Result, IfOk}
 use Rattle.std.specs.declared.alloc.Global.{Global}
 use Rattle.bc_token.specs.declared.symbol.Symbol.{Symbol}
 use Rattle.bc_token.specs.declared.token.TokenKind.{TokenKind}
@@ -19,3 +19,7 @@ separator false s = A s ∷ []
 abbrev pub joined : Bool → List Part → List Part
 joined true ts = behind_first ts
 joined false ts = ts
+
+-- these bytes came behind those that were there, unless memory ran out
+abbrev pub AddsText : {X E : Type 0} → Result X E → Vec ℕ Global → Vec ℕ Global → List ℕ → Type 0
+AddsText result before after bytes = IfOk result (λ _. after.items ≡ before.items ++ bytes)

@@ -1,6 +1,5 @@
 -- The text of tokens.
-use Rattle.std.specs.Prelude.{◌≡◌, ℕ, ◌==◌, ◌||◌, nat_lt, List, [], ◌∷◌, ◌++◌, Option, Some, None, Vec, Result, IfOk, if◌then◌else◌}
-use Rattle.std.specs.declared.alloc.Global.{Global}
+use Rattle.std.specs.Prelude.{ℕ, ◌==◌, ◌||◌, nat_lt, List, [], ◌∷◌, Option, Some, None, if◌then◌else◌}
 use Rattle.std.specs.Fmt.{decimal}
 use Rattle.std.specs.List.{join_by}
 use Rattle.bc_token.specs.Spelling.{spelling_of}
@@ -38,7 +37,3 @@ text_of NewLine = 10 ∷ []
 -- tokens with one blank between each two
 abbrev pub rendered : List Part → List ℕ
 rendered ts = join_by text_of (32 ∷ []) ts
-
--- these bytes came behind those that were there, unless memory ran out
-abbrev pub AddsText : {X E : Type 0} → Result X E → Vec ℕ Global → Vec ℕ Global → List ℕ → Type 0
-AddsText result before after bytes = IfOk result (λ _. after.items ≡ before.items ++ bytes)

@@ -2,7 +2,8 @@
 ghost use Rattle.std.specs.Prelude.{◌≡◌, IfOk};
 ghost use Rattle.std.specs.Fmt.{decimal};
 ghost use Rattle.bc_tree.specs.Parts.{kind_part, kind_parts};
-ghost use Rattle.bc_spell.specs.Rendered.{escape_of, character_text, text_of, rendered, AddsText};
+ghost use Rattle.bc_spell.specs.Rendered.{escape_of, character_text, text_of, rendered};
+ghost use Rattle.bc_spell.specs.Adds.{AddsText};
 
 use bc_token::TokenKind;
 use bc_word::Memory;

@@ -1,4 +1,4 @@
--- How the steps of the reader show in its code.
+-- For proofs: how the steps of the reader show in its code.
 use Rattle.std.specs.Prelude.{◌≡◌, ◌⊎◌, List, Result, Ok, Err, Vec}
 use Rattle.std.specs.declared.alloc.Global.{Global}
 use Rattle.bc_item.specs.declared.item.Item.{Item}

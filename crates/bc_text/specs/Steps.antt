@@ -1,4 +1,4 @@
--- The steps of the reader, one byte after another. They are what its code does and what the laws about
+-- For proofs: the steps of the reader, one byte after another. They are what its code does and what the laws about
 -- it speak of; what a text and a fault are is said without them.
 use Rattle.std.specs.Prelude.{ℕ, ◌+◌, ◌-◌, ◌*◌, ◌%◌, ◌==◌, List, [], ◌∷◌, ◌++◌, Bool, true, false, ◌&&◌, cond, min, nat_lt, nat_le, Option, Some, None, Result, Ok, Err}
 use Rattle.std.specs.Char.{is_ascii_digit}
