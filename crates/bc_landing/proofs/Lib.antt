@@ -3,3 +3,7 @@ pub mod Forms
 pub mod Switching
 pub mod ForTest
 pub mod Commands
+pub mod Calls
+pub mod Library
+pub mod Section
+pub mod Whole

@@ -1,5 +1,5 @@
 -- Commands whose VALOFs stand at their levels: what a section's type keeps, as the landing of its commands wants it.
-use Rattle.std.specs.Prelude.{ℕ, ◌≡◌, ◌+◌, List, [], ◌∷◌}
+use Rattle.std.specs.Prelude.{ℕ, ◌+◌, List, [], ◌∷◌}
 use Rattle.bc_core.specs.Tree.{Exp, Frame}
 use Rattle.bc_core.specs.Commands.{Variable, Initial, Vector, Command, Block, block, Items, no_item, command, case, default, label, Body, Gives, Does, Valof}
 use Rattle.bc_core.specs.Commands as commands

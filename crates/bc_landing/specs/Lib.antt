@@ -1,2 +1,6 @@
 pub mod Levelled
 pub mod Exits
+pub mod Calls
+pub mod Library
+pub mod Section
+pub mod Whole
