@@ -3,4 +3,5 @@ pub mod Bodies
 pub mod Section
 pub mod Entries
 pub mod Size
+pub mod Laws
 pub mod Examples

@@ -1,0 +1,3 @@
+pub mod Plainly
+pub mod Closed
+pub mod Standing
