@@ -1,4 +1,4 @@
--- Lists of names, without where they lie in memory.
+-- For proofs: lists of names, without where they lie in memory.
 use Rattle.std.specs.Prelude.{ℕ, Bool, List, map, Vec, Result}
 use Rattle.std.specs.Borrow.{Bor}
 use Rattle.std.specs.declared.alloc.Global.{Global}

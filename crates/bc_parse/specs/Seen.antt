@@ -1,4 +1,4 @@
--- What functions of the parser gave, without where it lies in memory.
+-- For proofs: what functions of the parser gave, without where it lies in memory.
 use Rattle.std.specs.Prelude.{◌≡◌, ℕ, Bool, List, Vec, Option, Some, None, Result, Ok, Err}
 use Rattle.std.specs.declared.alloc.Global.{Global}
 use Rattle.std.specs.declared.boxed.Box.{Box}

@@ -1,4 +1,4 @@
--- What stands in front, without where it lies in memory.
+-- For proofs: what stands in front, without where it lies in memory.
 use Rattle.bc_reading.specs.Reading.{Following, LabelStart, Shape}
 use Rattle.bc_reading.specs.Reading as reading
 use Rattle.bc_parse.specs.Seen.{seen}
