@@ -96,9 +96,9 @@ mutual
 
   pub block_kept : (Q : List Marked → Type 0) → Keeps Q → (roots : Roots Marked) → OfRoots Q roots → (b : Block) (s : ℕ) (E : Exits) (f : ℕ) → Q (emit_block Plain roots b s E f).0
   block_kept Q q roots r (block ds is) s E f =
-      let d = emit_declarations roots ds s f in
-      q.behind _ _ (declarations_kept Q q roots r ds s f)
-      (items_kept Q q roots r is (s + cells_declared ds) (record E { labels = labelled is d.1 E.labels }) (d.1 + labels_in is))
+      let d = emit_declarations roots ds s (f + labels_in is) in
+      q.behind _ _ (declarations_kept Q q roots r ds s (f + labels_in is))
+      (items_kept Q q roots r is (s + cells_declared ds) (record E { labels = labelled is f E.labels }) d.1)
 
   items_kept : (Q : List Marked → Type 0) → Keeps Q → (roots : Roots Marked) → OfRoots Q roots → (is : Items) (s : ℕ) (E : Exits) (f : ℕ) → Q (emit_items Plain roots is s E f).0
   items_kept Q q roots r no_item s E f = q.nothing

@@ -90,8 +90,8 @@ mutual
 
   block_plain : (roots : Roots Marked) (b : Block) (s : ℕ) (E : Exits) (f : ℕ) → strip (emit_block Plain roots b s E f) ≡ emit_block plain (strip_roots roots) b s E f
   block_plain roots (block ds is) s E f =
-      let d = emit_declarations roots ds s f in
-      rw (sym (declarations_plain roots ds s f), sym (items_plain roots is (s + cells_declared ds) (record E { labels = labelled is d.1 E.labels }) (d.1 + labels_in is))) (simp plain_append)
+      let d = emit_declarations roots ds s (f + labels_in is) in
+      rw (sym (declarations_plain roots ds s (f + labels_in is)), sym (items_plain roots is (s + cells_declared ds) (record E { labels = labelled is f E.labels }) d.1)) (simp plain_append)
 
   items_plain : (roots : Roots Marked) (is : Items) (s : ℕ) (E : Exits) (f : ℕ) → strip (emit_items Plain roots is s E f) ≡ emit_items plain (strip_roots roots) is s E f
   items_plain roots no_item s E f = refl

@@ -169,11 +169,11 @@ abbrev mutual
   emit of roots (commands.Goto l) s E f = (of (jump (E.labels l)) ∷ [], f)
   emit of roots (commands.Nested b) s E f = emit_block of roots b s E f
 
-  -- a list takes its labels behind the block's declarations
+  -- a block takes the labels of its list before those of its declarations
   pub emit_block : {X : Type 0} → (Item → X) → Roots X → Block → (s : ℕ) → Exits → (f : ℕ) → Code X
   emit_block of roots (block ds is) s E f =
-      let d = emit_declarations roots ds s f in
-      let x = emit_items of roots is (s + cells_declared ds) (record E { labels = labelled is d.1 E.labels }) (d.1 + labels_in is) in
+      let d = emit_declarations roots ds s (f + labels_in is) in
+      let x = emit_items of roots is (s + cells_declared ds) (record E { labels = labelled is f E.labels }) d.1 in
       (d.0 ++ x.0, x.1)
 
   pub emit_items : {X : Type 0} → (Item → X) → Roots X → Items → (s : ℕ) → Exits → (f : ℕ) → Code X

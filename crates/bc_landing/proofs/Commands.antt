@@ -236,14 +236,14 @@ module _ (C : Context) (address levels : ℕ → ℕ) (V : Bodies) (S : Moment) 
     pub block_lands : (K : Moment) → Later S K → (b : Block) (p s : ℕ) (E : Exits) (f c end : ℕ) → Stands address S c (emit_block (λ i. i) roots b s E f).0 end → p + cells_of_block V b s ≤ 65536 → BlockLevelled levels b s → (limit a : ℕ) → Does K most (p + s) p limit a c (exit_goal address S E end limit) (perform_block C b p s)
     block_lands K old (block ds is) p s E f c end st room l limit a =
         let s1 = s + cells_declared ds in
-        let d = emit_declarations roots ds s f in
-        let E1 = record E { labels = labelled is d.1 E.labels } in
-        let x = emit_items (λ i. i) roots is s1 E1 (d.1 + labels_in is) in
+        let d = emit_declarations roots ds s (f + labels_in is) in
+        let E1 = record E { labels = labelled is f E.labels } in
+        let x = emit_items (λ i. i) roots is s1 E1 d.1 in
         let q = parts d.0 x.0 st in
         let goal = exit_goal address S E end limit in
-        declarations_land K old ds p s f c q.middle (p + s1) limit goal (listed (has_label is) (perform_items C is p s1) Beginning) q.front (omega (arith, room)) l.0 refl
-        (λ a1. list_lands address S K old most E is d.1 E.case_of E.default_of q.middle end (perform_items C is p s1)
-        (λ at entered limit1 a2. items_land K old is p s1 E1 (d.1 + labels_in is) q.middle end q.back (omega (arith, room)) l.1 at entered limit1 a2) Beginning tt) a
+        declarations_land K old ds p s (f + labels_in is) c q.middle (p + s1) limit goal (listed (has_label is) (perform_items C is p s1) Beginning) q.front (omega (arith, room)) l.0 refl
+        (λ a1. list_lands address S K old most E is f E.case_of E.default_of q.middle end (perform_items C is p s1)
+        (λ at entered limit1 a2. items_land K old is p s1 E1 d.1 q.middle end q.back (omega (arith, room)) l.1 at entered limit1 a2) Beginning tt) a
 
     items_land : (K : Moment) → Later S K → (is : Items) (p s : ℕ) (E : Exits) (f c end : ℕ) → Stands address S c (emit_items (λ i. i) roots is s E f).0 end → p + cells_of_items V is s ≤ 65536 → ItemsLevelled levels is s → (at : Entry) → Entered at is → (limit a : ℕ) → Does K most (p + s) p limit a (starts_at address E c at) (exit_goal address S E end limit) (perform_items C is p s at)
     items_land K old no_item p s E f c end st room lv Beginning entered limit a = does_done (exit_goal address S E end limit) Past (λ b2 n le. at_end st)
