@@ -1,0 +1,9 @@
+//! The law of whole programs. It is the contract of a function that does nothing.
+
+ghost use Rattle.bc_linked.specs.Linked.{ProgramsRun};
+
+/// Where the linker's definition gives an image for the primitives followed by the sections' items, the
+/// run of the machine from its start does what the sections mean.
+pub fn programs_run()
+    ensures { ProgramsRun }
+{}

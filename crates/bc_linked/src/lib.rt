@@ -1,0 +1,4 @@
+//! A program's image does what its sections mean.
+#![tactic(auto)]
+
+pub mod laws;
