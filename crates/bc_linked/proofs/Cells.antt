@@ -8,8 +8,9 @@ use Rattle.std.proofs.Math.ListN.{get_or-eq_default}
 use Rattle.bc_core.specs.Map.{Holding, ARoutine, Words, Standing}
 use Rattle.bc_core.specs.Store.{Cell, Dead, Set, cell_at}
 use Rattle.bc_core.specs.Start.{or_else, setting, global_cell, word_of, data_word, data_cell, start_cell, cells_from, start_cells}
+use Rattle.bc_simulation.specs.CodeAt.{HasWords}
 use Rattle.bc_linked.proofs.Globals.{or_zero}
-use Rattle.bc_linked.proofs.Standing.{word_at, HoldingAt, DataAt}
+use Rattle.bc_linked.proofs.Standing.{word_at, DataBehind, DataAt}
 
 -- a list that nothing unfolds
 pub first_cells : List Standing → List Cell
@@ -60,30 +61,40 @@ pub clear_both : (a : ℕ) (xs ys : List Standing) → Clear a xs → Clear a ys
 clear_both a [] ys h k = k
 clear_both a (x ∷ xs) ys h k = (h.0, clear_both a xs ys h.1 k)
 
+pub in_bounds : (store : List ℕ) (low high : ℕ) (ss : List Standing) → DataAt store low high ss → low ≤ high
+in_bounds store low high [] h = h
+in_bounds store low high (s ∷ ss) h = by s.address s.holding (λ z k. in_bounds store z high ss k) h where
+  by : (from : ℕ) (k : Holding) → ((z : ℕ) → DataAt store z high ss → z ≤ high) → DataBehind store k from low (λ z. DataAt store z high ss) → low ≤ high
+  by from (ARoutine g) ih d = ih low d
+  by from (Words ws) ih d = let k = ih (from + length ws) d.2 in omega (arith, d.1)
+
 pub clear_below : (store : List ℕ) (low high a : ℕ) (ss : List Standing) → DataAt store low high ss → a < low → Clear a ss
 clear_below store low high a [] h lt = tt
-clear_below store low high a (s ∷ ss) h lt = (by s.address s.holding h.0, clear_below store low high a ss h.1 lt) where
-  by : (from : ℕ) (k : Holding) → HoldingAt store low high from k → ClearOf a from k
-  by from (ARoutine g) d = tt
-  by from (Words ws) d = inl (omega (arith, d.1))
+clear_below store low high a (s ∷ ss) h lt = by s.address s.holding (λ z k l. clear_below store z high a ss k l) h where
+  by : (from : ℕ) (k : Holding) → ((z : ℕ) → DataAt store z high ss → a < z → Clear a ss) → DataBehind store k from low (λ z. DataAt store z high ss) → ClearOf a from k × Clear a ss
+  by from (ARoutine g) ih d = (tt, ih low d lt)
+  by from (Words ws) ih d = (inl (omega (arith, d.1)), ih (from + length ws) d.2 (omega (arith, d.1)))
 
 pub clear_above : (store : List ℕ) (low high a : ℕ) (ss : List Standing) → DataAt store low high ss → high ≤ a → Clear a ss
 clear_above store low high a [] h le = tt
-clear_above store low high a (s ∷ ss) h le = (by s.address s.holding h.0, clear_above store low high a ss h.1 le) where
-  by : (from : ℕ) (k : Holding) → HoldingAt store low high from k → ClearOf a from k
-  by from (ARoutine g) d = tt
-  by from (Words ws) d = inr (omega (arith, d.2))
+clear_above store low high a (s ∷ ss) h le = by s.address s.holding (λ z k. clear_above store z high a ss k le) h where
+  by : (from : ℕ) (k : Holding) → ((z : ℕ) → DataAt store z high ss → Clear a ss) → DataBehind store k from low (λ z. DataAt store z high ss) → ClearOf a from k × Clear a ss
+  by from (ARoutine g) ih d = (tt, ih low d)
+  by from (Words ws) ih d = (let k = in_bounds store (from + length ws) high ss d.2 in inr (omega arith), ih (from + length ws) d.2)
 
 pub data_wider : (store : List ℕ) (low high low1 high1 : ℕ) (ss : List Standing) → low1 ≤ low → high ≤ high1 → DataAt store low high ss → DataAt store low1 high1 ss
-data_wider store low high low1 high1 [] lo hi h = tt
-data_wider store low high low1 high1 (s ∷ ss) lo hi h = (by s.address s.holding h.0, data_wider store low high low1 high1 ss lo hi h.1) where
-  by : (from : ℕ) (k : Holding) → HoldingAt store low high from k → HoldingAt store low1 high1 from k
-  by from (ARoutine g) d = tt
-  by from (Words ws) d = (d.0, omega (arith, d.1), omega (arith, d.2))
+data_wider store low high low1 high1 [] lo hi h = omega arith
+data_wider store low high low1 high1 (s ∷ ss) lo hi h = by s.address s.holding (λ z z1 le k. data_wider store z high z1 high1 ss le hi k) h where
+  by : (from : ℕ) (k : Holding) → ((z z1 : ℕ) → z1 ≤ z → DataAt store z high ss → DataAt store z1 high1 ss) → DataBehind store k from low (λ z. DataAt store z high ss) → DataBehind store k from low1 (λ z. DataAt store z high1 ss)
+  by from (ARoutine g) ih d = ih low low1 lo d
+  by from (Words ws) ih d = (d.0, omega (arith, d.1), ih (from + length ws) (from + length ws) (omega arith) d.2)
 
-pub data_both : (store : List ℕ) (low high : ℕ) (xs ys : List Standing) → DataAt store low high xs → DataAt store low high ys → DataAt store low high (xs ++ ys)
-data_both store low high [] ys h k = k
-data_both store low high (x ∷ xs) ys h k = (h.0, data_both store low high xs ys h.1 k)
+pub data_both : (store : List ℕ) (low middle high : ℕ) (xs ys : List Standing) → DataAt store low middle xs → DataAt store middle high ys → DataAt store low high (xs ++ ys)
+data_both store low middle high [] ys h k = data_wider store middle high low high ys h (omega arith) k
+data_both store low middle high (x ∷ xs) ys h k = by x.address x.holding (λ z l. data_both store z middle high xs ys l k) h where
+  by : (from : ℕ) (q : Holding) → ((z : ℕ) → DataAt store z middle xs → DataAt store z high (xs ++ ys)) → DataBehind store q from low (λ z. DataAt store z middle xs) → DataBehind store q from low (λ z. DataAt store z high (xs ++ ys))
+  by from (ARoutine g) ih d = ih low d
+  by from (Words ws) ih d = (d.0, d.1, ih (from + length ws) d.2)
 
 none_here : (a from : ℕ) (k : Holding) → ClearOf a from k → word_of k from a ≡ None
 none_here a from (ARoutine g) h = refl
@@ -102,23 +113,26 @@ get_is (v ∷ ws) zero w e = (omega arith, let same : v ≡ w = cc in same)
 get_is (v ∷ ws) (suc k) w e = let h = get_is ws k w e in (omega (arith, h.0), h.1)
 
 -- what data the source has at an address the store has there
+word_is : (store : List ℕ) (a w from : ℕ) (ws : List ℕ) → HasWords store from ws → word_of (Words ws) from a ≡ Some w → slice_index store a ≡ w
+word_is store a w from ws d f = by_test (nat_le from a) refl f where
+  by_test : (t : Bool) → nat_le from a ≡ t → (elim t as (λ z. Option ℕ) [ true ↦ slice_get ws (a - from) | false ↦ None ]) ≡ Some w → slice_index store a ≡ w
+  by_test true t f =
+      let le : from ≤ a = grind (arith, nat_tests) in
+      let g = get_is ws (a - from) w f in
+      let at : a ≡ from + (a - from) = omega arith in
+      ap (λ z. slice_index store z) at ∙ word_at store from (a - from) ws d g.0 ∙ g.1
+  by_test false t f = absurd (let k : None ≡ Some w = f in cc)
+
 pub data_is : (store : List ℕ) (low high a w : ℕ) (ss : List Standing) → DataAt store low high ss → data_word ss a ≡ Some w → slice_index store a ≡ w
 data_is store low high a w [] h e = absurd (let f : None ≡ Some w = e in cc)
-data_is store low high a w (s ∷ ss) h e = by (λ g. data_is store low high a w ss h.1 g) (word_of s.holding s.address a) refl e where
-  here : (from : ℕ) (k : Holding) → HoldingAt store low high from k → word_of k from a ≡ Some w → slice_index store a ≡ w
-  here from (ARoutine g) d f = absurd (let k : None ≡ Some w = f in cc)
-  here from (Words ws) d f = by_test (nat_le from a) refl f where
-    by_test : (t : Bool) → nat_le from a ≡ t → (elim t as (λ z. Option ℕ) [ true ↦ slice_get ws (a - from) | false ↦ None ]) ≡ Some w → slice_index store a ≡ w
-    by_test true t f =
-        let le : from ≤ a = grind (arith, nat_tests) in
-        let g = get_is ws (a - from) w f in
-        let at : a ≡ from + (a - from) = omega arith in
-        ap (λ z. slice_index store z) at ∙ word_at store from (a - from) ws d.0 g.0 ∙ g.1
-    by_test false t f = absurd (let k : None ≡ Some w = f in cc)
+data_is store low high a w (s ∷ ss) h e = by s.address s.holding (λ z k g. data_is store z high a w ss k g) h e where
+  by_word : (from : ℕ) (ws : List ℕ) → HasWords store from ws → (data_word ss a ≡ Some w → slice_index store a ≡ w) → (o : Option ℕ) → word_of (Words ws) from a ≡ o → or_else o (data_word ss a) ≡ Some w → slice_index store a ≡ w
+  by_word from ws d ih None f g = ih g
+  by_word from ws d ih (Some v) f g = word_is store a w from ws d (f ∙ g)
 
-  by : (data_word ss a ≡ Some w → slice_index store a ≡ w) → (o : Option ℕ) → word_of s.holding s.address a ≡ o → or_else o (data_word ss a) ≡ Some w → slice_index store a ≡ w
-  by ih None f g = ih g
-  by ih (Some v) f g = here s.address s.holding h.0 (f ∙ g)
+  by : (from : ℕ) (k : Holding) → ((z : ℕ) → DataAt store z high ss → data_word ss a ≡ Some w → slice_index store a ≡ w) → DataBehind store k from low (λ z. DataAt store z high ss) → or_else (word_of k from a) (data_word ss a) ≡ Some w → slice_index store a ≡ w
+  by from (ARoutine g) ih d f = ih low d f
+  by from (Words ws) ih d f = by_word from ws d.0 (λ g. ih (from + length ws) d.2 g) (word_of (Words ws) from a) refl f
 
 is_global : (a : ℕ) → (nat_le 8 a && nat_lt a 520) ≡ true → (8 ≤ a) × (a < 520)
 is_global a e = by (nat_le 8 a) (nat_lt a 520) refl refl e where

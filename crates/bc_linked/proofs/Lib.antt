@@ -5,3 +5,4 @@ pub mod Distinct
 pub mod Globals
 pub mod Cells
 pub mod Program
+pub mod Ranges

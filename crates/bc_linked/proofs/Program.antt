@@ -53,25 +53,25 @@ use Rattle.bc_linked.proofs.Globals.{Pairs, length_written, pairs_of, pairs_from
 use Rattle.bc_linked.proofs.Cells.{first_cells, first_cells-are, cells_length, Clear, clear_both, clear_below, clear_above, data_wider, data_both, cell_dead, cells_agree}
 
 module _ (T : Table) (choice : Choice T) (store : List ℕ) where
-  abbrev section : Core → List Item
+  abbrev pub section : Core → List Item
   section core = section_items (coding_of choice) core
 
-  abbrev routines : Core → List Item
+  abbrev pub routines : Core → List Item
   routines core = (routines_code (coding_of choice) core).0
 
-  abbrev sections : List Core → List (List Item)
+  abbrev pub sections : List Core → List (List Item)
   sections cores = sections_of (coding_of choice) cores
 
   plain : (core : Core) → Plain (routines core)
   plain core = section_plain choice (level_of core.valofs) core.valofs core.places (length core.places + 1)
 
   -- a section's routines, and behind them its data
-  record OneStands (address : ℕ → ℕ) (core : Core) (c end : ℕ) : Type 0 where
-    code : HasItems address store c (routines core)
-    data_at : DataAt store (c + words (routines core)) end (standing_from address 1 core.places)
-    within : c + words (routines core) ≤ end
+  pub record OneStands (address : ℕ → ℕ) (core : Core) (c end : ℕ) : Type 0 where
+    pub code : HasItems address store c (routines core)
+    pub data_at : DataAt store (c + words (routines core)) end (standing_from address 1 core.places)
+    pub within : c + words (routines core) ≤ end
 
-  one_stands : (core : Core) (c : ℕ) → HasWords store c (assembled (label_address (label_places c (section core))) (section core)) → first_repeated (labels_of (section core)) ≡ None
+  pub one_stands : (core : Core) (c : ℕ) → HasWords store c (assembled (label_address (label_places c (section core))) (section core)) → first_repeated (labels_of (section core)) ≡ None
       → OneStands (label_address (label_places c (section core))) core c (c + size_of_all (section core))
   one_stands core c h e =
       let address = label_address (label_places c (section core)) in
@@ -95,7 +95,7 @@ module _ (T : Table) (choice : Choice T) (store : List ℕ) where
       }
 
   -- no label stands twice
-  abbrev NoneTwice : List Core → Type 0
+  abbrev pub NoneTwice : List Core → Type 0
   NoneTwice [] = Unit {0}
   NoneTwice (core ∷ cores) = (first_repeated (labels_of (section core)) ≡ None) × NoneTwice cores
 
@@ -105,10 +105,10 @@ module _ (T : Table) (choice : Choice T) (store : List ℕ) where
       let h = neither _ (label_twice_from (k + 1) (sections cores)) e in
       (none_of (LabelTwice k) (first_repeated (labels_of (section core))) h.0, none_twice (k + 1) cores h.1)
 
-  abbrev first_part : Core → ℕ → List ℕ
+  abbrev pub first_part : Core → ℕ → List ℕ
   first_part core c = assembled (label_address (label_places c (section core))) (section core)
 
-  behind_first : (core : Core) (cores : List Core) (c : ℕ) → HasWords store c (words_from c (section core ∷ sections cores)) → HasWords store (c + size_of_all (section core)) (words_from (c + size_of_all (section core)) (sections cores))
+  pub behind_first : (core : Core) (cores : List Core) (c : ℕ) → HasWords store c (words_from c (section core ∷ sections cores)) → HasWords store (c + size_of_all (section core)) (words_from (c + size_of_all (section core)) (sections cores))
   behind_first core cores c h =
       let rest = words_from (c + size_of_all (section core)) (sections cores) in
       let len : c + length (first_part core c) ≡ c + size_of_all (section core) = ap (λ z. c + z) (length-assembled (label_address (label_places c (section core))) (section core)) in
@@ -116,15 +116,15 @@ module _ (T : Table) (choice : Choice T) (store : List ℕ) where
 
   -- the data of all sections
   data_of : (cores : List Core) (c : ℕ) → HasWords store c (words_from c (sections cores)) → NoneTwice cores → DataAt store c (c + size_of_segments (sections cores)) (standing (placed cores (addresses_from c (sections cores))))
-  data_of [] c h e = tt
+  data_of [] c h e = omega arith
   data_of (core ∷ cores) c h e =
       let end = c + size_of_all (section core) in
       let top = c + size_of_segments (sections (core ∷ cores)) in
       let address = label_address (label_places c (section core)) in
       let one = one_stands core c (words_front store c (first_part core c) (words_from end (sections cores)) h) e.0 in
-      data_both store c top (standing_from address 1 core.places) (standing (placed cores (addresses_from end (sections cores))))
-      (data_wider store (c + words (routines core)) end c top (standing_from address 1 core.places) (omega arith) (omega arith) one.data_at)
-      (data_wider store end (end + size_of_segments (sections cores)) c top (standing (placed cores (addresses_from end (sections cores)))) (omega arith) (omega arith) (data_of cores end (behind_first core cores c h) e.1))
+      data_both store c end top (standing_from address 1 core.places) (standing (placed cores (addresses_from end (sections cores))))
+      (data_wider store (c + words (routines core)) end c end (standing_from address 1 core.places) (omega arith) (omega arith) one.data_at)
+      (data_wider store end (end + size_of_segments (sections cores)) end top (standing (placed cores (addresses_from end (sections cores)))) (omega arith) (omega arith) (data_of cores end (behind_first core cores c h) e.1))
 
   abbrev AllFit : List Core → Type 0
   AllFit [] = Unit {0}
@@ -263,17 +263,17 @@ module _ (store : List ℕ) (S : Moment) (same_store : S.store ≡ store) (all :
       let x8 = x7.2.2.2.2 in
       ((524, low_stands (λ l. 0) 520 524 (primitive_items (Select Input)) (inr (omega arith)) (omega arith) refl (x1.0, tt, (x1.2.0, tt, (x1.2.2.0, tt, (x1.2.2.2.0, tt, tt))))), ((528, low_stands (λ l. 0) 524 528 (primitive_items (Select Output)) (inr (omega arith)) (omega arith) refl (x2.0, tt, (x2.2.0, tt, (x2.2.2.0, tt, (x2.2.2.2.0, tt, tt))))), ((530, low_stands (λ l. 0) 528 530 (primitive_items ReadByte) (inr (omega arith)) (omega arith) refl (x3.0, tt, (x3.2.0, tt, tt))), ((534, low_stands (λ l. 0) 530 534 (primitive_items WriteByte) (inr (omega arith)) (omega arith) refl (x4.0, tt, (x4.2.0, tt, (x4.2.2.0, tt, (x4.2.2.2.0, tt, tt))))), ((537, low_stands (λ l. 0) 534 537 (primitive_items (Find Input)) (inr (omega arith)) (omega arith) refl (x5.0, tt, (x5.2.0, tt, (x5.2.2.0, tt, tt)))), ((540, low_stands (λ l. 0) 537 540 (primitive_items (Find Output)) (inr (omega arith)) (omega arith) refl (x6.0, tt, (x6.2.0, tt, (x6.2.2.0, tt, tt)))), ((543, low_stands (λ l. 0) 540 543 (primitive_items (EndStream Input)) (inr (omega arith)) (omega arith) refl (x7.0, tt, (x7.2.0, tt, (x7.2.2.0, tt, tt)))), ((546, low_stands (λ l. 0) 543 546 (primitive_items (EndStream Output)) (inr (omega arith)) (omega arith) refl (x8.0, tt, (x8.2.0, tt, (x8.2.2.0, tt, tt)))), tt))))))))
 
-module _ (T : Table) (choice : Choice T) (cores : List Core) (fit : AllFit T choice (store_of (segments_of (coding_of choice) cores)) cores) (accepted : refusal_of (segments_of (coding_of choice) cores) ≡ None) where
-  abbrev segments : List (List Item)
+module _ (T : Table) (choice : Choice T) (cores : List Core) (accepted : refusal_of (segments_of (coding_of choice) cores) ≡ None) where
+  abbrev pub segments : List (List Item)
   segments = segments_of (coding_of choice) cores
 
-  abbrev own_sections : List (List Item)
+  abbrev pub own_sections : List (List Item)
   own_sections = sections_of (coding_of choice) cores
 
-  abbrev linked_store : List ℕ
+  abbrev pub linked_store : List ℕ
   linked_store = store_of segments
 
-  abbrev base : ℕ
+  abbrev pub base : ℕ
   base = stack_base_of segments
 
   abbrev program : List Placed
@@ -290,7 +290,7 @@ module _ (T : Table) (choice : Choice T) (cores : List Core) (fit : AllFit T cho
       let h = neither (label_twice_from 0 segments) (first_of (global_twice segments) (first_of (too_large segments) (label_unset_from 0 segments))) accepted in
       none_of GlobalTwice (repeated_global_of segments) (neither (global_twice segments) (first_of (too_large segments) (label_unset_from 0 segments)) h.1).0
 
-  fits : base ≤ 65472
+  pub fits : base ≤ 65472
   fits =
       let h = neither (label_twice_from 0 segments) (first_of (global_twice segments) (first_of (too_large segments) (label_unset_from 0 segments))) accepted in
       let k = neither (global_twice segments) (first_of (too_large segments) (label_unset_from 0 segments)) h.1 in
@@ -335,10 +335,10 @@ module _ (T : Table) (choice : Choice T) (cores : List Core) (fit : AllFit T cho
   library_words : HasWords linked_store 520 (assembled library_address library_items)
   library_words = words_front linked_store 520 (assembled library_address library_items) (words_from 546 own_sections) segment_words
 
-  section_words : HasWords linked_store 546 (words_from 546 own_sections)
+  pub section_words : HasWords linked_store 546 (words_from 546 own_sections)
   section_words = words_back linked_store 520 (assembled library_address library_items) (words_from 546 own_sections) segment_words
 
-  sections_once : NoneTwice T choice linked_store cores
+  pub sections_once : NoneTwice T choice linked_store cores
   sections_once = none_twice T choice linked_store 1 cores (neither (option_map (LabelTwice 0) (first_repeated (labels_of library_items))) (label_twice_from 1 own_sections) not_twice).1
 
   all_data : DataAt linked_store 546 (546 + size_of_segments own_sections) all_standing
@@ -375,9 +375,9 @@ module _ (T : Table) (choice : Choice T) (cores : List Core) (fit : AllFit T cho
   low_clear : (a : ℕ) → a < 546 → Clear a all_standing
   low_clear a lt = clear_below linked_store 546 (546 + size_of_segments own_sections) a all_standing all_data lt
 
-  sections_stand : AllStand moment_of_start program
+  sections_stand : AllFit T choice linked_store cores → AllStand moment_of_start program
   unfolding moment_of_start all_standing
-  sections_stand = all_stand T choice linked_store moment_of_start refl all_standing dead_cells (let f = fits in omega arith) cores 546 [] section_words sections_once fit (λ a le. tt) refl (omega arith) (omega arith)
+  sections_stand fit = all_stand T choice linked_store moment_of_start refl all_standing dead_cells (let f = fits in omega arith) cores 546 [] section_words sections_once fit (λ a le. tt) refl (omega arith) (omega arith)
 
   first_holds : Holds (base + 2) moment_of_start.cells moment_of_start.store
   unfolding moment_of_start
@@ -388,17 +388,17 @@ module _ (T : Table) (choice : Choice T) (cores : List Core) (fit : AllFit T cho
     spans = cells_length all_standing;
   }
 
-  pub program_runs : ((i : ℕ) → slice_index linked_store i < 65536) → (streams : Content) → All HoldsBytes streams.inputs → (n : ℕ) → Same (meaning cores (linked_map (coding_of choice) cores) streams n) n (start linked_store base streams)
+  pub program_runs : AllFit T choice linked_store cores → ((i : ℕ) → slice_index linked_store i < 65536) → (streams : Content) → All HoldsBytes streams.inputs → (n : ℕ) → Same (meaning cores (linked_map (coding_of choice) cores) streams n) n (start linked_store base streams)
   unfolding moment_of_start all_standing
-  program_runs store_words streams bytes n =
+  program_runs fit store_words streams bytes n =
       let top_fits : base + 2 < 65536 = let f = fits in omega arith in
       let over_low : 546 ≤ base + 2 = omega arith in
       meaning_is_run moment_of_start cores (linked_map (coding_of choice) cores) (λ l. 0) 3
-      (boot_stands linked_store moment_of_start refl all_standing dead_cells top_fits low_clear over_low boot_words) sections_stand
+      (boot_stands linked_store moment_of_start refl all_standing dead_cells top_fits low_clear over_low boot_words) (sections_stand fit)
       (λ v q e. known_stands moment_of_start primitives v q (library_stands linked_store moment_of_start refl all_standing dead_cells top_fits low_clear over_low library_words) (library_found program v q e))
       (first_cells-are all_standing) (omega arith) (let f = fits in omega arith) first_holds streams n
       (record { a = omega arith; b = omega arith; c = omega arith; p = omega arith; store = store_words; inputs = bytes })
 
 pub programs_run : ProgramsRun
 programs_run T choice cores fit accepted store_words streams bytes n =
-    program_runs T choice cores (all_fit T choice (store_of (segments_of (coding_of choice) cores)) cores fit) accepted store_words streams bytes n
+    program_runs T choice cores accepted (all_fit T choice (store_of (segments_of (coding_of choice) cores)) cores fit) store_words streams bytes n

@@ -80,14 +80,14 @@ plain_size (DataLabel n ∷ is) h = ap (λ z. 1 + z) (plain_size is h)
 plain_size (Operation f i b n ∷ is) h = ap (λ z. size (Operation f i b n) + z) (plain_size is h)
 plain_size (Global g m ∷ is) h = absurd h
 
--- data: each place's words stand at its address, between two bounds
-abbrev pub HoldingAt : List ℕ → (low high : ℕ) → ℕ → Holding → Type 0
-HoldingAt store low high a (ARoutine g) = Unit {0}
-HoldingAt store low high a (Words ws) = HasWords store a ws × (low ≤ a) × (a + length ws ≤ high)
+-- data: the words of the places that have some stand at their addresses, in order between two bounds
+abbrev pub DataBehind : List ℕ → Holding → (a low : ℕ) → (ℕ → Type 0) → Type 0
+DataBehind store (ARoutine g) a low rest = rest low
+DataBehind store (Words ws) a low rest = HasWords store a ws × (low ≤ a) × rest (a + length ws)
 
 abbrev pub DataAt : List ℕ → (low high : ℕ) → List Standing → Type 0
-DataAt store low high [] = Unit {0}
-DataAt store low high (s ∷ ss) = HoldingAt store low high s.address s.holding × DataAt store low high ss
+DataAt store low high [] = low ≤ high
+DataAt store low high (s ∷ ss) = DataBehind store s.holding s.address low (λ z. DataAt store z high ss)
 
 table_words : (address : ℕ → ℕ) (ws : List ℕ) (rest : List Item) → assembled address (map Data ws ++ rest) ≡ ws ++ assembled address rest
 table_words address [] rest = refl
@@ -135,11 +135,12 @@ no_byte_in_data j (commands.Text bytes ∷ ps) others h = tt
 
 pub data_stand : (address : ℕ → ℕ) (store : List ℕ) (low high j : ℕ) (ps : List Place) (others : List Item) (c : ℕ) → BeginsWithNoByte others → low ≤ c → c + size_of_all (data_items j ps ++ others) ≤ high
     → HasWords store c (assembled address (data_items j ps ++ others)) → LabelsAt address (label_places c (data_items j ps ++ others)) → DataAt store low high (standing_from address (j + 1) ps)
-data_stand address store low high j [] others c n lo hi h l = tt
-data_stand address store low high j (commands.Code r ∷ ps) others c n lo hi h l = (tt, data_stand address store low high (j + 1) ps others c n lo hi h l)
+data_stand address store low high j [] others c n lo hi h l = omega arith
+data_stand address store low high j (commands.Code r ∷ ps) others c n lo hi h l = data_stand address store low high (j + 1) ps others c n lo hi h l
 data_stand address store low high j (commands.Static w ∷ ps) others c n lo hi h l = (
-  (subst (λ z. HasWords store z (w ∷ [])) (sym l.0) (h.0, tt), omega (arith, l.0), omega (arith, l.0)),
-  data_stand address store low high (j + 1) ps others (c + 1) n (omega arith) (omega arith) h.1 l.1,
+  subst (λ z. HasWords store z (w ∷ [])) (sym l.0) (h.0, tt),
+  omega (arith, l.0),
+  data_stand address store (address (j + 1) + 1) high (j + 1) ps others (c + 1) n (omega (arith, l.0)) (omega arith) h.1 l.1,
 )
 data_stand address store low high j (commands.Table ws ∷ ps) others c n lo hi h l =
     let rest = data_items (j + 1) ps ++ others in
@@ -147,8 +148,9 @@ data_stand address store low high j (commands.Table ws ∷ ps) others c n lo hi 
     let size = ap size_of_all same ∙ table_size ws rest in
     let here = subst (λ z. HasWords store c z) (ap (assembled address) same ∙ table_words address ws rest) h in
     let labels = subst (λ z. LabelsAt address z) (ap (label_places c) same ∙ table_places c ws rest) l.1 in (
-      (subst (λ z. HasWords store z ws) (sym l.0) (words_front store c ws (assembled address rest) here), omega (arith, l.0), omega (arith, l.0, size, hi)),
-      data_stand address store low high (j + 1) ps others (c + length ws) n (omega arith) (omega (arith, size, hi)) (words_back store c ws (assembled address rest) here) labels,
+      subst (λ z. HasWords store z ws) (sym l.0) (words_front store c ws (assembled address rest) here),
+      omega (arith, l.0),
+      data_stand address store (address (j + 1) + length ws) high (j + 1) ps others (c + length ws) n (omega (arith, l.0)) (omega (arith, size, hi)) (words_back store c ws (assembled address rest) here) labels,
     )
 data_stand address store low high j (commands.Text bytes ∷ ps) others c n lo hi h l =
     let rest = data_items (j + 1) ps ++ others in
@@ -160,7 +162,8 @@ data_stand address store low high j (commands.Text bytes ∷ ps) others c n lo h
     let size = ap size_of_all whole ∙ apart.size in
     let here = subst (λ z. HasWords store c z) (ap (assembled address) whole ∙ apart.words ∙ ap (λ z. z ++ assembled address rest) (bytes_words address all)) h in
     let labels = subst (λ z. LabelsAt address z) (ap (label_places c) whole ∙ apart.places ∙ ap (λ z. z ++ label_places (c + size_of_all (map Byte all)) rest) (bytes_places c all)) l.1 in (
-      (subst (λ z. HasWords store z (packed all)) (sym l.0) (words_front store c (packed all) (assembled address rest) here), omega (arith, l.0), omega (arith, l.0, size, count, hi)),
-      data_stand address store low high (j + 1) ps others (c + length (packed all)) n (omega arith) (omega (arith, size, count, hi)) (words_back store c (packed all) (assembled address rest) here)
+      subst (λ z. HasWords store z (packed all)) (sym l.0) (words_front store c (packed all) (assembled address rest) here),
+      omega (arith, l.0),
+      data_stand address store (address (j + 1) + length (packed all)) high (j + 1) ps others (c + length (packed all)) n (omega (arith, l.0)) (omega (arith, size, count, hi)) (words_back store c (packed all) (assembled address rest) here)
           (subst (λ z. LabelsAt address (label_places (c + z) rest)) count labels),
     )

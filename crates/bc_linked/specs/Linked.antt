@@ -10,7 +10,7 @@ use Rattle.bc_step.specs.Streams.{Content}
 use Rattle.bc_step.specs.State.{start}
 use Rattle.bc_core.specs.Commands.{Core}
 use Rattle.bc_core.specs.WellFormed.{is_core}
-use Rattle.bc_core.specs.Map.{Map}
+use Rattle.bc_core.specs.Map.{Map, IsMap}
 use Rattle.bc_core.specs.Meaning.{meaning}
 use Rattle.bc_core.specs.Same.{Same}
 use Rattle.bc_derive.specs.declared.rule.Table.{Table}
@@ -69,6 +69,12 @@ linked_map coding cores = record {
   places = addresses_from (520 + size_of_all library_items) (sections_of coding cores);
   stack_base = stack_base_of (segments_of coding cores);
 }
+
+-- where the linker refuses nothing, the addresses in the image are a map
+abbrev pub LinkedMapIsMap : Type 0
+LinkedMapIsMap =
+    (T : Table) (choice : Choice T) (cores : List Core)
+    → refusal_of (segments_of (coding_of choice) cores) ≡ None → IsMap cores (linked_map (coding_of choice) cores)
 
 -- For every list of sections, every choice of derivations by either table, all inputs and n: where the linker
 -- refuses nothing and the store holds words, the run of the machine from the image's start does what the sections
