@@ -1,4 +1,4 @@
-//! From tokens to trees.
+//! From tokens to trees, and back by `bc_spell`.
 #![tactic(auto)]
 
 mod blocks;
@@ -11,6 +11,7 @@ mod fault;
 mod names;
 mod section;
 
+pub use bc_spell::{render, spell};
 pub use bc_tree::{
     Block, Command, Constant, Declaration, Definition, Dyadic, Exp, Item, Label, Monadic, Section,
     Storage,
