@@ -1,0 +1,18 @@
+-- The next label.
+use Rattle.std.proofs.Common.{◌≡◌, ℕ, ◌+◌, ◌≤◌, ◌<◌, min, Option, Some, None, ap, ◌∙◌, sym, arith}
+use Rattle.bc_core.specs.Tree.{Root}
+use Rattle.bc_derive.specs.declared.rule.Table.{Table}
+use Rattle.bc_derive.specs.Rules.{RootDerives, root_shape, Tree}
+use Rattle.bc_derive.specs.Code.{root_labels}
+use Rattle.bc_derive.specs.ByShape.{root_labels_by}
+use Rattle.bc_derive.proofs.ByShape.{root_labels_same}
+use Rattle.bc_rules.specs.Code.{IsNextLabel}
+
+pub labels_by_shape : (r : Root) (x : Tree) (T : Table) (d : RootDerives T r) → root_shape d ≡ x → root_labels d ≡ root_labels_by r x
+labels_by_shape r x T d h = root_labels_same d ∙ ap (root_labels_by r) h
+
+pub next_some : (r : Root) (x : Tree) (first n : ℕ) → n ≡ min (root_labels_by r x) 65537 → first + n ≤ 65536 → IsNextLabel r x first (Some (first + n))
+next_some r x first n h k = record { exact = λ T d e. let l = labels_by_shape r x T d e in (omega arith, omega arith) }
+
+pub next_none : (r : Root) (x : Tree) (first n : ℕ) → n ≡ min (root_labels_by r x) 65537 → 65536 < first + n → IsNextLabel r x first None
+next_none r x first n h k = record { exact = λ T d e. λ small. let l = labels_by_shape r x T d e in absurd (omega arith) }

@@ -1,0 +1,51 @@
+-- Trees of rules as they lie in memory, and their parts.
+use Rattle.std.proofs.Common.{◌≡◌, ℕ, zero, suc, ◌+◌, ◌<◌, ◌≤◌, refl, ap, ◌∙◌, sym, arith, rules, Vec, Box, Global, List, [], ◌∷◌, length, get_or, drop, add-one, drop-cons}
+use Rattle.bc_core.specs.declared.expression.CoreExp.{CoreExp}
+use Rattle.bc_core.specs.declared.expression.CoreExp as expressions
+use Rattle.bc_core.specs.Tree.{argument}
+use Rattle.bc_core.specs.View.{exp, args}
+use Rattle.bc_core.proofs.Rows.{call_view}
+use Rattle.bc_derive.specs.declared.derivation.Derivation.{Derivation, Derivation', Row_of-Derivation, end_of-Derivation, more_of-Derivation, items-the_row-Derivation, items_shown-the_row-Derivation-0, out-Derivation, the_lemmas}
+use Rattle.bc_derive.specs.declared.rule.Mode.TheVariants.{Any}
+use Rattle.bc_derive.specs.declared.rule.Aim.TheVariants.{Gets}
+use Rattle.bc_derive.specs.declared.rule.Rule.TheVariants.{V22}
+use Rattle.bc_derive.specs.Rules.{Tree, Trees, by, no_part, part, one, two, three}
+use Rattle.bc_derive.specs.Parts.{called, node_parts}
+use Rattle.bc_derive.specs.View.{derivation, derivations, derivations_of_row}
+
+rows_seen : {n : _} (r : Row_of-Derivation n) → derivations_of_row r ≡ derivations (items-the_row-Derivation n r)
+rows_seen end_of-Derivation = refl
+rows_seen (more_of-Derivation d ds) = ap (part (derivation d)) (rows_seen ds)
+
+-- a tree is seen with the list of its parts
+pub tree_view : (d : Derivation) → derivation d ≡ by (out-Derivation d).rule (derivations (out-Derivation d).parts.items)
+tree_view (Derivation' r shape ps) = let h = rows_seen ps in search (rules, the_lemmas)
+
+pub call_parts_seen : (es : Vec CoreExp Global) (f : Box CoreExp Global) → node_parts V22 (Gets Any) (exp (expressions.Call es f)) ≡ called 0 (args es.items) (exp f.value)
+call_parts_seen es f = ap (node_parts V22 (Gets Any)) (call_view es f)
+
+-- lists of one, two and three trees
+pub one_tree : (xs : List Derivation) (d : Derivation) → length xs ≡ 1 → derivations xs ≡ one (derivation (get_or xs 0 d))
+one_tree [] d h = absurd (omega arith)
+one_tree (x ∷ []) d h = refl
+one_tree (x ∷ y ∷ xs) d h = absurd (omega arith)
+
+pub two_trees : (xs : List Derivation) (d : Derivation) → length xs ≡ 2 → derivations xs ≡ two (derivation (get_or xs 0 d)) (derivation (get_or xs 1 d))
+two_trees [] d h = absurd (omega arith)
+two_trees (x ∷ []) d h = absurd (omega arith)
+two_trees (x ∷ y ∷ []) d h = refl
+two_trees (x ∷ y ∷ z ∷ xs) d h = absurd (omega arith)
+
+pub three_trees : (xs : List Derivation) (d : Derivation) → length xs ≡ 3 → derivations xs ≡ three (derivation (get_or xs 0 d)) (derivation (get_or xs 1 d)) (derivation (get_or xs 2 d))
+three_trees [] d h = absurd (omega arith)
+three_trees (x ∷ []) d h = absurd (omega arith)
+three_trees (x ∷ y ∷ []) d h = absurd (omega arith)
+three_trees (x ∷ y ∷ z ∷ []) d h = refl
+three_trees (x ∷ y ∷ z ∷ u ∷ xs) d h = absurd (omega arith)
+
+-- the trees from the i-th on
+pub next_tree : (xs : List Derivation) (i : ℕ) (d : Derivation) → i < length xs → derivations (drop i xs) ≡ part (derivation (get_or xs i d)) (derivations (drop (i + 1) xs))
+next_tree xs i d h = ap derivations (drop-cons xs i d h ∙ ap (λ n. get_or xs i d ∷ drop n xs) (sym (add-one i)))
+
+pub next_argument : (es : List CoreExp) (i : ℕ) (e : CoreExp) → i < length es → args (drop i es) ≡ argument (exp (get_or es i e)) (args (drop (i + 1) es))
+next_argument es i e h = ap args (drop-cons es i e h ∙ ap (λ n. get_or es i e ∷ drop n es) (sym (add-one i)))

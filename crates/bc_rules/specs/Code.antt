@@ -1,0 +1,23 @@
+-- What `code_of` and `next_label` give.
+use Rattle.std.specs.Prelude.{◌≡◌, ℕ, ◌+◌, ◌≤◌, max, cond, Option, List}
+use Rattle.std.specs.Option.{SomeIff}
+use Rattle.bc_core.specs.Tree.{Root, Value, Test, Assign}
+use Rattle.bc_core.specs.Layout.{cells_of_exp, cells_of_assignment}
+use Rattle.bc_derive.specs.declared.rule.Table.{Table}
+use Rattle.bc_derive.specs.declared.piece.Piece.{Piece}
+use Rattle.bc_derive.specs.Rules.{RootDerives, root_shape, Tree}
+use Rattle.bc_derive.specs.Code.{root_labels, root_code}
+
+-- the cells of the frame up to the greatest offset that the work on a root uses, the bodies of its VALOFs aside
+abbrev pub cells_of_root : Root → ℕ
+cells_of_root (Value s e) = cells_of_exp (λ n s. 0) e s
+cells_of_root (Test s sense e) = cells_of_exp (λ n s. 0) e s
+cells_of_root (Assign s v a) = cells_of_assignment (λ n s. 0) v a s
+
+-- the code of the root's derivation with these rules, where its offsets and labels are words
+pub record IsCodeOf (r : Root) (x : Tree) (target first : ℕ) (pieces : List Piece) : Type 0 where
+  pub exact : (T : Table) (d : RootDerives T r) → root_shape d ≡ x → cells_of_root r ≤ 65536 → first + root_labels d ≤ 65536 → pieces ≡ root_code d target first
+
+-- the label behind those of the root's derivation with these rules; none where one of these is no word
+pub record IsNextLabel (r : Root) (x : Tree) (first : ℕ) (next : Option ℕ) : Type 0 where
+  pub exact : (T : Table) (d : RootDerives T r) → root_shape d ≡ x → SomeIff next (first + root_labels d ≤ 65536) (first + root_labels d)

@@ -1,0 +1,9 @@
+-- Whether a tree of rules is a derivation of a root.
+use Rattle.std.specs.Prelude.{◌≡◌}
+use Rattle.bc_core.specs.Tree.{Root}
+use Rattle.bc_derive.specs.declared.rule.Table.{Table}
+use Rattle.bc_derive.specs.Rules.{RootDerives, root_shape, Tree}
+
+-- the table has a derivation of the root with these rules
+abbrev pub IsDerivation : Table → Root → Tree → Type 0
+IsDerivation T r x = (d : RootDerives T r) × (root_shape d ≡ x)

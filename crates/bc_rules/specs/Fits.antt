@@ -1,0 +1,84 @@
+-- For proofs: whether a tree of rules is a derivation, by computing.
+use Rattle.std.specs.Prelude.{ℕ, ◌+◌, Bool, true, false, ◌&&◌, ◌||◌, not, cond, Option, Some, None}
+use Rattle.bc_core.specs.Tree.{Exp, Bin, Args, no_argument, argument, Root, Value, Test, Assign}
+use Rattle.bc_core.specs.Value.{has_call}
+use Rattle.bc_derive.specs.declared.rule.Table.{Table}
+use Rattle.bc_derive.specs.declared.rule.Table.TheVariants.{One, Two}
+use Rattle.bc_derive.specs.declared.rule.Mode.TheVariants.{Any}
+use Rattle.bc_derive.specs.declared.rule.Aim.{Aim}
+use Rattle.bc_derive.specs.declared.rule.Aim.TheVariants.{Gets, Jumps}
+use Rattle.bc_derive.specs.declared.rule.Rule.{Rule}
+use Rattle.bc_derive.specs.declared.rule.Rule.TheVariants.{V7, V11, V13, V14, V16, J8, J9, A2}
+use Rattle.bc_derive.specs.Rules.{Tree, Trees, by, no_part, part}
+use Rattle.bc_derive.specs.Free.{are_free, is_direct}
+use Rattle.bc_derive.specs.Parts.{Parts, no_rule, leaf, single, pair, triple, called, parts_of, assignment_parts}
+
+abbrev pub is_two : Table → Bool
+is_two One = false
+is_two Two = true
+
+abbrev pub in_table : Table → Rule → Bool
+in_table T J8 = is_two T
+in_table T J9 = is_two T
+in_table T r = true
+
+-- the rules that work out the right operand first
+abbrev pub turns : Rule → Bool
+turns V7 = true
+turns V11 = true
+turns V13 = true
+turns V14 = true
+turns V16 = true
+turns A2 = true
+turns _ = false
+
+abbrev pub has_direct_side : Exp → Bool
+has_direct_side (Bin op a b) = is_direct a || is_direct b
+has_direct_side _ = false
+
+-- a rule that turns its operands round has free ones
+abbrev pub turns_freely : Rule → (calls : Bool) → Exp → Bool
+turns_freely r calls e = not (turns r && calls) || has_direct_side e
+
+abbrev pub may_turn : Rule → Exp → Bool
+may_turn r e = turns_freely r (has_call e) e
+
+abbrev mutual
+  pub fits : Table → Tree → Aim → Exp → Bool
+  fits T (by r ds) aim e = in_table T r && (may_turn r e && parts_fit T (parts_of r aim e) ds)
+
+  pub parts_fit : Table → Parts → Trees → Bool
+  parts_fit T (leaf valof) no_part = true
+  parts_fit T (single m a) (part d no_part) = fits T d m a
+  parts_fit T (pair m a n b) (part d (part c no_part)) = fits T d m a && fits T c n b
+  parts_fit T (triple m h n x l y) (part d (part c (part g no_part))) = fits T d m h && (fits T c n x && fits T g l y)
+  parts_fit T (called i no_argument e) (part d no_part) = fits T d (Gets Any) e
+  parts_fit T (called i (argument a es) e) (part d ds) = fits T d (Gets Any) a && parts_fit T (called (i + 1) es e) ds
+  parts_fit T p ds = false
+
+-- whether a call or a VALOF stands in the parts
+abbrev pub parts_call : Parts → Bool
+parts_call (leaf valof) = valof
+parts_call (single m a) = has_call a
+parts_call (pair m a n b) = has_call a || has_call b
+parts_call (triple m c n x l y) = has_call c || has_call x || has_call y
+parts_call (called i es e) = true
+parts_call no_rule = false
+
+-- where trees are derivations, whether a call or a VALOF stands in what they derive
+abbrev pub found : (fit calls : Bool) → Option Bool
+found fit calls = cond fit (Some calls) None
+
+abbrev pub sides_free : Rule → Exp → Exp → Bool
+sides_free r v a = not (turns r) || are_free v a
+
+abbrev pub sides_turn : Rule → (calls : Bool) → Exp → Exp → Bool
+sides_turn r calls v a = not (turns r && calls) || is_direct v || is_direct a
+
+abbrev pub assignment_fits : Table → Tree → Exp → Exp → Bool
+assignment_fits T (by r ds) v a = sides_free r v a && parts_fit T (assignment_parts r v a) ds
+
+abbrev pub root_fits : Table → Root → Tree → Bool
+root_fits T (Value s e) x = fits T x (Gets Any) e
+root_fits T (Test s sense e) x = fits T x (Jumps sense) e
+root_fits T (Assign s v a) x = assignment_fits T x v a

@@ -1,0 +1,6 @@
+pub mod Derivation
+pub mod Code
+pub mod Fits
+pub mod View
+pub mod Levels
+pub mod Words

@@ -1,0 +1,22 @@
+-- For proofs: the words of the rest of a list of pieces, where the last byte may share its word.
+use Rattle.std.specs.Prelude.{ℕ, Bool, true, false, not, cond, List, [], ◌∷◌}
+use Rattle.bc_item.specs.declared.item.Item.TheVariants.{Byte}
+use Rattle.bc_derive.specs.declared.piece.Piece.{Piece}
+use Rattle.bc_derive.specs.declared.piece.Piece.TheVariants.{Item, Body}
+use Rattle.bc_item.specs.Sizes.{size}
+use Rattle.bc_derive.specs.Piece.{words}
+
+abbrev pub rest_words : (half : Bool) → List Piece → ℕ
+rest_words false ps = words ps
+rest_words true (Item (Byte low) ∷ ps) = words ps
+rest_words true ps = words ps
+
+-- the words that a piece adds, and whether it leaves half a word
+abbrev pub added_words : (half : Bool) → Piece → ℕ
+added_words half (Item (Byte b)) = cond half 0 1
+added_words half (Item i) = size i
+added_words half (Body n) = 0
+
+abbrev pub half_left : (half : Bool) → Piece → Bool
+half_left half (Item (Byte b)) = not half
+half_left half _ = false
