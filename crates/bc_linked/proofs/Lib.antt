@@ -6,3 +6,4 @@ pub mod Globals
 pub mod Cells
 pub mod Program
 pub mod Ranges
+pub mod Examples
