@@ -40,9 +40,6 @@ set_same n w c e h = let f : Set n ≡ Set w = sym e ∙ h in cc
 never_set : (w : ℕ) (c : Cell) → c ≡ Dead → c ≡ Set w → ⊥
 never_set w c e h = let f : Dead ≡ Set w = sym e ∙ h in cc
 
-never_dead : (n : ℕ) (c : Cell) → c ≡ Set n → c ≡ Dead → ⊥
-never_dead n c e h = let f : Dead ≡ Set n = sym h ∙ e in cc
-
 -- what the test comes to, by the variable's cell
 abbrev tested : Rel → Cell → ℕ → Run Bool
 tested rel Dead n st = Wild

@@ -206,9 +206,9 @@ module _ (roots : Roots) (plain : PlainRoots roots) where
 
     block_plain : (b : Block) (s : ℕ) (E : Exits) (f : ℕ) → Plain (emit_block (λ i. i) roots b s E f).0
     block_plain (block ds is) s E f =
-        let d = emit_declarations roots ds s f in
-        let E1 = record E { labels = labelled is d.1 E.labels } in
-        plain_both d.0 (emit_items (λ i. i) roots is (s + cells_declared ds) E1 (d.1 + labels_in is)).0 (declarations_plain ds s f) (items_plain is (s + cells_declared ds) E1 (d.1 + labels_in is))
+        let d = emit_declarations roots ds s (f + labels_in is) in
+        let E1 = record E { labels = labelled is f E.labels } in
+        plain_both d.0 (emit_items (λ i. i) roots is (s + cells_declared ds) E1 d.1).0 (declarations_plain ds s (f + labels_in is)) (items_plain is (s + cells_declared ds) E1 d.1)
 
     items_plain : (is : Items) (s : ℕ) (E : Exits) (f : ℕ) → Plain (emit_items (λ i. i) roots is s E f).0
     items_plain no_item s E f = tt

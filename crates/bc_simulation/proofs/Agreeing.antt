@@ -1,5 +1,5 @@
 -- Agreement of cells and store from one moment to the next.
-use Rattle.std.proofs.Common.{◌≡◌, ◌≢◌, ◌⊎◌, inl, inr, ⊎_elim, ℕ, ◌+◌, ◌<◌, ◌≤◌, List, [], ◌∷◌, length, refl, sym, ap, ◌∙◌, arith}
+use Rattle.std.proofs.Common.{◌≡◌, ◌≢◌, ◌⊎◌, inl, inr, ⊎_elim, ℕ, ◌+◌, ◌<◌, ◌≤◌, List, [], ◌∷◌, length, sym, ap, ◌∙◌, arith}
 use Rattle.std.specs.Prelude.{slice_set}
 use Rattle.std.proofs.lemmas.Bool.{cases_lt}
 use Rattle.std.proofs.lemmas.List.{length-set, get_or-set_other}
@@ -9,9 +9,6 @@ use Rattle.bc_item.specs.Assembled.{words_of_item}
 use Rattle.bc_core.specs.Store.{Cell, Dead, Set, cell_at}
 use Rattle.bc_simulation.specs.Agreement.{Holds, Keeps}
 use Rattle.bc_simulation.specs.CodeAt.{HasWords, HasItems, words, IsCode}
-
-pub keeps_refl : (top : ℕ) (cells : List Cell) (store : List ℕ) → Keeps top cells store cells store
-keeps_refl top cells store = record { dead = λ a lt d. d; same = λ a lt d. refl }
 
 pub keeps_then : (top : ℕ) (c0 c1 c2 : List Cell) (m0 m1 m2 : List ℕ) → Keeps top c0 m0 c1 m1 → Keeps top c1 m1 c2 m2 → Keeps top c0 m0 c2 m2
 keeps_then top c0 c1 c2 m0 m1 m2 k l = record {
@@ -24,14 +21,6 @@ keeps_down top top1 c0 c1 m0 m1 le k = record { dead = λ a lt d. k.dead a (omeg
 
 pub holds_up : (top top1 : ℕ) (cells : List Cell) (m : List ℕ) → top ≤ top1 → Holds top cells m → Holds top1 cells m
 holds_up top top1 cells m le h = record { agrees = h.agrees; above = λ a ge. h.above a (omega arith); whole = h.whole; spans = h.spans }
-
-pub holds_down : (top top1 : ℕ) (c0 c1 : List Cell) (m0 m1 : List ℕ) → Holds top c0 m0 → Holds top1 c1 m1 → Keeps top1 c0 m0 c1 m1 → Holds top c1 m1
-holds_down top top1 c0 c1 m0 m1 h g k = record {
-  agrees = g.agrees;
-  above = λ a ge. ⊎_elim (λ lt. k.dead a lt (h.above a ge)) (λ high. g.above a high) (cases_lt a top1);
-  whole = g.whole;
-  spans = g.spans;
-}
 
 differ : (n k : ℕ) → (n ≢ k) ⊎ (n ≡ k)
 differ n k = ⊎_elim (λ lt. inl (λ e. omega arith)) (λ ge. ⊎_elim (λ lt. inl (λ e. omega arith)) (λ le. inr (omega arith)) (cases_lt k n)) (cases_lt n k)

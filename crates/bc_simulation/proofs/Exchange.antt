@@ -1,7 +1,6 @@
 -- Free operands may be worked out in the other order.
 use Rattle.std.proofs.Common.{◌≡◌, ◌⊎◌, inl, inr, ⊎_elim, ℕ, ◌+◌, ◌%◌, Bool, true, false, not, ◌||◌, Option, Some, None, refl, sym, ap, ◌∙◌, subst}
 use Rattle.std.specs.Prelude.{cond}
-use Rattle.bc_word.specs.declared.operator.Op.{Op}
 use Rattle.bc_word.specs.declared.operator.Op.TheVariants as operators
 use Rattle.bc_word.specs.Words.{value_of}
 use Rattle.bc_core.specs.declared.operands.Operand.{Operand}
@@ -11,7 +10,7 @@ use Rattle.bc_core.specs.Outcome.{State, Outcome, Done, Ended, Going, Wild, Run,
 use Rattle.bc_core.specs.Value.{Context, has_call, given, value}
 use Rattle.bc_core.specs.Laws.{IsCalm}
 use Rattle.bc_core.proofs.Calm.{calm, no_left, no_right}
-use Rattle.bc_simulation.specs.Free.{are_free, is_direct, exchanged, SameUnlessWild, FreeOperandsExchange, FreeSidesExchange}
+use Rattle.bc_simulation.specs.Free.{are_free, is_direct, SameUnlessWild, FreeOperandsExchange, FreeSidesExchange}
 
 not_direct : (o : Option Operand) → None ≡ o → is_direct o ≡ true → ⊥
 not_direct None e h = cc

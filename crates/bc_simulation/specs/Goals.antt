@@ -7,10 +7,6 @@ use Rattle.bc_simulation.specs.Landing.{Goal}
 abbrev pub value_goal : ℕ → Goal ℕ
 value_goal end v a b c gain turns = (a ≡ v) × (c ≡ end)
 
--- a push lands behind its code with the value in A, and in B what A was
-abbrev pub push_goal : (was end : ℕ) → Goal ℕ
-push_goal was end v a b c gain turns = (a ≡ v) × (c ≡ end) × (b ≡ was)
-
 -- a test jumps where its truth is the sense, in an instruction that no turn was taken for
 abbrev pub jumps_to : Bool → (target end c gain : ℕ) → Type 0
 jumps_to true target end c gain = (c ≡ target) × (1 ≤ gain)
