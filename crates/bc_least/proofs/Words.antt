@@ -1,6 +1,6 @@
 -- The choices of an expression are its least words and least rules.
-use Rattle.std.proofs.Common.{◌≡◌, ℕ, ◌+◌, ◌≤◌, Option, Some, None, refl, ap, sym, subst, ◌∙◌, arith}
-use Rattle.std.specs.Prelude.{Bool, true, false}
+use Rattle.std.proofs.Common.{◌≡◌, ℕ, ◌+◌, Option, Some, None, refl, ap, ◌∙◌}
+use Rattle.std.specs.Prelude.{true, false}
 use Rattle.bc_core.specs.Tree.{Exp, Num, Frame, Glob, Place, Load, Neg, Not, Bin, Cond, Call, Valof, count}
 use Rattle.bc_core.specs.Operand.{constant_of}
 use Rattle.bc_derive.specs.declared.rule.Table.{Table}
@@ -8,15 +8,15 @@ use Rattle.bc_derive.specs.declared.rule.Aim.{Aim}
 use Rattle.bc_derive.specs.declared.rule.Aim.TheVariants.{Gets, Jumps}
 use Rattle.bc_derive.specs.declared.rule.Mode.TheVariants.{Any, Push}
 use Rattle.bc_derive.specs.declared.rule.Rule.{Rule}
-use Rattle.bc_derive.specs.Rules.{Derives, Tree, Trees, by}
+use Rattle.bc_derive.specs.Rules.{Derives, Tree, Trees}
 use Rattle.bc_derive.specs.Code.{cost}
 use Rattle.bc_least.specs.declared.choice.Choice.{Choice}
 use Rattle.bc_least.specs.declared.choice.Choices.{Choices}
 use Rattle.bc_least.specs.Readings.{tree_for, tree_of, read_line, leaf_parts, part_parts, not_parts, pair_parts, cond_parts, call_parts, readings, readings_of_all}
-use Rattle.bc_least.specs.Least.{rule_number, top, first_rule, IsLeast, AreLeastWords, IsLeastRule}
+use Rattle.bc_least.specs.Least.{rule_number, top, first_rule, AreLeastWords, IsLeastRule}
 use Rattle.bc_least.specs.Options.{words_of, rule_of}
-use Rattle.bc_least.specs.Choices.{choice_for, words_for, zero_number, choices}
-use Rattle.bc_least.specs.Folds.{AtMost, Chooses}
+use Rattle.bc_least.specs.Choices.{choice_for, zero_number, choices}
+use Rattle.bc_least.specs.Folds.{AtMost}
 use Rattle.bc_least.specs.Lower.{lower}
 use Rattle.bc_least.specs.Attained.{Part, part_for, attained}
 use Rattle.bc_least.specs.Laws.{ChoicesAreLeast}

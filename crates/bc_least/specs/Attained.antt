@@ -1,7 +1,7 @@
 -- For proofs: each choice is the words and the rule of a derivation, whose parts are the choices' own.
-use Rattle.std.proofs.Common.{◌≡◌, ℕ, ◌+◌, ◌*◌, ◌==◌, ◌≤◌, List, [], ◌∷◌, ◌++◌, Bool, true, false, not, Option, Some, None, IsTrue, cond, refl, ap, sym, subst, ◌∙◌, arith}
-use Rattle.std.specs.Prelude.{is_some, nat_lt}
-use Rattle.std.proofs.lemmas.Bool.{cond_both, cond-true, cond-false, eqb-true}
+use Rattle.std.proofs.Common.{◌≡◌, ℕ, ◌+◌, ◌*◌, ◌==◌, ◌≤◌, List, [], ◌∷◌, Bool, true, false, not, Option, Some, None, IsTrue, cond, refl, ap, sym, subst, ◌∙◌, arith}
+use Rattle.std.specs.Prelude.{is_some}
+use Rattle.std.proofs.lemmas.Bool.{cond-true, cond-false, eqb-true}
 use Rattle.bc_word.specs.declared.operator.Op.{Op}
 use Rattle.bc_word.specs.declared.operator.Op.TheVariants as operators
 use Rattle.bc_word.specs.Words.{number_of, negated}
@@ -26,12 +26,12 @@ use Rattle.bc_least.specs.declared.choice.Choice.{Choice}
 use Rattle.bc_least.specs.declared.choice.Choices.{Choices}
 use Rattle.bc_least.specs.declared.choice.Candidate.{Candidate}
 use Rattle.bc_least.specs.Least.{rule_number, top, first_rule, IsLeast, HasLeastParts, HaveLeastParts}
-use Rattle.bc_least.specs.Options.{plus, more, sum, given, only, operand_cost, words_of, choice, candidate, better, least_from}
-use Rattle.bc_least.specs.Choices.{choice_for, words_for, line, by_value, number_cost, zero_number, beside, without, mixed, worked, number_tests, not_tests, pair_tests, has_tests_of_zero, node, choices, words_of_all, node_of}
+use Rattle.bc_least.specs.Options.{plus, more, sum, only, operand_cost, words_of, candidate, least_from}
+use Rattle.bc_least.specs.Choices.{choice_for, words_for, line, by_value, number_cost, zero_number, without, mixed, worked, number_tests, not_tests, pair_tests, has_tests_of_zero, node, choices, words_of_all}
 use Rattle.bc_least.specs.Folds.{AtMost}
 use Rattle.bc_least.specs.Lower.{lower, is_zero_is}
 use Rattle.bc_least.specs.Readings.{Readings, tree_for, tree_of, push_parts, value_parts, test_parts, read_line, leaf_parts, part_parts, not_parts, pair_parts, cond_parts, call_parts, readings, readings_of_all}
-use Rattle.bc_least.specs.Makes.{Made, Makes, makes_none, makes_some, makes_map, makes_plus, makes_more, makes_sum, makes_given, OperandOf, makes_operand, AllMade, all_append, Chosen, chosen_least}
+use Rattle.bc_least.specs.Makes.{Makes, makes_none, makes_some, makes_map, makes_plus, makes_more, makes_sum, makes_given, OperandOf, makes_operand, AllMade, all_append, Chosen, chosen_least}
 
 -- a derivation with this tree, whose parts are least ones
 pub record IsWhole {T : Table} {e : Exp} {aim : Aim} (s : ℕ) (t : Tree) (d : Derives T e aim) : Type 0 where

@@ -1,5 +1,5 @@
 -- For proofs: the derivation of a root that the choices come to.
-use Rattle.std.proofs.Common.{◌≡◌, ℕ, ◌+◌, ◌*◌, ◌≤◌, List, [], ◌∷◌, Bool, true, false, not, Option, Some, None, IsTrue, cond, refl, ap, sym, subst, ◌∙◌, arith}
+use Rattle.std.proofs.Common.{◌≡◌, ℕ, ◌+◌, ◌*◌, ◌≤◌, [], ◌∷◌, Bool, true, false, not, Option, Some, None, cond, refl, ap, sym, subst, ◌∙◌, arith}
 use Rattle.std.specs.Prelude.{is_some}
 use Rattle.bc_word.specs.declared.operator.Op.{Op}
 use Rattle.bc_word.specs.declared.operator.Op.TheVariants as operators
@@ -8,8 +8,7 @@ use Rattle.bc_core.specs.Tree.{Exp, Num, Frame, Glob, Place, Load, Neg, Not, Bin
 use Rattle.bc_core.specs.Operand.{operand_of}
 use Rattle.bc_core.specs.Level.{side_level}
 use Rattle.bc_derive.specs.declared.rule.Table.{Table}
-use Rattle.bc_derive.specs.declared.rule.Mode.TheVariants.{Any, Push}
-use Rattle.bc_derive.specs.declared.rule.Aim.{Aim}
+use Rattle.bc_derive.specs.declared.rule.Mode.TheVariants.{Any}
 use Rattle.bc_derive.specs.declared.rule.Aim.TheVariants.{Gets, Jumps}
 use Rattle.bc_derive.specs.declared.rule.Rule.{Rule}
 use Rattle.bc_derive.specs.declared.rule.Rule.TheVariants as rule
@@ -21,12 +20,12 @@ use Rattle.bc_least.specs.declared.choice.Choice.{Choice}
 use Rattle.bc_least.specs.declared.choice.Node.{Node}
 use Rattle.bc_least.specs.Least.{rule_number, top, RootIsLeast, RootHasLeastParts}
 use Rattle.bc_least.specs.Options.{plus, sum, given, words_of, candidate, least_from}
-use Rattle.bc_least.specs.Choices.{choice_for, words_for, free, choices, node_of}
-use Rattle.bc_least.specs.Folds.{Within, Chooses, AtMost, by_rule, words}
-use Rattle.bc_least.specs.Lower.{both, more_words, by_given, exactly, lower}
+use Rattle.bc_least.specs.Choices.{choice_for, free, choices, node_of}
+use Rattle.bc_least.specs.Folds.{Chooses, AtMost, by_rule, words}
+use Rattle.bc_least.specs.Lower.{both, more_words, by_given, lower}
 use Rattle.bc_least.specs.Readings.{Readings, tree_for, tree_of, readings}
-use Rattle.bc_least.specs.Makes.{Made, Makes, makes_none, makes_some, makes_map, makes_plus, makes_sum, makes_given, AllMade, Chosen, chosen_least}
-use Rattle.bc_least.specs.Attained.{IsPart, least_parts, Part, part_for, Attains, attained}
+use Rattle.bc_least.specs.Makes.{Made, Makes, makes_none, makes_some, makes_map, makes_plus, makes_sum, makes_given, Chosen, chosen_least}
+use Rattle.bc_least.specs.Attained.{IsPart, least_parts, part_for, attained}
 
 -- the choice of an assignment, from its address's operand
 abbrev pub assign_choice : Option Operand → (value address : Node) → ℕ → Option Choice

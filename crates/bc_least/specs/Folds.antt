@@ -1,12 +1,12 @@
 -- For proofs: what the fold over candidates does not pass over.
-use Rattle.std.proofs.Common.{◌≡◌, ℕ, ◌+◌, ◌≤◌, ◌<◌, ◌==◌, List, [], ◌∷◌, ◌++◌, Bool, true, false, ◌&&◌, Option, Some, None, IsTrue, cond, refl, ap, sym, subst, ◌∙◌, arith}
+use Rattle.std.proofs.Common.{◌≡◌, ℕ, ◌≤◌, ◌<◌, ◌==◌, List, [], ◌∷◌, Bool, true, false, ◌&&◌, Option, Some, None, cond, refl, subst, arith}
 use Rattle.std.specs.Prelude.{nat_le, nat_lt}
 use Rattle.std.proofs.lemmas.Bool.{cond_both, ltb-true, ltb-false, leb-true, eqb-true, and_parts}
 use Rattle.bc_derive.specs.declared.rule.Rule.{Rule}
 use Rattle.bc_least.specs.declared.choice.Choice.{Choice}
 use Rattle.bc_least.specs.declared.choice.Candidate.{Candidate}
 use Rattle.bc_least.specs.Least.{rule_number}
-use Rattle.bc_least.specs.Options.{words_of, choice, candidate, better, least_from}
+use Rattle.bc_least.specs.Options.{words_of, choice, better, least_from}
 
 -- there are words, and at most k
 abbrev pub Within : Option ℕ → ℕ → Type 0

@@ -1,9 +1,8 @@
 -- What holds of the choice of least words.
-use Rattle.std.specs.Prelude.{ℕ, ◌≡◌, Option, Some, None}
+use Rattle.std.specs.Prelude.{ℕ}
 use Rattle.bc_core.specs.Tree.{Exp, Root}
 use Rattle.bc_derive.specs.declared.rule.Table.{Table}
 use Rattle.bc_derive.specs.declared.rule.Aim.{Aim}
-use Rattle.bc_derive.specs.Rules.{RootDerives, root_shape}
 use Rattle.bc_least.specs.Least.{RootIsLeast, RootHasLeastParts, AreLeastWords, IsLeastRule}
 use Rattle.bc_least.specs.Options.{rule_of}
 use Rattle.bc_least.specs.Choices.{choice_for, words_for, choices}

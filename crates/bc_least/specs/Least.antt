@@ -1,6 +1,6 @@
 -- Derivations of least words, by the relation of the rule table alone.
-use Rattle.std.specs.Prelude.{◌≡◌, ℕ, ◌+◌, ◌≤◌, List, Option, Some, None}
-use Rattle.bc_core.specs.Tree.{Exp, Args, count, Root, Value, Test, Assign}
+use Rattle.std.specs.Prelude.{◌≡◌, ℕ, ◌+◌, ◌≤◌, Option, Some, None}
+use Rattle.bc_core.specs.Tree.{Exp, Args, count, Root}
 use Rattle.bc_derive.specs.declared.rule.Table.{Table}
 use Rattle.bc_derive.specs.declared.rule.Aim.{Aim}
 use Rattle.bc_derive.specs.declared.rule.Rule.{Rule}

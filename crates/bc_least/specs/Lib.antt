@@ -7,4 +7,5 @@ pub mod Readings
 pub mod Makes
 pub mod Attained
 pub mod Chosen
+pub mod Nodes
 pub mod Laws

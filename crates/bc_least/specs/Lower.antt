@@ -1,16 +1,14 @@
 -- For proofs: no derivation has fewer words than the choice of its aim, and with as many none begins with a lesser rule.
-use Rattle.std.proofs.Common.{◌≡◌, ℕ, ◌+◌, ◌*◌, ◌≤◌, List, [], ◌∷◌, Bool, true, false, not, Option, Some, None, IsTrue, cond, refl, ap, sym, subst, ◌∙◌, arith}
+use Rattle.std.proofs.Common.{◌≡◌, ℕ, ◌+◌, Bool, true, false, Option, Some, None, IsTrue, cond, refl, ap, sym, subst, ◌∙◌, arith}
 use Rattle.std.specs.Prelude.{is_some}
 use Rattle.bc_word.specs.declared.operator.Op.{Op}
 use Rattle.bc_word.specs.declared.operator.Op.TheVariants as operators
-use Rattle.bc_word.specs.Mirror.{mirror_of}
 use Rattle.bc_word.specs.Words.{negated}
 use Rattle.bc_core.specs.declared.operands.Operand.{Operand}
-use Rattle.bc_core.specs.Tree.{Exp, Num, Frame, Glob, Place, Load, Neg, Not, Bin, Cond, Call, Valof, Args, no_argument, argument, count}
+use Rattle.bc_core.specs.Tree.{Exp, Num, Frame, Glob, Place, Load, Neg, Not, Bin, Cond, Call, Valof, Args, count}
 use Rattle.bc_core.specs.Operand.{operand_of, constant_of}
 use Rattle.bc_derive.specs.declared.rule.Table.{Table}
 use Rattle.bc_derive.specs.declared.rule.Table.TheVariants.{Two}
-use Rattle.bc_derive.specs.declared.rule.Mode.{Mode}
 use Rattle.bc_derive.specs.declared.rule.Mode.TheVariants.{Any, Push}
 use Rattle.bc_derive.specs.declared.rule.Aim.{Aim}
 use Rattle.bc_derive.specs.declared.rule.Aim.TheVariants.{Gets, Jumps}
@@ -18,8 +16,6 @@ use Rattle.bc_derive.specs.Free.{is_plain, is_zero, beside_zero, without_zero}
 use Rattle.bc_derive.specs.Piece.{w, operand_words}
 use Rattle.bc_derive.specs.Rules.{Derives, v0, v1, v2, v3, v4, v6, v7, v8, v9, v10, v11, v12, v13, v14, v15, v16, v17, v18, v19, v20, v21, v22, v22_valof, j1, j2, j3, j4, j5, j6, j7, j8, j9, DerivesAll, no_more, one_more}
 use Rattle.bc_derive.specs.Code.{cost, all_cost}
-use Rattle.bc_least.specs.declared.choice.Choice.{Choice}
-use Rattle.bc_least.specs.declared.choice.Candidate.{Candidate}
 use Rattle.bc_least.specs.Least.{rule_number, first_rule}
 use Rattle.bc_least.specs.Options.{plus, more, sum, given, operand_cost, words_of}
 use Rattle.bc_least.specs.Choices.{choice_for, words_for, number_cost, zero_number, without, beside, has_tests_of_zero, choices, words_of_all, node_of}

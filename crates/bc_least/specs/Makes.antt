@@ -1,5 +1,5 @@
 -- For proofs: numbers that are the words of something.
-use Rattle.std.proofs.Common.{◌≡◌, ℕ, ◌+◌, List, [], ◌∷◌, ◌++◌, Bool, true, false, Option, Some, None, IsTrue, cond, refl, ap, sym, subst, ◌∙◌, arith}
+use Rattle.std.proofs.Common.{◌≡◌, ℕ, ◌+◌, List, [], ◌∷◌, ◌++◌, Bool, true, false, Option, Some, None, IsTrue, refl, ap, subst, ◌∙◌, arith}
 use Rattle.bc_core.specs.declared.operands.Operand.{Operand}
 use Rattle.bc_derive.specs.Piece.{operand_words}
 use Rattle.std.specs.Prelude.{nat_lt}

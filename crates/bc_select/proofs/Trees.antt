@@ -1,0 +1,17 @@
+-- Trees of rules as they lie in memory.
+use Rattle.std.proofs.Common.{◌≡◌, refl, ap, rules, List, [], ◌∷◌, ◌++◌}
+use Rattle.bc_derive.specs.declared.derivation.Derivation.{Derivation, Derivation', Row_of-Derivation, end_of-Derivation, more_of-Derivation, items-the_row-Derivation, out-Derivation, the_lemmas}
+use Rattle.bc_derive.specs.Rules.{by, part, end_with}
+use Rattle.bc_derive.specs.View.{derivation, derivations, derivations_of_row}
+
+rows_seen : {n : _} (r : Row_of-Derivation n) → derivations_of_row r ≡ derivations (items-the_row-Derivation n r)
+rows_seen end_of-Derivation = refl
+rows_seen (more_of-Derivation d ds) = ap (part (derivation d)) (rows_seen ds)
+
+-- a tree is seen with the list of its parts
+pub tree_view : (d : Derivation) → derivation d ≡ by (out-Derivation d).rule (derivations (out-Derivation d).parts.items)
+tree_view (Derivation' r shape ps) = let h = rows_seen ps in search (rules, the_lemmas)
+
+pub trees_append : (xs : List Derivation) (d : Derivation) → derivations (xs ++ (d ∷ [])) ≡ end_with (derivations xs) (derivation d)
+trees_append [] d = refl
+trees_append (x ∷ xs) d = ap (part (derivation x)) (trees_append xs d)

@@ -1,0 +1,7 @@
+use Rattle.std.proofs.Common.{rules}
+use Rattle.bc_derive.specs.declared.derivation.Derivation.{roll-Derivation, the_lemmas}
+use Rattle.bc_select.proofs.Trees.{tree_view}
+use Rattle.bc_select.proofs.tree.tree.Goals as goal
+
+pub returns : goal.returns
+returns c = let h = tree_view (roll-Derivation (record { rule = c.args.rule; parts = c.args.parts })) in search (rules, the_lemmas)

@@ -1,0 +1,7 @@
+-- For proofs: a list that is cut in two.
+use Rattle.std.specs.Prelude.{◌≡◌, List}
+use Rattle.bc_select.specs.declared.part.Part.{Part}
+
+pub record IsCut (first second : List Part) (xs ys : List Part) : Type 0 where
+  pub first_is : first ≡ xs
+  pub second_is : second ≡ ys

@@ -1,0 +1,177 @@
+// Words of candidates, and the least of them.
+#![tactic(auto, unfolding(bc_least::specs::Options::plus, bc_least::specs::Options::more, bc_least::specs::Options::sum, bc_least::specs::Options::operand_cost, bc_least::specs::Options::better, bc_least::specs::Options::least_from, bc_least::specs::Choices::number_cost))]
+
+ghost use Rattle.std.specs.Prelude.{◌≡◌, ◌<◌, ◌≤◌, ◌+◌, ◌==◌, ◌^◌};
+ghost use Rattle.bc_word.specs.Words.{number_of};
+ghost use Rattle.bc_derive.specs.Piece.{w, operand_words as words_of_operand};
+ghost use Rattle.bc_least.specs.Options.{plus as plus_of, more, sum as sum_of, operand_cost, words_of, better as better_of, least_from as least_of};
+ghost use Rattle.bc_least.specs.Choices.{number_cost as cost_of_number};
+ghost use Rattle.bc_select.specs.Small.{Small};
+
+use bc_core::{Base, Operand};
+use bc_derive::Rule;
+use bc_least::{Candidate, Choice};
+use bc_word::{Op, Word};
+
+/// The words that a number takes in an instruction.
+pub fn number_words(number: u64) -> u64
+    ensures words { result ≡ w number }
+    ensures few { result ≤ 2 }
+{
+    if number <= 511 { 1 } else { 2 }
+}
+
+/// The words that an operand takes.
+pub fn operand_words(operand: Operand) -> u64
+    ensures words { result ≡ words_of_operand operand }
+    ensures few { result ≤ 2 }
+{
+    match operand.base {
+        Base::Label => 2,
+        Base::Number | Base::P | Base::G => number_words(u64::from(operand.n.get())),
+    }
+}
+
+/// The words of adding the negation of a number.
+pub fn number_cost(number: Option<Word>) -> Option<u64>
+    ensures words { result ≡ cost_of_number number }
+    ensures small { Small result }
+{
+    let number = number?;
+    Some(number_words(u64::from(number.negated().get())))
+}
+
+/// The words of a choice.
+pub fn words(choice: Option<Choice>) -> Option<u64>
+    requires { Small (words_of choice) }
+    ensures words { result ≡ words_of choice }
+    ensures small { Small result }
+{
+    let choice = choice?;
+    Some(choice.words)
+}
+
+/// The same, however many they are.
+pub fn any_words(choice: Option<Choice>) -> Option<u64>
+    ensures { result ≡ words_of choice }
+{
+    let choice = choice?;
+    Some(choice.words)
+}
+
+/// So many words more.
+pub fn plus(x: Option<u64>, k: u64) -> Option<u64>
+    requires small { Small x }
+    requires few { k ≤ 16 }
+    ensures { result ≡ plus_of x k }
+{
+    let x = x?;
+    Some(x + k)
+}
+
+/// The words of both.
+pub fn sum(x: Option<u64>, y: Option<u64>) -> Option<u64>
+    requires first { Small x }
+    requires second { Small y }
+    ensures { result ≡ sum_of x y }
+{
+    let x = x?;
+    let y = y?;
+    Some(x + y)
+}
+
+/// The words of both, and so many more.
+pub fn both(x: Option<u64>, y: Option<u64>, k: u64) -> Option<u64>
+    requires first { Small x }
+    requires second { Small y }
+    requires few { k ≤ 16 }
+    ensures { result ≡ plus_of (sum_of x y) k }
+{
+    let x = x?;
+    let y = y?;
+    Some(x + y + k)
+}
+
+/// The words of all three, and so many more.
+pub fn three(x: Option<u64>, y: Option<u64>, z: Option<u64>, k: u64) -> Option<u64>
+    requires first { Small x }
+    requires second { Small y }
+    requires third { Small z }
+    requires few { k ≤ 16 }
+    ensures { result ≡ plus_of (sum_of (sum_of x y) z) k }
+{
+    let x = x?;
+    let y = y?;
+    let z = z?;
+    Some(x + y + z + k)
+}
+
+/// The words of an operand in an instruction of its own.
+pub fn alone(operand: Option<Operand>) -> Option<u64>
+    ensures { result ≡ operand_cost operand }
+{
+    let operand = operand?;
+    Some(operand_words(operand))
+}
+
+/// The words of an expression, and of an operand in the instruction behind it.
+pub fn with_operand(x: Option<u64>, operand: Option<Operand>) -> Option<u64>
+    requires { Small x }
+    ensures { result ≡ sum_of x (operand_cost operand) }
+{
+    let x = x?;
+    let operand = operand?;
+    Some(x + operand_words(operand))
+}
+
+/// The same with k words more.
+pub fn with_operand_and(x: Option<u64>, operand: Option<Operand>, k: u64) -> Option<u64>
+    requires small { Small x }
+    requires few { k ≤ 16 }
+    ensures { result ≡ sum_of x (more k (operand_cost operand)) }
+{
+    let x = x?;
+    let operand = operand?;
+    Some(x + (k + operand_words(operand)))
+}
+
+/// Whether an operator is this one.
+pub fn is(op: Op, wanted: Op) -> bool
+    ensures { result ≡ (number_of op == number_of wanted) }
+{
+    Word::from(op).get() == Word::from(wanted).get()
+}
+
+/// The better one of a choice and a candidate; of equal ones the choice.
+fn better(best: Option<Choice>, candidate: Candidate) -> Option<Choice>
+    ensures { result ≡ better_of best candidate.rule candidate.words }
+{
+    match (best, candidate.words) {
+        (_, None) => best,
+        (None, Some(words)) => Some(Choice {
+            words,
+            rule: candidate.rule,
+        }),
+        (Some(b), Some(words)) => {
+            if words < b.words {
+                Some(Choice {
+                    words,
+                    rule: candidate.rule,
+                })
+            } else {
+                Some(b)
+            }
+        }
+    }
+}
+
+/// The least of a choice and of candidates; of equal ones the first.
+pub fn least_from(best: Option<Choice>, candidates: &[Candidate]) -> Option<Choice>
+    ensures { result ≡ least_of best candidates.now }
+{
+    let mut least = best;
+    for candidate in candidates {
+        least = better(least, *candidate);
+    }
+    least
+}

@@ -1,0 +1,18 @@
+//! The derivation of least words of a root, with the least words of each of its nodes.
+#![tactic(auto)]
+
+mod candidates;
+mod layout;
+mod line;
+mod pair;
+mod part;
+mod plan;
+mod reading;
+mod row;
+mod selection;
+mod split;
+mod tree;
+
+pub use bc_derive::{Derivation, Rule};
+pub use row::Row;
+pub use selection::{Selected, rows, select};
