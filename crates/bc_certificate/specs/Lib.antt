@@ -1,0 +1,4 @@
+pub mod Verdict
+pub mod Against
+pub mod View
+pub mod Text
