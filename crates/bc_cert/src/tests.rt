@@ -34,15 +34,16 @@ fn answer(alloc: Global, text: &[u8]) -> Result<(usize, u64), CheckFault> {
 // The sample with a text in place of another.
 fn altered(alloc: Global, from: &str, to: &str) -> Result<(usize, u64), CheckFault> {
     let mut text = Vec::new(alloc);
-    let mut at = 0;
     let from = from.as_bytes();
-    while at < SAMPLE.len() {
-        if SAMPLE[at..].starts_with(from) {
+    let mut passed = 0;
+    for at in 0..SAMPLE.len() {
+        if passed > 0 {
+            passed -= 1;
+        } else if SAMPLE[at..].starts_with(from) {
             text.extend_from_slice(to.as_bytes())?;
-            at += from.len().max(1);
+            passed = from.len().saturating_sub(1);
         } else {
             text.push(SAMPLE[at])?;
-            at += 1;
         }
     }
     answer(alloc, text.as_slice())
