@@ -1,5 +1,5 @@
 -- The lines of an entry behind those so far, and the last line behind all.
-use Rattle.std.proofs.Common.{◌≡◌, List, ℕ, ◌++◌, length, Result, Ok, Err, OnOk, subst, ◌∙◌}
+use Rattle.std.proofs.Common.{◌++◌, length, Result, Ok, Err, OnOk, subst, ◌∙◌}
 use Rattle.std.proofs.KnownBytes.{Appends-trans}
 use Rattle.std.specs.Io.KnownBytes.{Appends}
 use Rattle.bc_derive.specs.declared.rule.Table.TheVariants.{Two}
