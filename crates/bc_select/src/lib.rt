@@ -16,3 +16,6 @@ mod tree;
 pub use bc_derive::{Derivation, Rule};
 pub use row::Row;
 pub use selection::{Selected, rows, select};
+
+#[cfg(test)]
+mod tests;
