@@ -1,4 +1,4 @@
-use Rattle.std.proofs.Common.{rules, ◌≡◌, ◌+◌, ◌≤◌, ap, arith}
+use Rattle.std.proofs.Common.{rules, ◌≡◌, ◌+◌, ap}
 use Rattle.bc_core.specs.Tree.{argument}
 use Rattle.bc_core.specs.View.{exp, args}
 use Rattle.bc_core.specs.WellFormed.{nodes, nodes_of_args}
