@@ -1,4 +1,4 @@
--- What `code_of` and `next_label` give.
+-- What `next_label` gives, and the offsets that a root's work uses.
 use Rattle.std.specs.Prelude.{◌≡◌, ℕ, ◌+◌, ◌≤◌, max, cond, Option, List}
 use Rattle.std.specs.Option.{SomeIff}
 use Rattle.bc_core.specs.Tree.{Root, Value, Test, Assign}
@@ -13,10 +13,6 @@ abbrev pub cells_of_root : Root → ℕ
 cells_of_root (Value s e) = cells_of_exp (λ n s. 0) e s
 cells_of_root (Test s sense e) = cells_of_exp (λ n s. 0) e s
 cells_of_root (Assign s v a) = cells_of_assignment (λ n s. 0) v a s
-
--- the code of the root's derivation with these rules, where its offsets and labels are words
-pub record IsCodeOf (r : Root) (x : Tree) (target first : ℕ) (pieces : List Piece) : Type 0 where
-  pub exact : (T : Table) (d : RootDerives T r) → root_shape d ≡ x → cells_of_root r ≤ 65536 → first + root_labels d ≤ 65536 → pieces ≡ root_code d target first
 
 -- the label behind those of the root's derivation with these rules; none where one of these is no word
 pub record IsNextLabel (r : Root) (x : Tree) (first : ℕ) (next : Option ℕ) : Type 0 where

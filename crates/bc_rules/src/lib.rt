@@ -1,4 +1,4 @@
-//! The rule table: whether a tree of rules is a derivation of a root, and the code of a derivation.
+//! Derivations: whether a tree of rules is one of a root, and what it takes.
 #![tactic(auto)]
 
 mod applying;
@@ -10,6 +10,8 @@ mod exchange;
 mod levels;
 mod parts;
 mod sizes;
+#[cfg(test)]
+mod tests;
 
 pub use bc_core::{Base, Operand, constant, operand};
 pub use bc_derive::{Aim, Derivation, Entry, Mode, Piece, Rule, Table};
