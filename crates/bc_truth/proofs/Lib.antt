@@ -7,3 +7,4 @@ pub mod Conditions
 pub mod Calls
 pub mod Assignments
 pub mod Derivations
+pub mod Witnesses
