@@ -1,10 +1,9 @@
 -- The words of a list of pieces, piece by piece.
-use Rattle.std.proofs.Common.{◌≡◌, ℕ, zero, suc, ◌+◌, ◌<◌, ◌≤◌, Bool, true, false, not, cond, nat_le, List, [], ◌∷◌, length, get_or, drop, refl, sym, ap, ◌∙◌, arith, add-one, zero-add, drop-cons}
-use Rattle.bc_item.specs.declared.item.Item.{Item}
+use Rattle.std.proofs.Common.{◌≡◌, ℕ, ◌+◌, ◌<◌, ◌≤◌, Bool, true, false, cond, nat_le, List, [], ◌∷◌, length, get_or, drop, refl, sym, ap, ◌∙◌, arith, add-one, zero-add, drop-cons}
 use Rattle.bc_item.specs.declared.item.Item.TheVariants.{Label, Data, DataLabel, Byte, Operation, Global}
 use Rattle.bc_item.specs.declared.item.Base.{Base}
 use Rattle.bc_item.specs.declared.item.Base.TheVariants as bases
-use Rattle.bc_item.specs.Sizes.{size, operation_size}
+use Rattle.bc_item.specs.Sizes.{operation_size}
 use Rattle.bc_derive.specs.declared.piece.Piece.{Piece}
 use Rattle.bc_derive.specs.declared.piece.Piece.TheVariants as pieces
 use Rattle.bc_derive.specs.declared.piece.Piece.TheVariants.{Body}

@@ -1,5 +1,5 @@
 -- Counts of labels and of cells, which stop at 65,537.
-use Rattle.std.proofs.Common.{◌≡◌, ℕ, ◌+◌, ◌<◌, ◌≤◌, min, max, Bool, true, false, cond, Option, Some, None, List, [], ◌∷◌, length, get_or, drop, take, refl, sym, ap, ◌∙◌, arith, ⊎_elim, length-drop, Vec, Box, Global}
+use Rattle.std.proofs.Common.{◌≡◌, ℕ, ◌+◌, ◌<◌, ◌≤◌, max, Bool, Option, Some, None, List, [], ◌∷◌, length, get_or, drop, refl, sym, ap, ◌∙◌, arith, ⊎_elim, length-drop, Vec, Box, Global}
 use Rattle.std.proofs.lemmas.List.{drop_all}
 use Rattle.std.proofs.lemmas.Bool.{cases_lt}
 use Rattle.bc_core.specs.declared.expression.CoreExp.{CoreExp}
@@ -15,8 +15,8 @@ use Rattle.bc_derive.specs.declared.rule.Mode.TheVariants.{Any}
 use Rattle.bc_derive.specs.declared.rule.Aim.{Aim}
 use Rattle.bc_derive.specs.declared.rule.Aim.TheVariants.{Gets}
 use Rattle.bc_derive.specs.declared.rule.Rule.{Rule}
-use Rattle.bc_derive.specs.Rules.{Tree, Trees, by, no_part, part, one, two, three}
-use Rattle.bc_derive.specs.Parts.{Parts, leaf, single, pair, triple, called, parts_of, assignment_parts, where_some, where_none}
+use Rattle.bc_derive.specs.Rules.{no_part, part}
+use Rattle.bc_derive.specs.Parts.{leaf, single, pair, triple, called, parts_of, assignment_parts, where_some, where_none}
 use Rattle.bc_derive.specs.ByShape.{own_labels, labels_by, labels_of_parts, labels_of_sides, root_labels_by}
 use Rattle.bc_derive.specs.View.{derivation, derivations}
 use Rattle.bc_rules.specs.Levels.{cells, cells_of_all}

@@ -1,13 +1,12 @@
 -- Whether trees fit, over lists of derivations as the program walks them.
-use Rattle.std.proofs.Common.{◌≡◌, ℕ, ◌+◌, ◌<◌, ◌≤◌, Bool, true, false, not, ◌&&◌, ◌||◌, cond, Option, Some, None, is_some, List, [], ◌∷◌, length, get_or, drop, refl, sym, ap, ◌∙◌, arith, ⊎_elim, length-drop}
-use Rattle.std.proofs.Math.Seq.{drop-length}
+use Rattle.std.proofs.Common.{◌≡◌, ℕ, ◌+◌, ◌<◌, ◌≤◌, Bool, true, false, not, ◌&&◌, ◌||◌, Option, Some, None, is_some, List, [], ◌∷◌, length, get_or, drop, refl, sym, ap, ◌∙◌, arith, ⊎_elim, length-drop}
 use Rattle.std.proofs.lemmas.List.{drop_all}
 use Rattle.std.proofs.lemmas.Bool.{cases_lt}
 use Rattle.bc_core.specs.declared.expression.CoreExp.{CoreExp}
 use Rattle.bc_core.specs.declared.operands.Operand.{Operand}
 use Rattle.bc_core.specs.Operand.{operand_of}
 use Rattle.bc_derive.specs.Free.{is_direct}
-use Rattle.bc_core.specs.Tree.{Exp, Bin, Args, no_argument, argument}
+use Rattle.bc_core.specs.Tree.{Exp, Args, no_argument, argument}
 use Rattle.bc_core.specs.Value.{has_call}
 use Rattle.bc_core.specs.View.{exp, args}
 use Rattle.bc_derive.specs.declared.derivation.Derivation.{Derivation, out-Derivation}
@@ -17,10 +16,10 @@ use Rattle.bc_derive.specs.declared.rule.Aim.{Aim}
 use Rattle.bc_derive.specs.declared.rule.Aim.TheVariants.{Gets}
 use Rattle.bc_derive.specs.declared.rule.Rule.{Rule}
 use Rattle.bc_derive.specs.declared.rule.Rule.TheVariants.{A1, A2, A3}
-use Rattle.bc_derive.specs.Rules.{Tree, Trees, by, no_part, part, one, two, three}
+use Rattle.bc_derive.specs.Rules.{Trees, by, no_part, part}
 use Rattle.bc_derive.specs.Parts.{Parts, no_rule, leaf, single, pair, triple, called, parts_of, assignment_parts, where_none}
 use Rattle.bc_derive.specs.View.{derivation, derivations}
-use Rattle.bc_rules.specs.Fits.{in_table, turns, turns_freely, may_turn, fits, parts_fit, parts_call, found, sides_free, sides_turn, assignment_fits}
+use Rattle.bc_rules.specs.Fits.{in_table, turns_freely, may_turn, fits, parts_fit, parts_call, found, sides_free, sides_turn, assignment_fits}
 use Rattle.bc_rules.proofs.Trees.{tree_view, one_tree, two_trees, three_trees, next_tree, next_argument}
 use Rattle.bc_rules.proofs.Calls.{whole_call}
 

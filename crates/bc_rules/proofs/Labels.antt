@@ -1,5 +1,5 @@
 -- The next label.
-use Rattle.std.proofs.Common.{◌≡◌, ℕ, ◌+◌, ◌≤◌, ◌<◌, min, Option, Some, None, ap, ◌∙◌, sym, arith}
+use Rattle.std.proofs.Common.{◌≡◌, ℕ, ◌+◌, ◌≤◌, ◌<◌, min, Some, None, ap, ◌∙◌, arith}
 use Rattle.bc_core.specs.Tree.{Root}
 use Rattle.bc_derive.specs.declared.rule.Table.{Table}
 use Rattle.bc_derive.specs.Rules.{RootDerives, root_shape, Tree}

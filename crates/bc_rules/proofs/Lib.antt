@@ -5,3 +5,4 @@ pub mod Bridge
 pub mod Counts
 pub mod Bytes
 pub mod Labels
+pub mod Written

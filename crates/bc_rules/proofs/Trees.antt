@@ -1,15 +1,15 @@
 -- Trees of rules as they lie in memory, and their parts.
-use Rattle.std.proofs.Common.{◌≡◌, ℕ, zero, suc, ◌+◌, ◌<◌, ◌≤◌, refl, ap, ◌∙◌, sym, arith, rules, Vec, Box, Global, List, [], ◌∷◌, length, get_or, drop, add-one, drop-cons}
+use Rattle.std.proofs.Common.{◌≡◌, ℕ, ◌+◌, ◌<◌, refl, ap, ◌∙◌, sym, arith, rules, Vec, Box, Global, List, [], ◌∷◌, length, get_or, drop, add-one, drop-cons}
 use Rattle.bc_core.specs.declared.expression.CoreExp.{CoreExp}
 use Rattle.bc_core.specs.declared.expression.CoreExp as expressions
 use Rattle.bc_core.specs.Tree.{argument}
 use Rattle.bc_core.specs.View.{exp, args}
 use Rattle.bc_core.proofs.Rows.{call_view}
-use Rattle.bc_derive.specs.declared.derivation.Derivation.{Derivation, Derivation', Row_of-Derivation, end_of-Derivation, more_of-Derivation, items-the_row-Derivation, items_shown-the_row-Derivation-0, out-Derivation, the_lemmas}
+use Rattle.bc_derive.specs.declared.derivation.Derivation.{Derivation, Derivation', Row_of-Derivation, end_of-Derivation, more_of-Derivation, items-the_row-Derivation, out-Derivation, the_lemmas}
 use Rattle.bc_derive.specs.declared.rule.Mode.TheVariants.{Any}
 use Rattle.bc_derive.specs.declared.rule.Aim.TheVariants.{Gets}
 use Rattle.bc_derive.specs.declared.rule.Rule.TheVariants.{V22}
-use Rattle.bc_derive.specs.Rules.{Tree, Trees, by, no_part, part, one, two, three}
+use Rattle.bc_derive.specs.Rules.{by, part, one, two, three}
 use Rattle.bc_derive.specs.Parts.{called, node_parts}
 use Rattle.bc_derive.specs.View.{derivation, derivations, derivations_of_row}
 

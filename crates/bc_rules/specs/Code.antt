@@ -1,5 +1,5 @@
--- What `next_label` gives, and the offsets that a root's work uses.
-use Rattle.std.specs.Prelude.{◌≡◌, ℕ, ◌+◌, ◌≤◌, max, cond, Option, List}
+-- What `code_of` and `next_label` give, and the offsets that a root's work uses.
+use Rattle.std.specs.Prelude.{◌≡◌, ℕ, ◌+◌, ◌≤◌, Option, List}
 use Rattle.std.specs.Option.{SomeIff}
 use Rattle.bc_core.specs.Tree.{Root, Value, Test, Assign}
 use Rattle.bc_core.specs.Layout.{cells_of_exp, cells_of_assignment}
@@ -17,3 +17,7 @@ cells_of_root (Assign s v a) = cells_of_assignment (λ n s. 0) v a s
 -- the label behind those of the root's derivation with these rules; none where one of these is no word
 pub record IsNextLabel (r : Root) (x : Tree) (first : ℕ) (next : Option ℕ) : Type 0 where
   pub exact : (T : Table) (d : RootDerives T r) → root_shape d ≡ x → SomeIff next (first + root_labels d ≤ 65536) (first + root_labels d)
+
+-- the code of the root's derivation with these rules
+pub record IsCodeOf (r : Root) (x : Tree) (target first : ℕ) (pieces : List Piece) : Type 0 where
+  pub exact : (T : Table) (d : RootDerives T r) → root_shape d ≡ x → pieces ≡ root_code d target first

@@ -1,6 +1,6 @@
 -- For proofs: whether a tree of rules is a derivation, by computing.
-use Rattle.std.specs.Prelude.{ℕ, ◌+◌, Bool, true, false, ◌&&◌, ◌||◌, not, cond, Option, Some, None}
-use Rattle.bc_core.specs.Tree.{Exp, Bin, Args, no_argument, argument, Root, Value, Test, Assign}
+use Rattle.std.specs.Prelude.{◌+◌, Bool, true, false, ◌&&◌, ◌||◌, not, cond, Option, Some, None}
+use Rattle.bc_core.specs.Tree.{Exp, Bin, no_argument, argument, Root, Value, Test, Assign}
 use Rattle.bc_core.specs.Value.{has_call}
 use Rattle.bc_derive.specs.declared.rule.Table.{Table}
 use Rattle.bc_derive.specs.declared.rule.Table.TheVariants.{One, Two}

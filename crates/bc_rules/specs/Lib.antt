@@ -4,3 +4,4 @@ pub mod Fits
 pub mod View
 pub mod Levels
 pub mod Words
+pub mod Adds

@@ -1,5 +1,5 @@
 -- For proofs: the words of the rest of a list of pieces, where the last byte may share its word.
-use Rattle.std.specs.Prelude.{ℕ, Bool, true, false, not, cond, List, [], ◌∷◌}
+use Rattle.std.specs.Prelude.{ℕ, Bool, true, false, not, cond, List, ◌∷◌}
 use Rattle.bc_item.specs.declared.item.Item.TheVariants.{Byte}
 use Rattle.bc_derive.specs.declared.piece.Piece.{Piece}
 use Rattle.bc_derive.specs.declared.piece.Piece.TheVariants.{Item, Body}

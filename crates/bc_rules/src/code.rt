@@ -1,11 +1,24 @@
-ghost use Rattle.std.specs.Prelude.{◌≡◌};
-ghost use Rattle.bc_core.specs.View.{root as root_of};
-ghost use Rattle.bc_derive.specs.View.{derivation as tree};
-ghost use Rattle.bc_rules.specs.Code.{IsNextLabel};
+ghost use Rattle.std.specs.Prelude.{IfOk, OnOk};
+ghost use Rattle.bc_core.specs.Tree.{Assign};
+ghost use Rattle.bc_core.specs.View.{exp, root as root_of};
+ghost use Rattle.bc_derive.specs.View.{derivation as tree, derivations};
+ghost use Rattle.bc_derive.specs.Parts.{single as single_of, pair as pair_of};
+ghost use Rattle.bc_derive.specs.ByShape.{labels_of_sides, code_of_sides, root_labels_by, root_code_by};
+ghost use Rattle.bc_rules.specs.Code.{IsCodeOf, IsNextLabel};
+ghost use Rattle.bc_rules.specs.Adds.{Writes};
+ghost use Rattle.bc_rules.specs.View.{parts};
 
+use crate::applying::assignment_parts;
+use crate::behind::{behind_sides, operate};
 use crate::counting::root_labels;
-use bc_core::Root;
-use bc_derive::Derivation;
+use crate::parts::{Part, Parts};
+use crate::writer::{Writer, more};
+use crate::writing::{Place, Sides, write};
+use bc_core::{CoreExp, Root, operand};
+use bc_derive::{Aim, Derivation, Mode, Piece, Rule};
+use bc_item::Function;
+use bc_word::Memory;
+use std::alloc::Global;
 
 /// The label behind those of a derivation of the root, which takes its labels from `first` on: from
 /// `first` to 65,536.
@@ -18,4 +31,147 @@ pub fn next_label(root: &Root, derivation: &Derivation, first: u16) -> Option<u3
 {
     let next = first as u32 + root_labels(root, derivation);
     if next <= 65_536 { Some(next) } else { None }
+}
+
+/// The code of a derivation of the root, by either table, which jumps to the label `target` and has its
+/// own labels from `first` on, a rule's before those of its parts; the body of a VALOF is one piece. Of a
+/// tree that is no derivation of the root nothing is said.
+///
+/// `Memory` comes where an allocation was refused, or where a label or an offset of the frame would be
+/// over 65,535.
+#[tactic(auto, using(crate::proofs::Written::code_is_written))]
+pub fn code_of(
+    alloc: Global,
+    root: &Root,
+    derivation: &Derivation,
+    target: u16,
+    first: u16,
+) -> Result<Vec<Piece>, Memory>
+    ensures { IfOk result (λ pieces. IsCodeOf (root_of root.now) (tree derivation.now) target first pieces.items) }
+{
+    let mut w = Writer::new(alloc, first);
+    write_root(&mut w, root, derivation, target)?;
+    Ok(w.pieces)
+}
+
+/// Writes the code of a root's derivation.
+fn write_root(w: &mut Writer, root: &Root, d: &Derivation, target: u16) -> Result<(), Memory>
+    ensures { OnOk result (Writes w.old w.new (root_code_by (root_of root.now) (tree d.now) target w.old.next) (root_labels_by (root_of root.now) (tree d.now))) }
+{
+    match root {
+        Root::Value { level, expression } => {
+            let level = *level as u32;
+            let aim = Aim::Gets(Mode::Any);
+            write(
+                w,
+                d,
+                Part {
+                    aim,
+                    of: expression,
+                },
+                Place { level, target },
+            )
+        }
+        Root::Test {
+            level,
+            sense,
+            expression,
+        } => {
+            let level = *level as u32;
+            let aim = Aim::Jumps(*sense);
+            write(
+                w,
+                d,
+                Part {
+                    aim,
+                    of: expression,
+                },
+                Place { level, target },
+            )
+        }
+        Root::Assign {
+            level,
+            value,
+            address,
+        } => {
+            let level = *level as u32;
+            assign(w, d, Assignment { value, address }, Place { level, target })
+        }
+    }
+}
+
+/// What is assigned, and to what.
+#[derive(Clone, Copy)]
+struct Assignment<'a> {
+    value: &'a CoreExp,
+    address: &'a CoreExp,
+}
+
+/// Writes the code of an assignment's derivation.
+#[tactic(auto, using(crate::proofs::Written::assignment_writes))]
+fn assign(w: &mut Writer, d: &Derivation, of: Assignment, place: Place) -> Result<(), Memory>
+    ensures { OnOk result (Writes w.old w.new (root_code_by (Assign place.level (exp of.entry.value.now) (exp of.entry.address.now)) (tree d.now) place.target w.old.next) (root_labels_by (Assign place.level (exp of.entry.value.now) (exp of.entry.address.now)) (tree d.now))) }
+{
+    let to = To {
+        rule: d.rule,
+        address: of.address,
+        place,
+    };
+    write_sides(
+        w,
+        &d.parts,
+        to,
+        assignment_parts(d.rule, of.value, of.address),
+    )
+}
+
+/// What is assigned to, by a rule.
+#[derive(Clone, Copy)]
+struct To<'a> {
+    rule: Rule,
+    address: &'a CoreExp,
+    place: Place,
+}
+
+/// Writes the code of an assignment's rule over its parts.
+#[tactic(auto, using(crate::proofs::Written::nothing))]
+fn write_sides(w: &mut Writer, trees: &[Derivation], to: To, of: Parts) -> Result<(), Memory>
+    ensures { OnOk result (Writes w.old w.new (code_of_sides to.entry.rule (exp to.entry.address.now) (parts of.entry) (derivations trees.now) to.entry.place.level to.entry.place.target w.old.next) (labels_of_sides (parts of.entry) (derivations trees.now))) }
+{
+    match of {
+        Parts::Single(a) => one_side(w, trees, to, a),
+        Parts::Pair(a, b) => two_sides(w, trees, to, Sides { a, b }),
+        Parts::NoRule | Parts::Leaf(_) | Parts::Triple(_, _, _) | Parts::Call(_, _) => Ok(()),
+    }
+}
+
+#[tactic(auto, using(crate::proofs::Written::side_writes, crate::proofs::Written::side_writes_not))]
+fn one_side(w: &mut Writer, trees: &[Derivation], to: To, a: Part) -> Result<(), Memory>
+    ensures { OnOk result (Writes w.old w.new (code_of_sides to.entry.rule (exp to.entry.address.now) (single_of a.entry.aim (exp a.entry.of.now)) (derivations trees.now) to.entry.place.level to.entry.place.target w.old.next) (labels_of_sides (single_of a.entry.aim (exp a.entry.of.now)) (derivations trees.now))) }
+{
+    if trees.len() != 1 {
+        return Ok(());
+    }
+    write(w, &trees[0], a, to.place)?;
+    operate(w, Function::Store, operand(to.address))?;
+    Ok(())
+}
+
+#[tactic(auto, using(crate::proofs::Written::sides_write, crate::proofs::Written::sides_write_not))]
+fn two_sides(w: &mut Writer, trees: &[Derivation], to: To, of: Sides) -> Result<(), Memory>
+    ensures { OnOk result (Writes w.old w.new (code_of_sides to.entry.rule (exp to.entry.address.now) (pair_of of.entry.a.aim (exp of.entry.a.of.now) of.entry.b.aim (exp of.entry.b.of.now)) (derivations trees.now) to.entry.place.level to.entry.place.target w.old.next) (labels_of_sides (pair_of of.entry.a.aim (exp of.entry.a.of.now) of.entry.b.aim (exp of.entry.b.of.now)) (derivations trees.now))) }
+{
+    if trees.len() != 2 {
+        return Ok(());
+    }
+    let level = more(to.place.level, 1)?;
+    let above = Place {
+        level,
+        target: to.place.target,
+    };
+    write(w, &trees[0], of.a, above)?;
+    w.cell(Function::Store, false, to.place.level)?;
+    write(w, &trees[1], of.b, above)?;
+    behind_sides(w, to.rule, to.place.level)?;
+    Ok(())
 }

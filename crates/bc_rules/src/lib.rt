@@ -1,7 +1,8 @@
-//! Derivations: whether a tree of rules is one of a root, and what it takes.
+//! The rule table: whether a tree of rules is a derivation of a root, and the code of a derivation.
 #![tactic(auto)]
 
 mod applying;
+mod behind;
 mod check;
 mod code;
 mod counting;
@@ -12,10 +13,12 @@ mod parts;
 mod sizes;
 #[cfg(test)]
 mod tests;
+mod writer;
+mod writing;
 
 pub use bc_core::{Base, Operand, constant, operand};
 pub use bc_derive::{Aim, Derivation, Entry, Mode, Piece, Rule, Table};
-pub use code::next_label;
+pub use code::{code_of, next_label};
 pub use derivation::{is_derivation, is_derivation_by};
 pub use exchange::free;
 pub use levels::offsets_are_words;

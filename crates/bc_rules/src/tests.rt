@@ -1,5 +1,6 @@
 use crate::{
-    Derivation, Piece, Rule, Table, free, is_derivation, is_derivation_by, next_label, words,
+    Derivation, Piece, Rule, Table, code_of, free, is_derivation, is_derivation_by, next_label,
+    words,
 };
 use bc_core::{CoreExp, Root};
 use bc_item::{Base, Function, Item};
@@ -241,8 +242,61 @@ fn byte() -> Piece {
     Piece::Item(Item::Byte(65))
 }
 
-fn label() -> Piece {
-    Piece::Item(Item::Label(Word::new(1)))
+fn label(n: u16) -> Piece {
+    Piece::Item(Item::Label(Word::new(n)))
+}
+
+fn at_cell(function: Function, n: u16) -> Piece {
+    operation(function, true, Base::P, n)
+}
+
+fn x(n: u16) -> Piece {
+    operation(Function::Execute, false, Base::Number, n)
+}
+
+#[test]
+fn the_code_of_a_product(rt: HostRuntime) -> Result<(), Fail> {
+    let alloc = rt.alloc();
+    let root = product(alloc)?;
+    let sum = over(alloc, Rule::V0, over(alloc, Rule::V6, pushed(alloc))?)?;
+    let difference = over(alloc, Rule::V11, pushed(alloc))?;
+    let by_push = two(alloc, Rule::V12, sum, difference)?;
+    let code = code_of(alloc, &root, &by_push, 0, 1)?;
+    let add = at_cell(Function::Add, 3);
+    let minus = at_cell(Function::Add, 4);
+    let b = at_cell(Function::Load, 5);
+    assert!(rt; code == vec![in alloc; at_cell(Function::Load, 2), add, b, x(2), minus, x(5)]?);
+    assert!(rt; words(&code) == 6);
+    Ok(())
+}
+
+#[test]
+fn the_code_of_a_test_has_its_label_behind_it(rt: HostRuntime) -> Result<(), Fail> {
+    let alloc = rt.alloc();
+    let root = test(false, bin(alloc, Op::Or, at(alloc, 2)?, at(alloc, 3)?)?);
+    let left = over(alloc, Rule::J6, got(alloc)?)?;
+    let either = two(alloc, Rule::J5, left, over(alloc, Rule::J6, got(alloc)?)?)?;
+    let code = code_of(alloc, &root, &either, 9, 65_535)?;
+    let over_it = operation(Function::JumpIfTrue, false, Base::Label, 65_535);
+    let away = operation(Function::JumpIfFalse, false, Base::Label, 9);
+    let a = at_cell(Function::Load, 2);
+    let b = at_cell(Function::Load, 3);
+    assert!(rt; code == vec![in alloc; a, over_it, b, away, label(65_535)]?);
+    Ok(())
+}
+
+#[test]
+fn an_offset_that_is_no_word_is_refused(rt: HostRuntime) -> Result<(), Fail> {
+    let alloc = rt.alloc();
+    let difference = bin(alloc, Op::Subtract, at(alloc, 2)?, at(alloc, 3)?)?;
+    let root = Root::Value {
+        level: 65_535,
+        expression: difference,
+    };
+    let by_cells = two(alloc, Rule::V17, got(alloc)?, got(alloc)?)?;
+    assert!(rt; is_derivation(&root, &by_cells));
+    assert!(rt; code_of(alloc, &root, &by_cells, 0, 1).is_err());
+    Ok(())
 }
 
 #[test]
@@ -252,10 +306,10 @@ fn words_of_pieces(rt: HostRuntime) -> Result<(), Fail> {
     code.push(operation(Function::Load, true, Base::P, 2))?;
     code.push(operation(Function::Store, false, Base::P, 512))?;
     code.push(operation(Function::Jump, false, Base::Label, 9))?;
-    code.push(label())?;
+    code.push(label(1))?;
     code.push(Piece::Body(7))?;
     assert!(rt; words(&code) == 5);
-    let bytes = vec![in alloc; byte(), byte(), byte(), label(), byte()]?;
+    let bytes = vec![in alloc; byte(), byte(), byte(), label(1), byte()]?;
     assert!(rt; words(&bytes) == 3);
     Ok(())
 }

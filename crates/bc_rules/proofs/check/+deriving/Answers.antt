@@ -1,5 +1,4 @@
 use Rattle.std.proofs.Common.{◌≡◌, length, arith, sym, ◌∙◌}
-use Rattle.bc_core.specs.View.{exp}
 use Rattle.bc_rules.proofs.Fitting.{call_end_misfit, call_end_none, call_end_some}
 use Rattle.bc_rules.proofs.check.+deriving.Goals.{call-then-trees-n-via-then-trees-n, call-then-trees-n-via-else-trees-n+then-trees-n-ne1}
 use Rattle.bc_rules.proofs.check.+deriving.Goals as goal

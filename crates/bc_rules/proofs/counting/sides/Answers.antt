@@ -1,4 +1,4 @@
-use Rattle.std.proofs.Common.{◌≡◌, min, sym, ap, ◌∙◌}
+use Rattle.std.proofs.Common.{min, sym, ap, ◌∙◌}
 use Rattle.bc_core.specs.View.{exp}
 use Rattle.bc_derive.specs.ByShape.{labels_of_parts}
 use Rattle.bc_derive.specs.View.{derivations}

@@ -1,4 +1,4 @@
-use Rattle.std.proofs.Common.{◌≡◌, sym, ◌∙◌}
+use Rattle.std.proofs.Common.{sym, ◌∙◌}
 use Rattle.bc_rules.proofs.Fitting.{assigned}
 use Rattle.bc_rules.proofs.derivation.assigns.Goals as goal
 

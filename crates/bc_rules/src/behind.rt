@@ -1,0 +1,221 @@
+//! What stands between the parts of a rule, and behind them.
+
+ghost use Rattle.std.specs.Prelude.{◌≡◌, [], OnOk};
+ghost use Rattle.bc_core.specs.View.{exp};
+ghost use Rattle.bc_derive.specs.ByShape.{left_operand as left_operand_of, right_operand as right_operand_of, right_constant as right_constant_of, operator_mirror, leaf_code, behind_single as behind_single_of, between as between_of, behind_pair as behind_pair_of, behind_sides as behind_sides_of, with_operand, less_constant, operator_number};
+ghost use Rattle.bc_derive.specs.Free.{jumps_at};
+ghost use Rattle.bc_derive.specs.Piece.{on};
+ghost use Rattle.bc_rules.specs.Adds.{Adds};
+
+use crate::parts::Part;
+use crate::writer::{Writer, more};
+use bc_core::{CoreExp, Operand, constant, operand};
+use bc_derive::{Aim, Piece, Rule};
+use bc_item::Function;
+use bc_word::{Memory, Word, mirror};
+
+fn left_operand(e: &CoreExp) -> Option<Operand>
+    ensures { result ≡ left_operand_of (exp e.now) }
+{
+    match e {
+        CoreExp::Bin(_, a, _) => operand(a),
+        _ => None,
+    }
+}
+
+fn right_operand(e: &CoreExp) -> Option<Operand>
+    ensures { result ≡ right_operand_of (exp e.now) }
+{
+    match e {
+        CoreExp::Bin(_, _, b) => operand(b),
+        _ => None,
+    }
+}
+
+fn right_constant(e: &CoreExp) -> Option<Word>
+    ensures { result ≡ right_constant_of (exp e.now) }
+{
+    match e {
+        CoreExp::Bin(_, _, b) => constant(b),
+        _ => None,
+    }
+}
+
+/// An operation on an operand, if there is one.
+pub fn operate(w: &mut Writer, function: Function, operand: Option<Operand>) -> Result<(), Memory>
+    ensures { OnOk result (Adds w.old w.new (with_operand (on function) operand [])) }
+{
+    match operand {
+        Some(o) => w.operate(function, o),
+        None => Ok(()),
+    }
+}
+
+/// `A` of the negation of a number, if there is one.
+fn less(w: &mut Writer, constant: Option<Word>) -> Result<(), Memory>
+    ensures { OnOk result (Adds w.old w.new (less_constant constant)) }
+{
+    match constant {
+        Some(n) => w.number(Function::Add, n.negated()),
+        None => Ok(()),
+    }
+}
+
+/// The operation of an operator.
+fn apply(w: &mut Writer, e: &CoreExp) -> Result<(), Memory>
+    ensures { OnOk result (Adds w.old w.new (operator_number (exp e.now))) }
+{
+    match e {
+        CoreExp::Bin(op, _, _) => w.number(Function::Execute, Word::from(*op)),
+        _ => Ok(()),
+    }
+}
+
+/// The operation of an operator's mirror.
+fn apply_mirror(w: &mut Writer, e: &CoreExp) -> Result<(), Memory>
+    ensures { OnOk result (Adds w.old w.new (operator_mirror (exp e.now))) }
+{
+    match e {
+        CoreExp::Bin(op, _, _) => match mirror(*op) {
+            Some(q) => w.number(Function::Execute, Word::from(q)),
+            None => Ok(()),
+        },
+        _ => Ok(()),
+    }
+}
+
+/// Whether a number jumps in a test position.
+fn jumps(sense: bool, n: Word) -> bool
+    ensures { result ≡ jumps_at sense n }
+{
+    if sense { n.get() != 0 } else { n.get() == 0 }
+}
+
+/// The code of a rule without parts.
+///
+/// `first` is the label of a VALOF.
+pub fn leaf(w: &mut Writer, rule: Rule, node: Part, target: u16, first: u32) -> Result<(), Memory>
+    ensures { OnOk result (Adds w.old w.new (leaf_code rule node.entry.aim (exp node.entry.of.now) target first)) }
+{
+    match rule {
+        Rule::V1 => operate(w, Function::Load, operand(node.of)),
+        _ => match node.of {
+            CoreExp::Num(n) => match node.aim {
+                Aim::Jumps(sense) => {
+                    if jumps(sense, *n) {
+                        w.jump(Function::Jump, target)
+                    } else {
+                        Ok(())
+                    }
+                }
+                Aim::Gets(_) => Ok(()),
+            },
+            CoreExp::Valof(n) => {
+                w.add(Piece::Body(*n as u64))?;
+                w.label(first)
+            }
+            _ => Ok(()),
+        },
+    }
+}
+
+/// What stands behind a rule's only part.
+pub fn behind_single(w: &mut Writer, rule: Rule, node: Part, target: u16) -> Result<(), Memory>
+    ensures { OnOk result (Adds w.old w.new (behind_single_of rule node.entry.aim (exp node.entry.of.now) target)) }
+{
+    match rule {
+        Rule::V2 => w.execute(1),
+        Rule::V3 => w.execute(2),
+        Rule::V4 => w.execute(3),
+        Rule::V6 => operate(w, Function::Add, right_operand(node.of)),
+        Rule::V7 => operate(w, Function::Add, left_operand(node.of)),
+        Rule::V9 => less(w, right_constant(node.of)),
+        Rule::V10 => {
+            w.execute(2)?;
+            operate(w, Function::Add, right_operand(node.of))?;
+            w.execute(2)
+        }
+        Rule::V11 => {
+            w.execute(2)?;
+            operate(w, Function::Add, left_operand(node.of))
+        }
+        Rule::J6 | Rule::J9 => match node.aim {
+            Aim::Jumps(sense) => w.jump_if(sense, target),
+            Aim::Gets(_) => Ok(()),
+        },
+        Rule::J8 => match node.aim {
+            Aim::Jumps(sense) => w.jump_if(!sense, target),
+            Aim::Gets(_) => Ok(()),
+        },
+        _ => Ok(()),
+    }
+}
+
+/// What stands between two parts.
+pub fn between(w: &mut Writer, rule: Rule, level: u32) -> Result<(), Memory>
+    ensures { OnOk result (Adds w.old w.new (between_of rule level)) }
+{
+    match rule {
+        Rule::V15 | Rule::V16 | Rule::V17 | Rule::V18 | Rule::V19 => {
+            w.cell(Function::Store, false, level)
+        }
+        _ => Ok(()),
+    }
+}
+
+/// What stands behind two parts.
+pub fn behind_pair(
+    w: &mut Writer,
+    rule: Rule,
+    e: &CoreExp,
+    level: u32,
+    first: u32,
+) -> Result<(), Memory>
+    ensures { OnOk result (Adds w.old w.new (behind_pair_of rule (exp e.now) level first)) }
+{
+    match rule {
+        Rule::V12 => apply(w, e),
+        Rule::V13 => apply_mirror(w, e),
+        Rule::V14 => {
+            w.execute(9)?;
+            w.execute(2)
+        }
+        Rule::V15 => {
+            w.cell(Function::Load, true, level)?;
+            apply_mirror(w, e)
+        }
+        Rule::V16 => {
+            w.cell(Function::Load, true, level)?;
+            apply(w, e)
+        }
+        Rule::V17 => {
+            let next = more(level, 1)?;
+            w.cell(Function::Store, false, next)?;
+            w.cell(Function::Load, true, level)?;
+            w.cell(Function::Load, true, next)?;
+            apply(w, e)
+        }
+        Rule::V18 => w.cell(Function::Add, true, level),
+        Rule::V19 => {
+            w.execute(2)?;
+            w.cell(Function::Add, true, level)
+        }
+        Rule::J3 | Rule::J5 => w.label(first),
+        _ => Ok(()),
+    }
+}
+
+/// What stands behind the two sides of an assignment.
+pub fn behind_sides(w: &mut Writer, rule: Rule, level: u32) -> Result<(), Memory>
+    ensures { OnOk result (Adds w.old w.new (behind_sides_of rule level)) }
+{
+    match rule {
+        Rule::A2 => w.cell(Function::Store, true, level),
+        _ => {
+            let next = more(level, 1)?;
+            w.cell(Function::Store, false, next)?;
+            w.cell(Function::Load, true, level)?;
+            w.cell(Function::Store, true, next)
+        }
+    }
+}

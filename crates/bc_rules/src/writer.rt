@@ -1,0 +1,160 @@
+ghost use Rattle.std.specs.Prelude.{◌≡◌, [], ◌∷◌, ◌++◌, ◌+◌, true, false, IfOk, OnOk};
+ghost use Rattle.bc_item.specs.declared.item.Item.TheVariants.{Operation};
+ghost use Rattle.bc_derive.specs.Piece.{on, X, jump_if as jump_if_of, label as label_of};
+ghost use Rattle.bc_derive.specs.declared.piece.Piece.TheVariants.{Item as item};
+ghost use Rattle.bc_item.specs.declared.item.Base.TheVariants.{P};
+ghost use Rattle.bc_rules.specs.Adds.{Adds, Takes};
+
+use bc_core::Operand;
+use bc_derive::Piece;
+use bc_item::{Base, Function, Item};
+use bc_word::{Memory, Word};
+use std::alloc::Global;
+
+fn push(pieces: &mut Vec<Piece>, piece: Piece) -> Result<(), Memory>
+    ensures { OnOk result (pieces.new.items ≡ pieces.old.items ++ piece ∷ []) }
+{
+    match piece {
+        Piece::Item(item) => pieces.push(Piece::Item(item))?,
+        Piece::Body(n) => pieces.push(Piece::Body(n))?,
+    }
+    Ok(())
+}
+
+/// A number as a word; `Memory` where it is over 65,535.
+pub fn as_word(n: u32) -> Result<u16, Memory>
+    ensures { IfOk result (λ word. word ≡ n) }
+{
+    if n < 65_536 {
+        Ok(n as u16)
+    } else {
+        Err(Memory)
+    }
+}
+
+/// So much more than a number; `Memory` where that is over 65,536.
+pub fn more(n: u32, by: u32) -> Result<u32, Memory>
+    ensures { IfOk result (λ sum. sum ≡ n + by) }
+{
+    let sum = n as u64 + by as u64;
+    if sum <= 65_536 {
+        Ok(sum as u32)
+    } else {
+        Err(Memory)
+    }
+}
+
+/// Code as it is written, and the next free label.
+///
+/// What would be an offset or a label over 65,535 is answered by `Memory`.
+#[derive(Drop)]
+pub struct Writer {
+    pub pieces: Vec<Piece>,
+    pub next: u32,
+}
+
+impl Writer {
+    ghost use Rattle.bc_rules.specs.Adds.{Adds, Takes};
+
+    /// No code yet, with the labels from this one on.
+    pub fn new(alloc: Global, first: u16) -> Writer
+        ensures empty { result.pieces.items ≡ [] }
+        ensures next { result.next ≡ first }
+    {
+        Writer {
+            pieces: Vec::new(alloc),
+            next: first as u32,
+        }
+    }
+
+    /// Takes so many labels, and gives the first of them.
+    pub fn take(&mut self, count: u32) -> Result<u32, Memory>
+        ensures first { IfOk result (λ first. first ≡ self.old.next) }
+        ensures takes { OnOk result (Takes self.old self.new count) }
+    {
+        let first = self.next;
+        self.next = more(first, count)?;
+        Ok(first)
+    }
+
+    pub fn add(&mut self, piece: Piece) -> Result<(), Memory>
+        ensures { OnOk result (Adds self.old self.new (piece ∷ [])) }
+    {
+        push(&mut self.pieces, piece)
+    }
+
+    /// An operation on an operand.
+    pub fn operate(&mut self, function: Function, operand: Operand) -> Result<(), Memory>
+        ensures { OnOk result (Adds self.old self.new (on function operand ∷ [])) }
+    {
+        self.add(Piece::Item(Item::Operation {
+            function,
+            indirect: !operand.direct,
+            base: operand.base,
+            number: operand.n,
+        }))
+    }
+
+    /// An operation on the frame's cell at an offset, or with `indirect` on that which it holds.
+    pub fn cell(&mut self, function: Function, indirect: bool, offset: u32) -> Result<(), Memory>
+        ensures { OnOk result (Adds self.old self.new (item (Operation function indirect P offset) ∷ [])) }
+    {
+        let number = Word::new(as_word(offset)?);
+        self.add(Piece::Item(Item::Operation {
+            function,
+            indirect,
+            base: Base::P,
+            number,
+        }))
+    }
+
+    /// An operation with a number.
+    pub fn number(&mut self, function: Function, number: Word) -> Result<(), Memory>
+        ensures { OnOk result (Adds self.old self.new (item (Operation function false Base.Number number) ∷ [])) }
+    {
+        self.add(Piece::Item(Item::Operation {
+            function,
+            indirect: false,
+            base: Base::Number,
+            number,
+        }))
+    }
+
+    /// `Xn`.
+    pub fn execute(&mut self, n: u16) -> Result<(), Memory>
+        ensures { OnOk result (Adds self.old self.new (X n ∷ [])) }
+    {
+        self.number(Function::Execute, Word::new(n))
+    }
+
+    /// A jump to a label.
+    pub fn jump(&mut self, function: Function, target: u16) -> Result<(), Memory>
+        ensures { OnOk result (Adds self.old self.new (item (Operation function false Base.Label target) ∷ [])) }
+    {
+        self.add(Piece::Item(Item::Operation {
+            function,
+            indirect: false,
+            base: Base::Label,
+            number: Word::new(target),
+        }))
+    }
+
+    /// A jump to a label where A is true, or where it is false.
+    pub fn jump_if(&mut self, sense: bool, target: u16) -> Result<(), Memory>
+        ensures { OnOk result (Adds self.old self.new (jump_if_of sense target ∷ [])) }
+    {
+        if sense {
+            self.jump(Function::JumpIfTrue, target)
+        } else {
+            self.jump(Function::JumpIfFalse, target)
+        }
+    }
+
+    /// A label.
+    pub fn label(&mut self, n: u32) -> Result<(), Memory>
+        ensures { OnOk result (Adds self.old self.new (label_of n ∷ [])) }
+    {
+        let number = Word::new(as_word(n)?);
+        self.add(Piece::Item(Item::Label(number)))
+    }
+}

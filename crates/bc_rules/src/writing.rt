@@ -1,0 +1,243 @@
+//! The code of a derivation, rule by rule.
+
+ghost use Rattle.std.specs.Prelude.{◌≡◌, IfOk, OnOk};
+ghost use Rattle.bc_core.specs.View.{exp, args};
+ghost use Rattle.bc_derive.specs.View.{derivation, derivations};
+ghost use Rattle.bc_derive.specs.Parts.{leaf as leaf_of, single as single_of, pair as pair_of, triple as triple_of, called};
+ghost use Rattle.bc_derive.specs.ByShape.{part_level as part_level_of, first_target as first_target_of, labels_by, labels_of_parts, code_by, code_of_parts};
+ghost use Rattle.bc_rules.specs.View.{parts};
+ghost use Rattle.bc_rules.specs.Adds.{Writes};
+
+use crate::applying::parts_of;
+use crate::behind::{behind_pair, behind_single, between, leaf};
+use crate::counting::own_labels;
+use crate::parts::{Part, Parts};
+use crate::writer::{Writer, as_word, more};
+use bc_core::CoreExp;
+use bc_derive::{Aim, Derivation, Mode, Rule};
+use bc_item::Function;
+use bc_word::{Memory, Word};
+
+/// Where the code of a part stands: its level, and the label that it jumps to.
+#[derive(Clone, Copy)]
+pub struct Place {
+    pub level: u32,
+    pub target: u16,
+}
+
+/// The level of a rule's only part.
+fn part_level(rule: Rule, level: u32) -> Result<u32, Memory>
+    ensures { IfOk result (λ it. it ≡ part_level_of rule level) }
+{
+    match rule {
+        Rule::V0 | Rule::V2 | Rule::V3 | Rule::V4 | Rule::J1 | Rule::J6 => Ok(level),
+        _ => more(level, 1),
+    }
+}
+
+/// The label that the first of two parts jumps to.
+fn first_target(rule: Rule, target: u16, first: u32) -> Result<u16, Memory>
+    ensures { IfOk result (λ it. it ≡ first_target_of rule target first) }
+{
+    match rule {
+        Rule::J3 | Rule::J5 => as_word(first),
+        _ => Ok(target),
+    }
+}
+
+/// What gets code: an expression for an aim by a rule, at a level, and the label that it jumps to.
+#[derive(Clone, Copy)]
+struct Node<'a> {
+    rule: Rule,
+    aim: Aim,
+    of: &'a CoreExp,
+    level: u32,
+    target: u16,
+}
+
+/// Two parts.
+#[derive(Clone, Copy)]
+pub struct Sides<'a> {
+    pub a: Part<'a>,
+    pub b: Part<'a>,
+}
+
+/// Three parts.
+#[derive(Clone, Copy)]
+struct Three<'a> {
+    a: Part<'a>,
+    b: Part<'a>,
+    c: Part<'a>,
+}
+
+/// The arguments of a call, and the routine.
+#[derive(Clone, Copy)]
+struct CallOf<'a> {
+    arguments: &'a [CoreExp],
+    routine: &'a CoreExp,
+}
+
+/// Writes the code of a derivation.
+#[cycle(writing)]
+#[tactic(auto, using(crate::proofs::Written::tree_writes))]
+pub fn write(w: &mut Writer, d: &Derivation, part: Part, place: Place) -> Result<(), Memory>
+    ensures { OnOk result (Writes w.old w.new (code_by (derivation d.now) part.entry.aim (exp part.entry.of.now) place.level place.target w.old.next) (labels_by (derivation d.now) part.entry.aim (exp part.entry.of.now))) }
+{
+    let node = Node {
+        rule: d.rule,
+        aim: part.aim,
+        of: part.of,
+        level: place.level,
+        target: place.target,
+    };
+    write_parts(w, &d.parts, node, parts_of(d.rule, part.aim, part.of))
+}
+
+/// Writes the code of a rule over its parts.
+#[cycle(writing)]
+#[tactic(auto, using(crate::proofs::Written::none_writes))]
+fn write_parts(w: &mut Writer, trees: &[Derivation], node: Node, of: Parts) -> Result<(), Memory>
+    ensures { OnOk result (Writes w.old w.new (code_of_parts node.entry.rule node.entry.aim (exp node.entry.of.now) (parts of.entry) (derivations trees.now) node.entry.level node.entry.target w.old.next) (labels_of_parts node.entry.rule (parts of.entry) (derivations trees.now))) }
+{
+    match of {
+        Parts::NoRule => Ok(()),
+        Parts::Leaf(valof) => no_parts(w, trees, node, valof),
+        Parts::Single(a) => one_part(w, trees, node, a),
+        Parts::Pair(a, b) => two_parts(w, trees, node, Sides { a, b }),
+        Parts::Triple(a, b, c) => three_parts(w, trees, node, Three { a, b, c }),
+        Parts::Call(arguments, routine) => call(w, trees, node, CallOf { arguments, routine }),
+    }
+}
+
+#[tactic(auto, using(crate::proofs::Written::leaf_writes, crate::proofs::Written::leaf_writes_not))]
+fn no_parts(w: &mut Writer, trees: &[Derivation], node: Node, valof: bool) -> Result<(), Memory>
+    ensures { OnOk result (Writes w.old w.new (code_of_parts node.entry.rule node.entry.aim (exp node.entry.of.now) (leaf_of valof) (derivations trees.now) node.entry.level node.entry.target w.old.next) (labels_of_parts node.entry.rule (leaf_of valof) (derivations trees.now))) }
+{
+    if !trees.is_empty() {
+        return Ok(());
+    }
+    let first = w.take(if valof { 1 } else { 0 })?;
+    let part = Part {
+        aim: node.aim,
+        of: node.of,
+    };
+    leaf(w, node.rule, part, node.target, first)?;
+    Ok(())
+}
+
+#[cycle(writing)]
+#[tactic(auto, using(crate::proofs::Written::single_writes, crate::proofs::Written::single_writes_not))]
+fn one_part(w: &mut Writer, trees: &[Derivation], node: Node, a: Part) -> Result<(), Memory>
+    ensures { OnOk result (Writes w.old w.new (code_of_parts node.entry.rule node.entry.aim (exp node.entry.of.now) (single_of a.entry.aim (exp a.entry.of.now)) (derivations trees.now) node.entry.level node.entry.target w.old.next) (labels_of_parts node.entry.rule (single_of a.entry.aim (exp a.entry.of.now)) (derivations trees.now))) }
+{
+    if trees.len() != 1 {
+        return Ok(());
+    }
+    let level = part_level(node.rule, node.level)?;
+    write(
+        w,
+        &trees[0],
+        a,
+        Place {
+            level,
+            target: node.target,
+        },
+    )?;
+    let part = Part {
+        aim: node.aim,
+        of: node.of,
+    };
+    behind_single(w, node.rule, part, node.target)?;
+    Ok(())
+}
+
+#[cycle(writing)]
+#[tactic(auto, using(crate::proofs::Written::pair_writes, crate::proofs::Written::pair_writes_not))]
+fn two_parts(w: &mut Writer, trees: &[Derivation], node: Node, of: Sides) -> Result<(), Memory>
+    ensures { OnOk result (Writes w.old w.new (code_of_parts node.entry.rule node.entry.aim (exp node.entry.of.now) (pair_of of.entry.a.aim (exp of.entry.a.of.now) of.entry.b.aim (exp of.entry.b.of.now)) (derivations trees.now) node.entry.level node.entry.target w.old.next) (labels_of_parts node.entry.rule (pair_of of.entry.a.aim (exp of.entry.a.of.now) of.entry.b.aim (exp of.entry.b.of.now)) (derivations trees.now))) }
+{
+    if trees.len() != 2 {
+        return Ok(());
+    }
+    let first = w.take(own_labels(node.rule))?;
+    let level = more(node.level, 1)?;
+    let target = first_target(node.rule, node.target, first)?;
+    write(w, &trees[0], of.a, Place { level, target })?;
+    between(w, node.rule, node.level)?;
+    write(
+        w,
+        &trees[1],
+        of.b,
+        Place {
+            level,
+            target: node.target,
+        },
+    )?;
+    behind_pair(w, node.rule, node.of, node.level, first)?;
+    Ok(())
+}
+
+#[cycle(writing)]
+#[tactic(auto, using(crate::proofs::Written::triple_writes, crate::proofs::Written::triple_writes_not))]
+fn three_parts(w: &mut Writer, trees: &[Derivation], node: Node, of: Three) -> Result<(), Memory>
+    ensures { OnOk result (Writes w.old w.new (code_of_parts node.entry.rule node.entry.aim (exp node.entry.of.now) (triple_of of.entry.a.aim (exp of.entry.a.of.now) of.entry.b.aim (exp of.entry.b.of.now) of.entry.c.aim (exp of.entry.c.of.now)) (derivations trees.now) node.entry.level node.entry.target w.old.next) (labels_of_parts node.entry.rule (triple_of of.entry.a.aim (exp of.entry.a.of.now) of.entry.b.aim (exp of.entry.b.of.now) of.entry.c.aim (exp of.entry.c.of.now)) (derivations trees.now))) }
+{
+    if trees.len() != 3 {
+        return Ok(());
+    }
+    let first = w.take(2)?;
+    let here = Place {
+        level: node.level,
+        target: node.target,
+    };
+    let level = node.level;
+    let target = as_word(first)?;
+    write(w, &trees[0], of.a, Place { level, target })?;
+    write(w, &trees[1], of.b, here)?;
+    let second = more(first, 1)?;
+    w.jump(Function::Jump, as_word(second)?)?;
+    w.label(first)?;
+    write(w, &trees[2], of.c, here)?;
+    w.label(second)?;
+    Ok(())
+}
+
+#[cycle(writing)]
+fn call(w: &mut Writer, trees: &[Derivation], node: Node, of: CallOf) -> Result<(), Memory>
+    ensures { OnOk result (Writes w.old w.new (code_of_parts node.entry.rule node.entry.aim (exp node.entry.of.now) (called 0 (args of.entry.arguments.now) (exp of.entry.routine.now)) (derivations trees.now) node.entry.level node.entry.target w.old.next) (labels_of_parts node.entry.rule (called 0 (args of.entry.arguments.now) (exp of.entry.routine.now)) (derivations trees.now))) }
+{
+    let aim = Aim::Gets(Mode::Any);
+    let mut level = more(node.level, 2)?;
+    for (i, argument) in of.arguments.iter().enumerate() {
+        if i >= trees.len() {
+            return Ok(());
+        }
+        let here = Place {
+            level,
+            target: node.target,
+        };
+        write(w, &trees[i], Part { aim, of: argument }, here)?;
+        w.cell(Function::Store, false, level)?;
+        level = more(level, 1)?;
+    }
+    let n = of.arguments.len();
+    if trees.len() <= n || trees.len() - n != 1 {
+        return Ok(());
+    }
+    let here = Place {
+        level,
+        target: node.target,
+    };
+    write(
+        w,
+        &trees[n],
+        Part {
+            aim,
+            of: of.routine,
+        },
+        here,
+    )?;
+    let number = Word::new(as_word(node.level)?);
+    w.number(Function::Call, number)?;
+    Ok(())
+}
