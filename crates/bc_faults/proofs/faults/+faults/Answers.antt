@@ -1,0 +1,137 @@
+use Rattle.std.proofs.Common.{sym, ◌∙◌, ◌+◌, drop, append_assoc, arith}
+use Rattle.std.proofs.lemmas.Result.{err_from_is_err_and}
+use Rattle.bc_tree.specs.View.{exp_view, exps_view, item_view, items_view}
+use Rattle.bc_names.specs.View.{scope_view, numbers_view}
+use Rattle.bc_scoping.specs.Numbering.{behind}
+use Rattle.bc_scoping.specs.Frames.{width, widths}
+use Rattle.bc_faults.specs.Parts.{head_level, side_width}
+use Rattle.bc_faults.specs.Seen.{allowed_view, met_view}
+use Rattle.bc_faults.proofs.Frames.{frames_along, max_along}
+use Rattle.bc_faults.proofs.Held.{exp_held, entry_held, declaration_held, definition_held, item_held, label_held}
+use Rattle.bc_faults.proofs.Lists.{exps_on, declarations_on, definitions_on, items_on, drop_one}
+use Rattle.bc_faults.proofs.Turns.{fault_whole, item_fault_on, item_found_on, item_width_on, side_fault_on, side_found_on, side_widths_on}
+use Rattle.bc_faults.proofs.faults.+faults.Goals as goal
+
+pub arguments-expression-requires : goal.arguments-expression-requires
+arguments-expression-requires t c = (omega (arith, exp_held c.args.list.now c.loop-e.e-index c.e-item.result c.loop-e-test.true c.e-item.is, c.decreases), tt)
+
+pub constants-constant_fault-requires : goal.constants-constant_fault-requires
+constants-constant_fault-requires t c = (omega (arith, exp_held c.args.list.now c.loop-e.e-index c.e-item.result c.loop-e-test.true c.e-item.is, c.decreases), tt)
+
+pub sides-expression-requires : goal.sides-expression-requires
+sides-expression-requires t c = (omega (arith, exp_held c.args.list.now c.loop-e.e-index c.e-item.result c.loop-e-test.true c.e-item.is, c.decreases), tt)
+
+pub initials-expression-requires : goal.initials-expression-requires
+initials-expression-requires t c = (omega (arith, exp_held c.args.list.now c.loop-e.e-index c.e-item.result c.loop-e-test.true c.e-item.is, c.decreases), tt)
+
+pub entries-constant_fault-requires : goal.entries-constant_fault-requires
+entries-constant_fault-requires t c = (omega (arith, entry_held c.args.list.now c.loop-entry.entry-index c.entry-item.result c.loop-entry-test.true c.entry-item.is, c.decreases), tt)
+
+pub definitions-definition-requires : goal.definitions-definition-requires
+definitions-definition-requires t c = (omega (arith, definition_held c.args.list.now c.loop-tree.tree-index c.tree-item.result c.loop-tree-test.true c.tree-item.is, c.decreases), tt)
+
+pub declarations-declaration-requires : goal.declarations-declaration-requires
+declarations-declaration-requires t c = (omega (arith, declaration_held c.args.list.now c.loop-tree.tree-index c.tree-item.result c.loop-tree-test.true c.tree-item.is, c.decreases), tt)
+
+pub labels-label-requires : goal.labels-label-requires
+labels-label-requires t c = (omega (arith, label_held c.args.list.now c.loop-tree.tree-index c.tree-item.result c.loop-tree-test.true c.tree-item.is, c.decreases), tt)
+
+pub items-one_item-requires : goal.items-one_item-requires
+items-one_item-requires t c = (omega (arith, item_held c.args.trees.now c.loop-tree.tree-index c.tree-item.result c.loop-tree-test.true c.tree-item.is, c.decreases), tt)
+
+pub arguments-loop-e-preserved : goal.arguments-loop-e-preserved
+arguments-loop-e-preserved t c =
+    let n = exps_on c.args.list.now c.loop-e.e-index c.e-item.result c.loop-e-test.true c.e-item.is in
+    let v = rw n at c.loop-e.invariant in
+    let w = c.in_ok-expression.ensures in
+    let a = c.in_ok-above.ensures in (
+      rw (w.2, a) (rw w.0 at v.0),
+      rw (w.2, a, c.max-width.ensures, w.1) (max_along _ _ _ ∙ v.1),
+      rw w.2 v.2,
+      rw (w.2, a, w.3) (simp frames_along at v.3),
+    )
+
+pub initials-loop-e-preserved : goal.initials-loop-e-preserved
+initials-loop-e-preserved t c =
+    let n = exps_on c.args.list.now c.loop-e.e-index c.e-item.result c.loop-e-test.true c.e-item.is in
+    let v = rw n at c.loop-e.invariant in
+    let w = c.in_ok-expression.ensures in (
+      rw w.2 (rw w.0 at v.0),
+      rw (w.2, c.max-width.ensures, w.1) (max_along _ _ _ ∙ v.1),
+      rw w.2 v.2,
+      rw (w.2, w.3) (simp frames_along at v.3),
+    )
+
+pub definitions-loop-tree-preserved : goal.definitions-loop-tree-preserved
+definitions-loop-tree-preserved t c =
+    let n = definitions_on c.args.list.now c.loop-tree.tree-index c.tree-item.result c.loop-tree-test.true c.tree-item.is in
+    let v = rw n at c.loop-tree.invariant in
+    let w = c.in_ok-definition.ensures in (
+      rw (w.2, w.4) (rw w.0 at v.0),
+      rw (w.2, c.max-width.ensures, w.1) (max_along _ _ _ ∙ v.1),
+      rw w.2 v.2,
+      rw (w.2, w.3) (simp frames_along at v.3),
+    )
+
+pub declarations-loop-tree-preserved : goal.declarations-loop-tree-preserved
+declarations-loop-tree-preserved t c =
+    let n = declarations_on c.args.list.now c.loop-tree.tree-index c.tree-item.result c.loop-tree-test.true c.tree-item.is in
+    let v = rw n at c.loop-tree.invariant in
+    let w = c.in_ok-extent.ensures in (
+      rw (w.1, w.2, w.4) (rw w.0 at v.0),
+      rw (w.1, w.2, w.4) v.1,
+      rw (w.1, w.2, w.4) v.2,
+      rw (w.1, w.2, w.4, c.max-width.ensures, w.3) (max_along _ _ _ ∙ v.3),
+      rw w.4 v.4,
+      rw (w.1, w.2, w.4, w.5) (simp frames_along at v.5),
+    )
+
+pub items-loop-tree-preserved : goal.items-loop-tree-preserved
+items-loop-tree-preserved t c =
+    let E = scope_view c.args.scope.now in
+    let at0 = numbers_view c.loop-tree.progress.at in
+    let i = item_view c.tree-item.result in
+    let is = items_view (drop (c.loop-tree.tree-index + 1) c.args.trees.now) in
+    let n = items_on c.args.trees.now c.loop-tree.tree-index c.tree-item.result c.loop-tree-test.true c.tree-item.is in
+    let v = rw n at c.loop-tree.invariant in
+    let w = c.in_ok-one_item.ensures in
+    let f = item_fault_on c.args.list.cases (met_view c.loop-tree.met) (allowed_view c.args.list.allowed) E at0 i is c.args.level in
+    let g = item_found_on E at0 i is c.args.level in
+    let h = item_width_on E at0 i is c.args.level in (
+      rw (w.2, w.4) (rw w.0 at (sym f ∙ v.0)),
+      rw (w.2, c.max-width.ensures, w.1) (max_along _ _ _ ∙ rw h at v.1),
+      rw w.2 v.2,
+      rw (w.2, w.3) (simp frames_along at (rw g at v.3)),
+    )
+
+pub sides-loop-e-preserved : goal.sides-loop-e-preserved
+sides-loop-e-preserved t c =
+    let E = scope_view c.args.scope.now in
+    let at0 = numbers_view c.loop-e.progress.at in
+    let x = exp_view c.e-item.result in
+    let es = exps_view (drop (c.loop-e.e-index + 1) c.args.list.now) in
+    let ss = drop c.loop-e.i c.args.levels.now in
+    let d = drop_one c.args.levels.now c.loop-e.i in
+    let n = exps_on c.args.list.now c.loop-e.e-index c.e-item.result c.loop-e-test.true c.e-item.is in
+    let v = rw n at c.loop-e.invariant in
+    let l = c.level_at.ensures in
+    let w = rw l at c.in_ok-width.ensures in
+    let p = c.in_ok-push_width.ensures in
+    let a = c.in_ok-i.ensures in (
+      rw (w.2, a, sym d) (rw w.0 at (sym (side_fault_on E at0 x es ss) ∙ v.0)),
+      rw (w.2, a, sym d, p.1, w.1) (append_assoc c.loop-e.widths.items (side_width ss (width E at0 x (head_level ss))) (widths E (behind at0 x) es (drop 1 ss)) ∙ rw (side_widths_on E at0 x es ss) at v.1),
+      rw w.2 v.2,
+      rw (w.2, a, sym d, w.3) (simp frames_along at (rw (side_found_on E at0 x es ss) at v.3)),
+    )
+
+pub items-returns-in_err-one_item : goal.items-returns-in_err-one_item
+items-returns-in_err-one_item t c =
+    let E = scope_view c.args.scope.now in
+    let at0 = numbers_view c.loop-tree.progress.at in
+    let i = item_view c.tree-item.result in
+    let is = items_view (drop (c.loop-tree.tree-index + 1) c.args.trees.now) in
+    let n = items_on c.args.trees.now c.loop-tree.tree-index c.tree-item.result c.loop-tree-test.true c.tree-item.is in
+    let v = rw n at c.loop-tree.invariant in
+    let f = item_fault_on c.args.list.cases (met_view c.loop-tree.met) (allowed_view c.args.list.allowed) E at0 i is c.args.level in
+    let p = err_from_is_err_and c.from_residual.result c.from_residual.ensures.1 in
+    rw (p.1, p.2) (fault_whole _ _ _ _ _ f v.0 c.in_err-one_item.ensures)
