@@ -1,0 +1,92 @@
+-- The body of a VALOF, found by its number.
+use Rattle.std.proofs.Math.ListN.{get_or-map}
+use Rattle.std.proofs.Common.{ℕ, zero, suc, ◌+◌, ◌<◌, ◌≤◌, ◌≡◌, ◌==◌, Bool, true, false, List, [], ◌∷◌, drop, length, get_or, eq-eqb, length-drop, append_assoc, subst, Result, Ok, Err, ◌-◌, refl, ap, sym, ◌∙◌, arith}
+use Rattle.std.proofs.lemmas.Bool.{eqb-true}
+use Rattle.std.proofs.lemmas.List.{length-map, get_or-drop, drop-drop}
+use Rattle.bc_core.specs.declared.command.Valof as code
+use Rattle.bc_core.specs.View.{valof_of, block_of}
+use Rattle.bc_core.specs.Commands.{Valof}
+use Rattle.bc_emit.specs.Emit.{Code, Roots, Exits, zero_item, emit_block}
+use Rattle.bc_emit.specs.Bodies.{BodiesCode, body_exits, emit_valof, bodies_from, level_of}
+use Rattle.bc_emit.specs.Entries.{Marked, Plain, marked_over}
+use Rattle.bc_gen.specs.declared.writer.Writer.{Writer}
+use Rattle.bc_gen.specs.Chosen.{coding}
+use Rattle.bc_gen.specs.Surroundings.{roots_of, bodies_of, valofs_in}
+use Rattle.bc_gen.specs.Writing.{Writes, Puts}
+use Rattle.bc_gen.proofs.Forms.{there, Wrote}
+
+abbrev choice : Bool → Code Marked → Code Marked → Code Marked
+choice t x y = elim t [ true ↦ x | false ↦ y ]
+
+at_test : (t : Bool) (x y z : Code Marked) → (t ≡ true → x ≡ z) → (t ≡ false → y ≡ z) → choice t x y ≡ z
+at_test true x y z p q = p refl
+at_test false x y z p q = q refl
+
+-- there is no body with a number below the first, or behind the last
+pub none_before : (over : BodiesCode Marked → Roots Marked) (first : ℕ) (vs : List Valof) (n s l f : ℕ) → n < first → bodies_from Plain over first vs n s l f ≡ ([], f)
+none_before over first [] n s l f h = refl
+none_before over first (v ∷ vs) n s l f h =
+    let k : n < first + 1 = omega (arith, h) in
+    at_test (n == first) _ _ _ (λ t. absurd (omega (arith, eqb-true n first t, h))) (λ t. none_before over (first + 1) vs n s l f k)
+
+pub none_behind : (over : BodiesCode Marked → Roots Marked) (first : ℕ) (vs : List Valof) (n s l f : ℕ) → first + length vs ≤ n → bodies_from Plain over first vs n s l f ≡ ([], f)
+none_behind over first [] n s l f h = refl
+none_behind over first (v ∷ vs) n s l f h =
+    let k : first + 1 + length vs ≤ n = omega (arith, h) in
+    at_test (n == first) _ _ _ (λ t. absurd (omega (arith, eqb-true n first t, h))) (λ t. none_behind over (first + 1) vs n s l f k)
+
+pub body_at : (over : BodiesCode Marked → Roots Marked) (first : ℕ) (vs : List Valof) (k : ℕ) (v : Valof) (n s l f : ℕ) → n ≡ first + k → k < length vs
+    → bodies_from Plain over first vs n s l f ≡ emit_valof Plain (over (bodies_from Plain over (n + 1) (drop (suc k) vs))) (get_or vs k v).body n s l f
+body_at over first [] k v n s l f e h = absurd (omega (arith, h))
+body_at over first (u ∷ vs) zero v n s l f e h =
+    let m : n ≡ first = omega (arith, e) in
+    at_test (n == first) _ _ _
+    (λ t. ap (λ (j : ℕ). emit_valof Plain (over (bodies_from Plain over (j + 1) vs)) u.body n s l f) (sym m))
+    (λ t. absurd (no t m))
+  where
+    no : (n == first) ≡ false → n ≡ first → ⊥
+    no t m = cc (eq-eqb n first m)
+body_at over first (u ∷ vs) (suc k) v n s l f e h =
+    let g : k < length vs = omega (arith, h) in
+    let j : n ≡ first + 1 + k = omega (arith, e) in
+    at_test (n == first) _ _ _ (λ t. absurd (omega (arith, eqb-true n first t, e))) (λ t. body_at over (first + 1) vs k v n s l f j g)
+
+pub level_at : (vs : List Valof) (n : ℕ) (v : Valof) → n < length vs → level_of vs n ≡ (get_or vs n v).level
+level_at [] n v h = absurd (omega (arith, h))
+level_at (u ∷ vs) zero v h = refl
+level_at (u ∷ vs) (suc n) v h = let g : n < length vs = omega (arith, h) in level_at vs n v g
+
+pub outside : (vs : List code.Valof) (least n : ℕ) → least ≤ n → length vs ≤ n → least + length (drop least (valofs_in vs)) ≤ n
+outside vs least n h g = let e = length-drop least (valofs_in vs) in let m = length-map vs valof_of in omega (arith, h, g, e, m)
+
+-- the code of the body with this number
+body_is : (cvs : List code.Valof) (least n : ℕ) (v : code.Valof) (l f : ℕ) → least ≤ n → n < length cvs → v ≡ get_or cvs n v
+    → bodies_of (valofs_in cvs) least n (level_of (valofs_in cvs) n) l f ≡ emit_valof Plain (roots_of (valofs_in cvs) (n + 1)) (block_of v.body) n v.level l f
+body_is cvs least n v l f h g e =
+    let vs = valofs_in cvs in
+    let over = marked_over coding (level_of vs) in
+    let k = n - least in
+    let d = valof_of v in
+    let m = length-map cvs valof_of in
+    let within : k < length (drop least vs) = omega (arith, length-drop least vs, m, h, g) in
+    let nk : n ≡ least + k = omega (arith, h) in
+    let nk1 : least + suc k ≡ n + 1 = omega (arith, h) in
+    let inside : n < length vs = omega (arith, m, g) in
+    let found : get_or vs n d ≡ d = get_or-map valof_of cvs n v ∙ ap valof_of (sym e) in
+    let found_behind : get_or (drop least vs) k d ≡ d = get_or-drop least vs k d ∙ ap (λ (j : ℕ). get_or vs j d) (sym nk) ∙ found in
+    let rest : drop (suc k) (drop least vs) ≡ drop (n + 1) vs = drop-drop (suc k) least vs ∙ ap (λ (j : ℕ). drop j vs) nk1 in
+    let level : level_of vs n ≡ v.level = level_at vs n d inside ∙ ap (λ (u : Valof). u.level) found in
+    ap (λ (s : ℕ). bodies_of vs least n s l f) level
+    ∙ body_at over least (drop least vs) k d n v.level l f nk within
+    ∙ ap (λ (u : Valof). emit_valof Plain (over (bodies_from Plain over (n + 1) (drop (suc k) (drop least vs)))) u.body n v.level l f) found_behind
+    ∙ ap (λ (us : List Valof). emit_valof Plain (over (bodies_from Plain over (n + 1) us)) d.body n v.level l f) rest
+
+pub valof_writes : {X Y : Type 0} (r : Result X Y) (cvs : List code.Valof) (least n : ℕ) (v : code.Valof) (roots1 : Roots Marked) (E1 : Exits) (l : ℕ) (w0 w1 w2 : Writer)
+    → least ≤ n → n < length cvs → v ≡ get_or cvs n v → roots1 ≡ roots_of (valofs_in cvs) (n + 1) → E1 ≡ body_exits l
+    → Wrote w0 w1 (emit_block Plain roots1 (block_of v.body) v.level E1 w0.next) → Puts r w1 w2 (Plain zero_item ∷ [])
+    → Writes r w0 w2 (bodies_of (valofs_in cvs) least n (level_of (valofs_in cvs) n) l w0.next)
+valof_writes (Err x) cvs least n v roots1 E1 l w0 w1 w2 h g e er ee h1 h2 = h2
+valof_writes (Ok x) cvs least n v roots1 E1 l w0 w1 w2 h g e er ee h1 h2 =
+    let b = body_is cvs least n v l w0.next h g e in
+    let P : Code Marked → Type 0 = λ c. Wrote w0 w2 c in
+    subst P (sym b) (rw (h2.0, h2.1, h1.0, h1.1, er, ee) (append_assoc (there w0) (emit_block Plain (roots_of (valofs_in cvs) (n + 1)) (block_of v.body) v.level (body_exits l) w0.next).0 (Plain zero_item ∷ []), refl))

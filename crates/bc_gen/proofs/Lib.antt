@@ -1,0 +1,7 @@
+pub mod Weights
+pub mod Labels
+pub mod Forms
+pub mod Turns
+pub mod Bodies
+pub mod Whole
+pub mod Choosing
