@@ -1,0 +1,5 @@
+pub mod Along
+pub mod Finding
+pub mod Lists
+pub mod Pairs
+pub mod Views

@@ -1,0 +1,375 @@
+//! The translation of blocks and commands.
+ghost use Rattle.std.specs.Prelude.{◌≡◌, ◌+◌, ◌++◌, ◌∷◌, [], map, IfOk};
+ghost use Rattle.bc_core.specs.View.{variable, declarations as declarations_of, command as command_of, items as items_of, block_of as core_block_of};
+ghost use Rattle.bc_tree.specs.View.{exp_view, exps_view, command_view, block_view, declaration_view, declarations_view, definition_view, definitions_view, entries_view, label_view, labels_view, item_view, items_view};
+ghost use Rattle.bc_scoping.specs.Source.{label_number as label_number_of};
+ghost use Rattle.bc_scoping.specs.Scoping.{in_entries, in_declaration, in_declarations, in_list, in_for, cells_in, level_behind};
+ghost use Rattle.bc_scoping.specs.Scope.{behind_labels};
+ghost use Rattle.bc_scoping.specs.Numbering.{labels_of, labels_in as labels_in_of, behind_entries, behind, behind_all, behind_block, behind_declarations, behind_definitions, behind_declaration, behind_definition as behind_definition_of, behind_items, behind_item, behind_command};
+ghost use Rattle.bc_scoping.specs.Translation.{forms, forms_of_all, initials as initials_of, core_definition, core_definitions, core_declaration, core_declarations, core_block, core_items, core_command, block_of as block_of_one};
+ghost use Rattle.bc_core.specs.Level.{level_in_for};
+ghost use Rattle.bc_names.specs.View.{meant_view, scope_view, numbers_view};
+ghost use Rattle.bc_resolving.specs.Seen.{Translates, entry_view, label_entries, labels_before, command_entry, ACommand, condition_view};
+
+use crate::assignments::assigned;
+use crate::commands::{chosen, conditional, counting, forever, looped, nested, repeated, switch};
+use crate::expressions::{call, value};
+use crate::forms::block_of;
+use bc_core::{
+    Block as CoreBlock, Command as CoreCommand, Condition, Declaration as CoreDeclaration,
+    ListItem, Variable,
+};
+use bc_names::{
+    Meant, Numbers, Scope, before_let, behind_definition, behind_entry, cells_of_all, constant,
+    declare_entry, declare_list, declare_pending, in_let, labels_in, short, sum,
+};
+use bc_tree::{Block, Command, Constant, Declaration, Definition, Exp, Item, Label, Storage};
+use bc_word::{Memory, Word};
+
+/// Initialisers.
+fn initials<'s>(
+    scope: &Scope<'s>,
+    at: &mut Numbers,
+    variables: &mut Vec<Variable>,
+    list: &[Exp<'s>],
+) -> Result<(), Memory>
+    ensures { Translates (λ _. map variable variables.new.items) result (map variable variables.old.items ++ initials_of (forms_of_all (scope_view scope.now) (numbers_view at.old) (exps_view list.now))) at.new (behind_all (numbers_view at.old) (exps_view list.now)) }
+{
+    for e in list {
+        variables.push(Variable::Value(value(scope, at, e)?))?;
+    }
+    Ok(())
+}
+
+/// The variables of a definition, whose constants see the names in `constants`.
+fn definition<'s>(
+    scope: &Scope<'s>,
+    constants: &Scope<'s>,
+    at: &mut Numbers,
+    variables: &mut Vec<Variable>,
+    tree: &Definition<'s>,
+) -> Result<(), Memory>
+    ensures { Translates (λ _. map variable variables.new.items) result (map variable variables.old.items ++ core_definition (scope_view scope.now) (scope_view constants.now) (numbers_view at.old) (definition_view tree.now)) at.new (behind_definition_of (numbers_view at.old) (definition_view tree.now)) }
+{
+    match tree {
+        Definition::Variables(_, values) => initials(scope, at, variables, values),
+        Definition::Vector(_, greatest) => {
+            Ok(variables.push(Variable::Vector(constant(constants, greatest)))?)
+        }
+        Definition::Function(_, _, _) | Definition::Routine(_, _, _) => {
+            *at = behind_definition(*at, tree)?;
+            Ok(())
+        }
+    }
+}
+
+/// The variables of a LET.
+fn definitions<'s>(
+    scope: &Scope<'s>,
+    constants: &Scope<'s>,
+    at: &mut Numbers,
+    list: &[Definition<'s>],
+) -> Result<Vec<Variable>, Memory>
+    ensures { Translates (λ vs. map variable vs.items) result (core_definitions (scope_view scope.now) (scope_view constants.now) (numbers_view at.old) (definitions_view list.now)) at.new (behind_definitions (numbers_view at.old) (definitions_view list.now)) }
+{
+    let mut variables = Vec::new(scope.alloc());
+    for tree in list {
+        definition(scope, constants, at, &mut variables, tree)?;
+    }
+    Ok(variables)
+}
+
+/// The names of a declaration of constants.
+fn entries<'s>(
+    scope: &mut Scope<'s>,
+    at: &mut Numbers,
+    storage: Storage,
+    list: &[Constant<'s>],
+) -> Result<(), Memory>
+    ensures { Translates (λ _. scope_view scope.new) result (in_entries storage (numbers_view at.old) (entries_view list.now) (scope_view scope.old)) at.new (behind_entries storage (numbers_view at.old) (entries_view list.now)) }
+{
+    for entry in list {
+        declare_entry(scope, storage, *at, entry)?;
+        *at = behind_entry(storage, *at)?;
+    }
+    Ok(())
+}
+
+/// A declaration at this next free offset, whose names are then known; given is the next free offset behind it.
+fn declaration<'s>(
+    scope: &mut Scope<'s>,
+    at: &mut Numbers,
+    declarations: &mut Vec<CoreDeclaration>,
+    tree: &Declaration<'s>,
+    level: u64,
+) -> Result<u64, Memory>
+    ensures { IfOk result (λ s. (s ≡ level + cells_in (scope_view scope.old) (declaration_view tree.now)) × (scope_view scope.new ≡ in_declaration (scope_view scope.old) (numbers_view at.old) level (declaration_view tree.now)) × (numbers_view at.new ≡ behind_declaration (numbers_view at.old) (declaration_view tree.now)) × (declarations_of declarations.new.items ≡ declarations_of declarations.old.items ++ core_declaration (scope_view scope.old) (numbers_view at.old) level (declaration_view tree.now))) }
+{
+    match tree {
+        Declaration::Constants(storage, list) => {
+            declare_pending(scope, list)?;
+            entries(scope, at, *storage, list)?;
+            Ok(level)
+        }
+        Declaration::Let(list) => {
+            let constants = before_let(scope, list)?;
+            let names = in_let(scope, &constants, *at, level, list)?;
+            let behind = sum(level, cells_of_all(&constants, list)?)?;
+            let variables = definitions(&names, &constants, at, list)?;
+            declarations.push(CoreDeclaration { variables })?;
+            *scope = names;
+            Ok(behind)
+        }
+    }
+}
+
+/// Declarations from this next free offset on, whose names are then known; given is the next free offset behind them.
+fn declarations<'s>(
+    scope: &mut Scope<'s>,
+    at: &mut Numbers,
+    declarations: &mut Vec<CoreDeclaration>,
+    list: &[Declaration<'s>],
+    level: u64,
+) -> Result<u64, Memory>
+    ensures { IfOk result (λ s. (s ≡ level_behind (scope_view scope.old) (numbers_view at.old) level (declarations_view list.now)) × (scope_view scope.new ≡ in_declarations (scope_view scope.old) (numbers_view at.old) level (declarations_view list.now)) × (numbers_view at.new ≡ behind_declarations (numbers_view at.old) (declarations_view list.now)) × (declarations_of declarations.new.items ≡ declarations_of declarations.old.items ++ core_declarations (scope_view scope.old) (numbers_view at.old) level (declarations_view list.now))) }
+{
+    let mut behind = level;
+    for tree in list {
+        behind = declaration(scope, at, declarations, tree, behind)?;
+    }
+    Ok(behind)
+}
+
+/// The labels before a command, the first of which has this number; given is the number behind them.
+fn labels<'s>(
+    scope: &Scope<'s>,
+    list: &mut Vec<ListItem>,
+    number: u64,
+    trees: &[Label<'s>],
+) -> Result<u64, Memory>
+    ensures { IfOk result (λ n. (n ≡ number + labels_of (labels_view trees.now)) × (map entry_view list.new.items ≡ map entry_view list.old.items ++ label_entries (scope_view scope.now) number (labels_view trees.now))) }
+{
+    let mut number = number;
+    for tree in trees {
+        match tree {
+            Label::Case(value) => list.push(ListItem::Case(constant(scope, value)))?,
+            Label::Default => list.push(ListItem::Default)?,
+            Label::Name(_) => {
+                list.push(ListItem::Label(short(number)?))?;
+                number = sum(number, 1)?;
+            }
+        }
+    }
+    Ok(number)
+}
+
+fn condition<'s>(
+    scope: &Scope<'s>,
+    at: &mut Numbers,
+    sense: bool,
+    test: &Exp<'s>,
+) -> Result<Condition, Memory>
+    ensures { Translates condition_view result (sense, (forms (scope_view scope.now) (numbers_view at.old) (exp_view test.now)).content) at.new (behind (numbers_view at.old) (exp_view test.now)) }
+{
+    let test = value(scope, at, test)?;
+    Ok(Condition { sense, test })
+}
+
+fn label_number(meant: Meant) -> u64
+    ensures { result ≡ label_number_of (meant_view meant) }
+{
+    match meant {
+        Meant::Label(number) => number,
+        _ => 0,
+    }
+}
+
+fn entry(labelled: CoreCommand) -> ListItem
+    ensures { entry_view result ≡ ACommand (command_of labelled) }
+{
+    ListItem::Command(labelled)
+}
+
+/// A block at this level.
+#[cycle(blocks)]
+pub fn block<'s>(
+    scope: &Scope<'s>,
+    at: &mut Numbers,
+    tree: &Block<'s>,
+    level: u64,
+) -> Result<CoreBlock, Memory>
+    ensures { Translates core_block_of result (core_block (scope_view scope.now) (numbers_view at.old) (block_view tree.now) level) at.new (behind_block (numbers_view at.old) (block_view tree.now)) }
+{
+    let mut inner = scope.copied()?;
+    let mut opened = Vec::new(scope.alloc());
+    let level = declarations(&mut inner, at, &mut opened, &tree.declarations, level)?;
+    let list = command_list(&mut inner, at, &tree.items, level)?;
+    Ok(CoreBlock {
+        declarations: opened,
+        list,
+    })
+}
+
+/// A command list, whose labels become known in it.
+#[cycle(blocks)]
+fn command_list<'s>(
+    scope: &mut Scope<'s>,
+    at: &mut Numbers,
+    trees: &[Item<'s>],
+    level: u64,
+) -> Result<Vec<ListItem>, Memory>
+    ensures { Translates (λ is. items_of is.items) result (core_items (in_list at.old.label (items_view trees.now) (scope_view scope.old)) at.old.label (behind_labels (numbers_view at.old) (labels_in_of (items_view trees.now))) (items_view trees.now) level) at.new (behind_items (behind_labels (numbers_view at.old) (labels_in_of (items_view trees.now))) (items_view trees.now)) }
+{
+    let number = at.label;
+    declare_list(scope, number, trees)?;
+    *at = at.behind_labels(labels_in(trees)?)?;
+    items(scope, at, number, trees, level)
+}
+
+/// The items of a list, the first label of which has this number.
+#[cycle(blocks)]
+fn items<'s>(
+    scope: &Scope<'s>,
+    at: &mut Numbers,
+    number: u64,
+    trees: &[Item<'s>],
+    level: u64,
+) -> Result<Vec<ListItem>, Memory>
+    ensures { Translates (λ is. items_of is.items) result (core_items (scope_view scope.now) number (numbers_view at.old) (items_view trees.now) level) at.new (behind_items (numbers_view at.old) (items_view trees.now)) }
+{
+    let mut list = Vec::new(scope.alloc());
+    let mut number = number;
+    for tree in trees {
+        let mut placed = item(scope, at, &mut number, tree, level)?;
+        list.append(&mut placed)?;
+    }
+    Ok(list)
+}
+
+/// An item, the first label of which has this number, which is then that behind it.
+#[cycle(blocks)]
+fn item<'s>(
+    scope: &Scope<'s>,
+    at: &mut Numbers,
+    number: &mut u64,
+    tree: &Item<'s>,
+    level: u64,
+) -> Result<Vec<ListItem>, Memory>
+    ensures { IfOk result (λ is. (map entry_view is.items ≡ label_entries (scope_view scope.now) number.old (labels_before (item_view tree.now)) ++ command_entry (scope_view scope.now) (numbers_view at.old) (item_view tree.now) level) × (numbers_view at.new ≡ behind_item (numbers_view at.old) (item_view tree.now)) × (number.new ≡ number.old + labels_of (labels_before (item_view tree.now)))) }
+{
+    let mut list = Vec::new(scope.alloc());
+    *number = labels(scope, &mut list, *number, &tree.labels)?;
+    match &tree.command {
+        Some(labelled) => {
+            let labelled = command(scope, at, labelled, level)?;
+            list.push(entry(labelled))?;
+            Ok(list)
+        }
+        None => Ok(list),
+    }
+}
+
+/// The body of a REPEAT word.
+#[cycle(blocks)]
+fn body<'s>(
+    scope: &Scope<'s>,
+    at: &mut Numbers,
+    tree: &Command<'s>,
+    level: u64,
+) -> Result<CoreBlock, Memory>
+    ensures { Translates core_block_of result (block_of_one (core_command (scope_view scope.now) (numbers_view at.old) (command_view tree.now) level)) at.new (behind_command (numbers_view at.old) (command_view tree.now)) }
+{
+    let repeated = command(scope, at, tree, level)?;
+    block_of(scope.alloc(), repeated)
+}
+
+/// The body of a FOR over this variable.
+#[cycle(blocks)]
+fn counted<'s>(
+    scope: &Scope<'s>,
+    at: &mut Numbers,
+    variable: &'s [u8],
+    tree: &Block<'s>,
+    level: u64,
+) -> Result<CoreBlock, Memory>
+    ensures { Translates core_block_of result (core_block (in_for (scope_view scope.now) variable.entry.now level) (numbers_view at.old) (block_view tree.now) (level_in_for level)) at.new (behind_block (numbers_view at.old) (block_view tree.now)) }
+{
+    let mut inner = scope.copied()?;
+    inner.declare(variable, Meant::Variable(level))?;
+    block(&inner, at, tree, sum(level, 2)?)
+}
+
+#[cycle(blocks)]
+fn command<'s>(
+    scope: &Scope<'s>,
+    at: &mut Numbers,
+    tree: &Command<'s>,
+    level: u64,
+) -> Result<CoreCommand, Memory>
+    ensures { Translates command_of result (core_command (scope_view scope.now) (numbers_view at.old) (command_view tree.now) level) at.new (behind_command (numbers_view at.old) (command_view tree.now)) }
+{
+    match tree {
+        Command::Assign(places, values) => assigned(scope, at, places, values),
+        Command::Call(routine, values) => {
+            Ok(CoreCommand::Call(call(scope, at, routine, values)?))
+        }
+        Command::Block(tree) => Ok(nested(block(scope, at, tree, level)?)),
+        Command::Break => Ok(CoreCommand::Break),
+        Command::Loop => Ok(CoreCommand::Loop),
+        Command::EndCase => Ok(CoreCommand::Endcase),
+        Command::Return => Ok(CoreCommand::Return),
+        Command::Finish => Ok(CoreCommand::Finish),
+        Command::ResultIs(result) => Ok(CoreCommand::Resultis(value(scope, at, result)?)),
+        Command::Goto(name) => {
+            let number = short(label_number(scope.meant_by(name)))?;
+            Ok(CoreCommand::Goto(number))
+        }
+        Command::Repeat(tree) => Ok(forever(body(scope, at, tree, level)?)),
+        Command::RepeatWhile(tree, test) => {
+            let body = body(scope, at, tree, level)?;
+            Ok(repeated(body, condition(scope, at, true, test)?))
+        }
+        Command::RepeatUntil(tree, test) => {
+            let body = body(scope, at, tree, level)?;
+            Ok(repeated(body, condition(scope, at, false, test)?))
+        }
+        Command::If(test, tree) => {
+            let test = condition(scope, at, true, test)?;
+            Ok(conditional(test, block(scope, at, tree, level)?))
+        }
+        Command::Unless(test, tree) => {
+            let test = condition(scope, at, false, test)?;
+            Ok(conditional(test, block(scope, at, tree, level)?))
+        }
+        Command::While(test, tree) => {
+            let test = condition(scope, at, true, test)?;
+            Ok(looped(test, block(scope, at, tree, level)?))
+        }
+        Command::Until(test, tree) => {
+            let test = condition(scope, at, false, test)?;
+            Ok(looped(test, block(scope, at, tree, level)?))
+        }
+        Command::Test(test, this, that) => {
+            let test = value(scope, at, test)?;
+            let this = block(scope, at, this, level)?;
+            let that = block(scope, at, that, level)?;
+            Ok(chosen(test, this, that))
+        }
+        Command::For(variable, start, limit, step, tree) => {
+            let start = value(scope, at, start)?;
+            let limit = value(scope, at, limit)?;
+            let by = match step {
+                Some(by) => constant(scope, by),
+                None => Word::new(1),
+            };
+            let body = counted(scope, at, variable, tree, level)?;
+            Ok(counting(start, limit, by, body))
+        }
+        Command::SwitchOn(of, list) => {
+            let of = value(scope, at, of)?;
+            let mut inner = scope.copied()?;
+            let list = command_list(&mut inner, at, list, level)?;
+            Ok(switch(of, list))
+        }
+    }
+}
