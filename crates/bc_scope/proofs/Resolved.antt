@@ -1,5 +1,5 @@
 -- From the first fault and the translation to what resolving answers.
-use Rattle.std.proofs.Common.{◌≡◌, ℕ, ◌≤◌, ◌<◌, refl, ap, sym, ◌∙◌, List, [], length, map, nat_le, IsTrue, true, false, Option, Some, None, arith}
+use Rattle.std.proofs.Common.{◌≡◌, ℕ, ◌≤◌, ◌<◌, refl, ap, sym, ◌∙◌, List, [], length, nat_le, IsTrue, false, Option, Some, None, arith}
 use Rattle.std.proofs.lemmas.List.{length-map}
 use Rattle.bc_core.specs.View.{section, place_of}
 use Rattle.bc_core.specs.WellFormed.{is_core}
