@@ -1,0 +1,6 @@
+pub mod Seen
+pub mod Steps
+pub mod Joined
+pub mod Shapes
+pub mod Texts
+pub mod Taken

@@ -1,0 +1,19 @@
+-- What holds of the lines of an entry.
+use Rattle.std.specs.Prelude.{◌≡◌, map}
+use Rattle.bc_core.specs.Tree.{Root}
+use Rattle.bc_derive.specs.declared.rule.Table.{Table}
+use Rattle.bc_derive.specs.declared.rule.Table.TheVariants.{Two}
+use Rattle.bc_derive.specs.declared.rule.Aim.{Aim}
+use Rattle.bc_derive.specs.Rules.{RootDerives}
+use Rattle.bc_least.specs.Least.{AreLeastWords}
+use Rattle.bc_least.specs.Nodes.{root_in_order}
+use Rattle.bc_entries.specs.Shown.{Shown, root_shown}
+use Rattle.bc_entries.specs.Lines.{least_words}
+
+-- whatever the derivation, the lines are those of the root's nodes, each once and in order
+abbrev pub NodesInOrder : Type 0
+NodesInOrder = (T : Table) (r : Root) (d : RootDerives T r) → map (λ n. (n.expression, n.level)) (root_shown d) ≡ root_in_order r
+
+-- the numbers of a line are the least words of the node's derivations, and `-` stands where there is none
+abbrev pub NumbersAreLeast : Type 0
+NumbersAreLeast = (aim : Aim) (n : Shown) → AreLeastWords Two n.expression aim n.level (least_words aim n)

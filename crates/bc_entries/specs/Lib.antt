@@ -1,0 +1,9 @@
+pub mod Shown
+pub mod Lines
+pub mod Certificate
+pub mod Walked
+pub mod Printed
+pub mod Nodes
+pub mod Exact
+pub mod Examples
+pub mod Laws

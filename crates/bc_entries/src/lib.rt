@@ -1,0 +1,24 @@
+//! Certificates are written.
+#![tactic(auto)]
+
+mod cert_fault;
+mod chain;
+mod entry_text;
+mod fields;
+mod form;
+pub mod laws;
+mod lines;
+mod mark;
+mod nodes;
+mod rule_names;
+mod slot;
+#[cfg(test)]
+mod tests;
+mod text;
+mod trees;
+mod walk;
+mod writing;
+
+pub use bc_derive::Entry;
+pub use cert_fault::CertFault;
+pub use writing::write_cert;

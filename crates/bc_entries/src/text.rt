@@ -1,0 +1,53 @@
+ghost use Rattle.std.specs.Prelude.{◌≡◌, ◌++◌, ◌∷◌, OnOk, []};
+ghost use Rattle.std.specs.Fmt.{decimal};
+
+use bc_word::Memory;
+use itoa::Buffer;
+use std::alloc::Global;
+
+/// Text as it grows.
+#[derive(Drop)]
+pub struct Text {
+    bytes: Vec<u8>,
+}
+
+impl Text {
+    /// No text.
+    pub fn new(alloc: Global) -> Text
+        ensures { result.bytes.items ≡ [] }
+    {
+        Text {
+            bytes: Vec::new(alloc),
+        }
+    }
+
+    /// Adds bytes.
+    pub fn push(&mut self, bytes: &[u8]) -> Result<(), Memory>
+        ensures { OnOk result (self.new.bytes.items ≡ self.old.bytes.items ++ bytes.now) }
+    {
+        Ok(self.bytes.extend_from_slice(bytes)?)
+    }
+
+    /// Adds a number in decimal digits.
+    pub fn number(&mut self, number: u64) -> Result<(), Memory>
+        ensures { OnOk result (self.new.bytes.items ≡ self.old.bytes.items ++ decimal number) }
+    {
+        let mut buffer = Buffer::new();
+        self.push(buffer.format(number).as_bytes())
+    }
+
+    /// Adds bytes, and a number in decimal digits.
+    pub fn lettered(&mut self, letters: &[u8], number: u64) -> Result<(), Memory>
+        ensures { OnOk result (self.new.bytes.items ≡ self.old.bytes.items ++ (letters.now ++ decimal number)) }
+    {
+        self.push(letters)?;
+        self.number(number)
+    }
+
+    /// The bytes.
+    pub fn into_bytes(self) -> Vec<u8>
+        ensures { result.items ≡ self.bytes.items }
+    {
+        self.bytes
+    }
+}
