@@ -1,4 +1,8 @@
-ghost use Rattle.std.specs.Prelude.{◌≡◌};
+ghost use Rattle.std.specs.Prelude.{◌≡◌, ◌⊎◌, Option, IfOk};
+ghost use Rattle.bc_scoping.specs.Faults.{Fault};
+ghost use Rattle.bc_faults.specs.Judged.{IsFault};
+ghost use Rattle.bc_build.specs.Refused.{IsScopeFault};
+ghost use Rattle.bc_build.specs.Steps.{IsScopeRefusal};
 
 use bc_gen::GenError;
 use bc_lex::LexError;
@@ -91,7 +95,9 @@ impl<T: Drop> From<AllocFailed<T>> for BuildError {
 }
 
 /// A fault of the scopes with a name of its own.
-fn owned(alloc: Global, fault: ScopeError<'_>) -> Result<ScopeFault, AllocError> {
+fn owned(alloc: Global, fault: ScopeError<'_>) -> Result<ScopeFault, AllocError>
+    ensures { (due : Option Fault) → IsFault fault.entry due → IfOk result (IsScopeFault due) }
+{
     Ok(match fault {
         ScopeError::Undeclared(name) => ScopeFault::Undeclared(Vec::from_slice(alloc, name)?),
         ScopeError::DeclaredTwice(name) => ScopeFault::DeclaredTwice(Vec::from_slice(alloc, name)?),
@@ -108,7 +114,9 @@ fn owned(alloc: Global, fault: ScopeError<'_>) -> Result<ScopeFault, AllocError>
 }
 
 /// The refusal of a main for this fault of its scopes, or `Memory` where its name can't be kept.
-pub fn scope_refusal(alloc: Global, main: usize, fault: ScopeError<'_>) -> BuildError {
+pub fn scope_refusal(alloc: Global, main: usize, fault: ScopeError<'_>) -> BuildError
+    ensures { (due : Option Fault) → IsFault fault.entry due → IsScopeRefusal main due result }
+{
     match owned(alloc, fault) {
         Ok(fault) => BuildError::Scope(main, fault),
         Err(_) => BuildError::Memory,

@@ -1,5 +1,5 @@
 -- Why a program is not built: the first refusal in the order of the mains, each through the parts in their order, and then the linker's.
-use Rattle.std.specs.Prelude.{ℕ, ◌≡◌, ◌⊎◌, List, [], ◌∷◌, map, Err, Some}
+use Rattle.std.specs.Prelude.{ℕ, ◌≡◌, ◌⊎◌, List, [], ◌∷◌, map, Err, Option, Some, None}
 use Rattle.bc_token.specs.Token.{Lexeme}
 use Rattle.bc_lex.specs.declared.error.LexError.TheVariants as lex_errors
 use Rattle.bc_lex.specs.Files.{File}
@@ -9,44 +9,42 @@ use Rattle.bc_parse.specs.declared.error.ParseError.TheVariants as parse_errors
 use Rattle.bc_parse.specs.Parsing.{parsed}
 use Rattle.bc_scoping.specs.Faults as scopes
 use Rattle.bc_scoping.specs.Faults.{Fault, section_fault}
-use Rattle.bc_scoping.specs.Found.{core_of}
-use Rattle.bc_emit.specs.Section.{labels_suffice}
-use Rattle.bc_gen.specs.Chosen.{coding}
 use Rattle.bc_gen.specs.declared.gen_error.GenError.{GenError}
 use Rattle.bc_gen.specs.declared.gen_error.GenError.TheVariants as gen_errors
 use Rattle.bc_link.specs.Refusals.{refusal_of}
 use Rattle.bc_link.specs.Linked.{IsRefusal}
 use Rattle.bc_run.specs.Runs.{behind}
 use Rattle.bc_build.specs.Compiled.{IsSection, IsAccepted, AreAccepted}
-use Rattle.bc_build.specs.Built.{items_of}
+use Rattle.bc_build.specs.Code.{items_of}
 use Rattle.bc_build.specs.declared.build_error.ScopeFault.{ScopeFault}
 use Rattle.bc_build.specs.declared.build_error.ScopeFault.TheVariants as faults
 use Rattle.bc_build.specs.declared.build_error.BuildError.{BuildError}
 use Rattle.bc_build.specs.declared.build_error.BuildError.TheVariants.{Lex, Parse, Scope, Gen, Link, Memory}
 
--- the fault of the scopes that this one is, unless memory was refused
-abbrev pub IsScopeFault : Declarations → ScopeFault → Type 0
-IsScopeFault section faults.Memory = Unit {0}
-IsScopeFault section (faults.Undeclared name) = section_fault section ≡ Some (scopes.AnUndeclared name.items)
-IsScopeFault section (faults.DeclaredTwice name) = section_fault section ≡ Some (scopes.ADeclaredTwice name.items)
-IsScopeFault section (faults.DynamicFree name) = section_fault section ≡ Some (scopes.ADynamicFree name.items)
-IsScopeFault section faults.NotConstant = section_fault section ≡ Some scopes.ANotConstant
-IsScopeFault section (faults.GlobalNumber name) = section_fault section ≡ Some (scopes.AGlobalNumber name.items)
-IsScopeFault section faults.NotAssignable = section_fault section ≡ Some scopes.ANotAssignable
-IsScopeFault section faults.Misplaced = section_fault section ≡ Some scopes.AMisplaced
-IsScopeFault section faults.FrameTooLarge = section_fault section ≡ Some scopes.AFrameTooLarge
-IsScopeFault section faults.CaseTwice = section_fault section ≡ Some scopes.ACaseTwice
-IsScopeFault section faults.TooManyPlaces = section_fault section ≡ Some scopes.ATooManyPlaces
+-- the fault of the scopes that is due, unless memory was refused
+abbrev pub IsScopeFault : Option Fault → ScopeFault → Type 0
+IsScopeFault due faults.Memory = Unit {0}
+IsScopeFault due (faults.Undeclared name) = due ≡ Some (scopes.AnUndeclared name.items)
+IsScopeFault due (faults.DeclaredTwice name) = due ≡ Some (scopes.ADeclaredTwice name.items)
+IsScopeFault due (faults.DynamicFree name) = due ≡ Some (scopes.ADynamicFree name.items)
+IsScopeFault due faults.NotConstant = due ≡ Some scopes.ANotConstant
+IsScopeFault due (faults.GlobalNumber name) = due ≡ Some (scopes.AGlobalNumber name.items)
+IsScopeFault due faults.NotAssignable = due ≡ Some scopes.ANotAssignable
+IsScopeFault due faults.Misplaced = due ≡ Some scopes.AMisplaced
+IsScopeFault due faults.FrameTooLarge = due ≡ Some scopes.AFrameTooLarge
+IsScopeFault due faults.CaseTwice = due ≡ Some scopes.ACaseTwice
+IsScopeFault due faults.TooManyPlaces = due ≡ Some scopes.ATooManyPlaces
 
+-- a section that has no code has no fault of its scopes
 abbrev pub IsGenFault : Declarations → GenError → Type 0
-IsGenFault section gen_errors.TooManyLabels = (section_fault section ≡ None) × (labels_suffice coding (core_of section) → ⊥)
+IsGenFault section gen_errors.TooManyLabels = section_fault section ≡ None
 IsGenFault section gen_errors.Memory = Unit {0}
 
 -- the refusal of this main
 abbrev pub IsMainRefusal : List File → ℕ → BuildError → Type 0
 IsMainRefusal files main (Lex at e) = (at ≡ main) × ((e ≡ lex_errors.Memory) ⊎ HasFault files main e)
 IsMainRefusal files main (Parse at e) = (at ≡ main) × ((tokens : List Lexeme) × HasTokens files main tokens × ((e ≡ parse_errors.Memory) ⊎ (parsed tokens ≡ Err e)))
-IsMainRefusal files main (Scope at e) = (at ≡ main) × ((tokens : List Lexeme) × (section : Declarations) × IsSection files main tokens section × IsScopeFault section e)
+IsMainRefusal files main (Scope at e) = (at ≡ main) × ((tokens : List Lexeme) × (section : Declarations) × IsSection files main tokens section × IsScopeFault (section_fault section) e)
 IsMainRefusal files main (Gen at e) = (at ≡ main) × ((tokens : List Lexeme) × (section : Declarations) × IsSection files main tokens section × IsGenFault section e)
 IsMainRefusal files main (Link e) = ⊥
 IsMainRefusal files main Memory = Unit {0}

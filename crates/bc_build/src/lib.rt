@@ -3,6 +3,7 @@
 
 mod build_error;
 mod building;
+mod ranges;
 
 pub use bc_gen::GenError;
 pub use bc_image::Image;

@@ -1,0 +1,52 @@
+-- A main that went through all parts.
+use Rattle.std.proofs.Common.{◌≡◌, ◌∙◌, ℕ, ◌≤◌, List, map, length, Ok, sym, ap, subst, arith}
+use Rattle.std.specs.Prelude.{None, Result}
+use Rattle.bc_token.specs.Token.{Lexeme}
+use Rattle.bc_item.specs.declared.item.Item.{Item}
+use Rattle.bc_derive.specs.View.{entry as entry_view}
+use Rattle.bc_derive.specs.declared.entry.Entry as code
+use Rattle.bc_tree.specs.Tree.{Declarations}
+use Rattle.bc_tree.specs.Size.{declarations_size}
+use Rattle.bc_lex.specs.Files.{File}
+use Rattle.bc_lex.specs.Tokens.{HasTokens}
+use Rattle.bc_parse.specs.Parsing.{parsed, TokensSpell}
+use Rattle.bc_parse.specs.declared.error.ParseError.{ParseError}
+use Rattle.bc_core.specs.Commands.{Core}
+use Rattle.bc_scoping.specs.Faults.{section_fault}
+use Rattle.bc_scoping.specs.Found.{core_of}
+use Rattle.bc_emit.specs.Section.{section_items, labels_suffice}
+use Rattle.bc_emit.specs.Entries.{section_entries}
+use Rattle.bc_gen.specs.Chosen.{coding}
+use Rattle.bc_build.specs.Compiled.{IsSection, IsAccepted}
+use Rattle.bc_build.specs.Code.{IsCompiled}
+
+-- tokens and the section that they spell
+pub record Parsed (files : List File) (main : ℕ) (tokens : List Lexeme) (section : Declarations) : Type 0 where
+  pub lexed : HasTokens files main tokens
+  pub few : length tokens ≤ 60000
+  pub only : (others : List Lexeme) → HasTokens files main others → tokens ≡ others
+  pub spelled : TokensSpell tokens section
+  pub size : declarations_size section ≤ length tokens
+  pub read : parsed tokens ≡ Ok section
+
+same_section : (x y : Declarations) (r : Result Declarations ParseError) → r ≡ Ok x → r ≡ Ok y → x ≡ y
+same_section x y r h k = let e : Ok x ≡ Ok y = sym h ∙ k in cc
+
+pub is_section : (files : List File) (main : ℕ) (tokens : List Lexeme) (section : Declarations) → Parsed files main tokens section → IsSection files main tokens section
+is_section files main tokens section p = let a = p.few in let b = p.size in record { lexed = p.lexed; read = p.read; spelled = p.spelled; small = omega (arith, a, b) }
+
+only_section : (files : List File) (main : ℕ) (tokens : List Lexeme) (section other : Declarations) → Parsed files main tokens section → IsAccepted files main other → other ≡ section
+only_section files main tokens section other p o =
+    same_section other section (parsed o.tokens) o.is_section.read (ap parsed (sym (p.only o.tokens o.is_section.lexed)) ∙ p.read)
+
+pub compiled_from : (files : List File) (main : ℕ) (tokens : List Lexeme) (section : Declarations) (core : Core) (items : List Item) (entries : List code.Entry)
+    → Parsed files main tokens section → section_fault section ≡ None → core ≡ core_of section
+    → items ≡ section_items coding core → map entry_view entries ≡ section_entries coding core → labels_suffice coding core
+    → IsCompiled files main items entries
+compiled_from files main tokens section core items entries p faultless is i e l = record {
+  section = section;
+  accepted = record { tokens = tokens; is_section = is_section files main tokens section p; faultless = faultless; labelled = subst (labels_suffice coding) is l };
+  only = λ other o. only_section files main tokens section other p o;
+  items_are = i ∙ ap (section_items coding) is;
+  entries_are = e ∙ ap (section_entries coding) is;
+}

@@ -1,0 +1,7 @@
+pub mod Compiling
+pub mod Small
+pub mod Coded
+pub mod Running
+pub mod Fitting
+pub mod Reading
+pub mod Facts

@@ -1,0 +1,36 @@
+-- The code of sections: their items, and their entries.
+use Rattle.std.specs.Prelude.{ℕ, ◌≡◌, ◌+◌, List, [], ◌∷◌, ◌++◌, map}
+use Rattle.bc_item.specs.declared.item.Item.{Item}
+use Rattle.bc_derive.specs.Entry.{Entry}
+use Rattle.bc_derive.specs.View.{entry as entry_view}
+use Rattle.bc_derive.specs.declared.entry.Entry as code
+use Rattle.bc_tree.specs.Tree.{Declarations}
+use Rattle.bc_lex.specs.Files.{File}
+use Rattle.bc_scoping.specs.Found.{core_of}
+use Rattle.bc_emit.specs.Section.{section_items}
+use Rattle.bc_emit.specs.Entries.{section_entries}
+use Rattle.bc_gen.specs.Chosen.{coding}
+use Rattle.bc_build.specs.Compiled.{IsAccepted}
+
+abbrev pub items_of : Declarations → List Item
+items_of section = section_items coding (core_of section)
+
+abbrev pub in_segment : ℕ → Entry → Entry
+in_segment k e = record e { segment = k }
+
+-- the entries of a section that is the segment k
+abbrev pub entries_of : ℕ → Declarations → List Entry
+entries_of k section = map (in_segment k) (section_entries coding (core_of section))
+
+-- the entries of sections, the first of which is the segment k
+abbrev pub entries_from : ℕ → List Declarations → List Entry
+entries_from k [] = []
+entries_from k (section ∷ sections) = entries_of k section ++ entries_from (k + 1) sections
+
+-- the items and entries of a main, which is this section and no other
+pub record IsCompiled (files : List File) (main : ℕ) (items : List Item) (entries : List code.Entry) : Type 0 where
+  pub section : Declarations
+  pub accepted : IsAccepted files main section
+  pub only : (other : Declarations) → IsAccepted files main other → other ≡ section
+  pub items_are : items ≡ items_of section
+  pub entries_are : map entry_view entries ≡ section_entries coding (core_of section)

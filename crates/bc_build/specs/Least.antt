@@ -1,0 +1,50 @@
+-- That entries are code of least words, and that it stands in the segments.
+use Rattle.std.specs.Prelude.{ℕ, ◌≡◌, List, [], ◌∷◌, map, All}
+use Rattle.bc_item.specs.declared.item.Item.{Item}
+use Rattle.bc_derive.specs.declared.rule.Table.TheVariants.{Two}
+use Rattle.bc_derive.specs.declared.piece.Piece.{Piece}
+use Rattle.bc_derive.specs.declared.piece.Piece.TheVariants as pieces
+use Rattle.bc_derive.specs.Rules.{RootDerives, root_shape}
+use Rattle.bc_derive.specs.Code.{root_code, root_cost}
+use Rattle.bc_derive.specs.Entry.{Entry}
+use Rattle.bc_least.specs.Least.{RootIsLeast, RootHasLeastParts}
+use Rattle.bc_least.specs.Chosen.{chosen}
+use Rattle.bc_certificate.specs.Verdict.{Judged}
+use Rattle.bc_certificate.specs.Against.{StandsIn, Fit}
+
+-- pieces, where in place of a VALOF's number a body has its number of items
+abbrev pub counted : List Piece → List ℕ → List Piece
+counted [] counts = []
+counted (pieces.Item i ∷ ps) counts = pieces.Item i ∷ counted ps counts
+counted (pieces.Body n ∷ ps) [] = pieces.Body 0 ∷ counted ps []
+counted (pieces.Body n ∷ ps) (count ∷ counts) = pieces.Body count ∷ counted ps counts
+
+-- what a certificate says of an entry by this derivation
+abbrev pub judged_by : (e : Entry) → RootDerives Two e.root → Judged
+judged_by e d = record {
+  segment = e.segment;
+  item = e.item;
+  root = e.root;
+  target = e.target;
+  first = e.first;
+  code = counted (root_code d e.target e.first) e.bodies;
+  words = root_cost d;
+}
+
+-- The entry names a derivation of its root. None has fewer words, and this is so of each of its parts; its code stands
+-- at the entry's place.
+pub record IsLeast (segments : List (List Item)) (e : Entry) : Type 0 where
+  pub derivation : RootDerives Two e.root
+  pub named : root_shape derivation ≡ e.derivation
+  pub least : RootIsLeast derivation
+  pub parts : RootHasLeastParts derivation
+  pub stands : StandsIn segments (judged_by e derivation)
+
+-- what a certificate says of an entry
+abbrev pub judged : Entry → Judged
+judged e = judged_by e (chosen Two e.root)
+
+-- each entry is of least words, none stands in front of the one before it, and their code lies in the segments
+pub record AreLeast (segments : List (List Item)) (entries : List Entry) : Type 0 where
+  pub each : All (IsLeast segments) entries
+  pub fit : Fit segments 0 0 (map judged entries)

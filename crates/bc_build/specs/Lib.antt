@@ -1,0 +1,9 @@
+pub mod Compiled
+pub mod Code
+pub mod Built
+pub mod Refused
+pub mod Steps
+pub mod Runs
+pub mod Least
+pub mod Size
+pub mod Text

@@ -1,0 +1,49 @@
+-- For proofs: how far a program was built.
+use Rattle.std.specs.Prelude.{ℕ, ◌≡◌, ◌<◌, List, ◌++◌, map, length, slice_index, All, Option, None}
+use Rattle.bc_item.specs.declared.item.Item.{Item}
+use Rattle.bc_derive.specs.View.{entry as entry_view}
+use Rattle.bc_derive.specs.declared.entry.Entry as code
+use Rattle.bc_tree.specs.Tree.{Declarations}
+use Rattle.bc_lex.specs.Files.{File}
+use Rattle.bc_build.specs.Compiled.{AreAccepted}
+use Rattle.bc_build.specs.Code.{items_of, entries_from}
+use Rattle.bc_scoping.specs.Faults.{Fault}
+use Rattle.bc_link.specs.Refusals.{refusal_of}
+use Rattle.bc_link.specs.Linked.{image_of, IsRefusal}
+use Rattle.bc_run.specs.Runs.{behind}
+use Rattle.bc_text.specs.Printed.{IsItem}
+use Rattle.bc_build.specs.Refused.{IsScopeFault, IsFirstRefusal}
+use Rattle.bc_build.specs.declared.building.Built.{Built}
+use Rattle.bc_build.specs.declared.build_error.BuildError.{BuildError}
+use Rattle.bc_build.specs.declared.build_error.BuildError.TheVariants.{Scope, Link, Memory}
+
+-- what a fault of a main's scopes is refused as
+abbrev pub IsScopeRefusal : ℕ → Option Fault → BuildError → Type 0
+IsScopeRefusal main due (Scope at e) = (at ≡ main) × IsScopeFault due e
+IsScopeRefusal main due Memory = Unit {0}
+IsScopeRefusal main due _ = ⊥
+
+-- the segments and entries, with the image of the primitives followed by these segments
+pub record IsLinked (segments : List (List Item)) (entries : List code.Entry) (built : Built) : Type 0 where
+  pub segments_are : built.segments.items ≡ segments
+  pub entries_are : built.entries.items ≡ entries
+  pub accepted : refusal_of (behind segments) ≡ None
+  pub image_is : built.image ≡ image_of (behind segments)
+  pub words : (i : ℕ) → slice_index built.image.words i < 65536
+  pub items : All (All IsItem) segments
+
+-- why segments were not linked
+abbrev pub IsLinkRefusal : List (List Item) → BuildError → Type 0
+IsLinkRefusal segments (Link e) = IsRefusal (refusal_of (behind segments)) e
+IsLinkRefusal segments Memory = Unit {0}
+IsLinkRefusal segments _ = ⊥
+
+-- so many mains have these segments and entries, and these are left
+pub record AreCoded (files : List File) (mains : List ℕ) (number : ℕ) (left : List ℕ) (segments : List (List Item)) (entries : List code.Entry) : Type 0 where
+  pub sections : List Declarations
+  pub count : length sections ≡ number
+  pub accepted : (rest : List Declarations) → AreAccepted files left rest → AreAccepted files mains (sections ++ rest)
+  pub only : (others : List Declarations) → AreAccepted files mains others → (rest : List Declarations) × AreAccepted files left rest × (others ≡ sections ++ rest)
+  pub refused : (e : BuildError) → IsFirstRefusal files left e → IsFirstRefusal files mains e
+  pub segments_are : segments ≡ map items_of sections
+  pub entries_are : map entry_view entries ≡ entries_from 0 sections

@@ -1,0 +1,130 @@
+ghost use Rattle.std.specs.Prelude.{◌≡◌, ◌<◌, ◌++◌, length, map, All, IfOk, IfErr, OnOk, List, ℕ, slice_index};
+ghost use Rattle.bc_tree.specs.Tree.{Declarations};
+ghost use Rattle.bc_derive.specs.View.{entry as entry_view};
+ghost use Rattle.bc_lex.specs.Files.{files_of};
+ghost use Rattle.bc_build.specs.Compiled.{AreAccepted};
+ghost use Rattle.bc_build.specs.Code.{IsCompiled, in_segment};
+ghost use Rattle.bc_build.specs.Built.{IsBuilt};
+ghost use Rattle.bc_build.specs.Refused.{IsMainRefusal, IsRefused};
+ghost use Rattle.bc_build.specs.Steps.{IsLinked, IsLinkRefusal};
+ghost use Rattle.bc_build.specs.Runs.{RunsAsMeant};
+ghost use Rattle.bc_build.specs.Least.{AreLeast};
+ghost use Rattle.bc_build.specs.Size.{HasSize};
+ghost use Rattle.bc_build.specs.Text.{ReadsAs};
+
+use crate::build_error::{BuildError, scope_refusal};
+use crate::ranges::{segments_are_items, words_are_words};
+use bc_derive::Entry;
+use bc_gen::{Generated, generate};
+use bc_image::Image;
+use bc_item::Segment;
+use bc_lex::{Source, lex};
+use bc_link::link;
+use bc_parse::parse;
+use bc_run::behind_primitives;
+use bc_scope::resolve;
+use std::alloc::Global;
+
+/// A program that was built.
+#[derive(Drop)]
+pub struct Built {
+    /// One segment a main.
+    pub segments: Vec<Segment>,
+    /// The entries of all mains, those of the first main first.
+    pub entries: Vec<Entry>,
+    /// The image of the primitives followed by the segments.
+    pub image: Image,
+}
+
+/// The items and entries of one main.
+fn compiled(alloc: Global, sources: &[Source<'_>], main: usize) -> Result<Generated, BuildError>
+    requires { main < length sources.now }
+    ensures compiled { IfOk result (λ g. IsCompiled (files_of sources.now) main g.items g.entries.items) }
+    ensures refused { IfErr result (IsMainRefusal (files_of sources.now) main) }
+{
+    let tokens = match lex(alloc, sources, main) {
+        Ok(tokens) => tokens,
+        Err(fault) => return Err(BuildError::Lex(main, fault)),
+    };
+    let section = match parse(alloc, tokens.as_slice()) {
+        Ok(section) => section,
+        Err(fault) => return Err(BuildError::Parse(main, fault)),
+    };
+    let core = match resolve(alloc, &section) {
+        Ok(core) => core,
+        Err(fault) => return Err(scope_refusal(alloc, main, fault)),
+    };
+    match generate(alloc, &core) {
+        Ok(generated) => Ok(generated),
+        Err(fault) => Err(BuildError::Gen(main, fault)),
+    }
+}
+
+/// Puts a segment's entries behind those that are there.
+fn add_entries(all: &mut Vec<Entry>, segment: u64, entries: Vec<Entry>) -> Result<(), BuildError>
+    ensures added { OnOk result (map entry_view all.new.items ≡ map entry_view all.old.items ++ map (in_segment segment) (map entry_view entries.items)) }
+    ensures refused { IfErr result (λ e. e ≡ BuildError.Memory) }
+{
+    for entry in entries {
+        all.push(Entry { segment, ..entry })?;
+    }
+    Ok(())
+}
+
+/// The segments, linked behind the primitives, with their entries.
+fn linked(alloc: Global, segments: Vec<Segment>, entries: Vec<Entry>) -> Result<Built, BuildError>
+    ensures built { IfOk result (IsLinked segments.items entries.items) }
+    ensures refused { IfErr result (IsLinkRefusal segments.items) }
+{
+    let mut segments = behind_primitives(alloc, segments)?;
+    let image = match link(alloc, segments.as_slice()) {
+        Ok(image) => image,
+        Err(fault) => return Err(BuildError::Link(fault)),
+    };
+    let _primitives = segments.remove(0);
+    words_are_words(&image.words);
+    segments_are_items(segments.as_slice());
+    Ok(Built {
+        segments,
+        entries,
+        image,
+    })
+}
+
+/// Builds the program of these mains, which are indexes of the sources: each is read, parsed, resolved and translated in
+/// turn, and then the segments are linked behind the primitives. No mains at all are lawful.
+///
+/// The first refusal in this order is answered, or `Memory` where an allocation was refused.
+pub fn build(alloc: Global, sources: &[Source<'_>], mains: &[usize]) -> Result<Built, BuildError>
+    requires { All (λ main. main < length sources.now) mains.now }
+
+    // The mains are sections without fault; the segments are their code, the entries those of their roots, in order,
+    // and the image is that of the primitives followed by the segments.
+    ensures built { IfOk result (IsBuilt (files_of sources.now) mains.now) }
+
+    // For all inputs and every number of turns, a run from the image has the output and the ending that the sections
+    // mean, or is as far as they are; or their meaning is wild.
+    ensures runs { IfOk result (λ built. (sections : List Declarations) → AreAccepted (files_of sources.now) mains.now sections → RunsAsMeant sections built.image) }
+
+    // Each entry is code of a derivation from the rule table that no derivation beats in words, and fits the segments.
+    ensures least { IfOk result (λ built. AreLeast built.segments.items (map entry_view built.entries.items)) }
+    ensures size { IfOk result (λ built. (sections : List Declarations) → AreAccepted (files_of sources.now) mains.now sections → HasSize sections built.image) }
+
+    // What is read of the text of the segments is the segments, and gives this image.
+    ensures text { IfOk result (λ built. ReadsAs built.segments.items built.image) }
+    ensures refused { IfErr result (IsRefused (files_of sources.now) mains.now) }
+{
+    bc_whole::laws::sections_run();
+    bc_linked::laws::linked_map_is_map();
+    let mut segments = Vec::new(alloc);
+    let mut entries = Vec::new(alloc);
+    for (number, main) in mains.iter().enumerate() {
+        let Generated {
+            items,
+            entries: coded,
+        } = compiled(alloc, sources, *main)?;
+        segments.push(items)?;
+        add_entries(&mut entries, number as u64, coded)?;
+    }
+    linked(alloc, segments, entries)
+}
