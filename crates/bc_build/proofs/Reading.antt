@@ -1,5 +1,5 @@
 -- The printed text is read as the segments, and gives the image; the image has the sections' size.
-use Rattle.std.proofs.Common.{◌≡◌, List, [], ◌∷◌, map, refl, ap, arith}
+use Rattle.std.proofs.Common.{◌≡◌, ◌∙◌, ℕ, List, [], ◌∷◌, map, Some, refl, sym, ap, subst, arith}
 use Rattle.std.specs.Prelude.{None, All}
 use Rattle.std.specs.List.{AllByRecursion}
 use Rattle.std.proofs.lemmas.List.Elements.{All-weaker, recursion_from_All}
@@ -14,7 +14,11 @@ use Rattle.bc_link.specs.Layout.{size_of_segments}
 use Rattle.bc_link.specs.Linked.{image_of}
 use Rattle.bc_link.specs.Refusals.{refusal_of}
 use Rattle.bc_run.specs.Primitives.{words_of_primitives}
-use Rattle.bc_run.specs.Runs.{behind}
+use Rattle.bc_step.specs.Streams.{Content}
+use Rattle.bc_step.specs.State.{start}
+use Rattle.bc_step.specs.declared.state.End.{End}
+use Rattle.bc_machine.specs.Ran.{Ran}
+use Rattle.bc_run.specs.Runs.{behind, IsRunOf}
 use Rattle.bc_tree.specs.Tree.{Declarations}
 use Rattle.bc_scoping.specs.Found.{core_of}
 use Rattle.bc_derive.specs.declared.rule.Table.TheVariants.{Two}
@@ -23,7 +27,7 @@ use Rattle.bc_sizes.proofs.Sections.{sections_have_their_size}
 use Rattle.bc_gen.specs.Chosen.{coding}
 use Rattle.bc_build.specs.Code.{items_of}
 use Rattle.bc_build.specs.Size.{section_words, words_of, HasSize}
-use Rattle.bc_build.specs.Text.{text_of, ReadsAs}
+use Rattle.bc_build.specs.Text.{text_of, ReadsAs, IsRunFrom}
 
 are_items : (segments : List (List Item)) → All (All IsItem) segments → AllByRecursion (AllByRecursion IsItem) segments
 are_items segments h = recursion_from_All (AllByRecursion IsItem) segments (All-weaker (All IsItem) (AllByRecursion IsItem) (λ s k. recursion_from_All IsItem s k) segments h)
@@ -47,3 +51,12 @@ has_size sections image is =
     let p = words_of_primitives in
     let s = segments_words sections in
     omega (arith, e, p, s)
+
+-- what is read of the text are the segments, and so the image is theirs
+pub text_runs : (segments : List (List Item)) (image : Image) (steps : ℕ) (told tells : Type 0) (old new : Content) (before after : ℕ) (end : End) → ReadsAs segments image
+    → IsRunOf (Some (text_of segments)) steps told tells old new before after end → IsRunFrom image steps told tells old new before after end
+text_runs segments image steps told tells old new before after end reads run =
+    let read = run.2 in
+    let same = reads.only run.0 (subst (λ bytes. IsText bytes run.0) (sym read.1) read.2) in
+    let e : image_of (behind run.0) ≡ image = ap (λ s. image_of (behind s)) same ∙ sym reads.image_is in
+    (run.1, run.4, subst (λ (x : Image). Ran told tells steps (start x.words x.stack_base old) run.1 end before after) e run.5)

@@ -1,6 +1,10 @@
 -- The text that a program is written as.
 use Rattle.std.specs.Prelude.{ℕ, ◌≡◌, List, None, flat_map}
 use Rattle.bc_item.specs.declared.item.Item.{Item}
+use Rattle.bc_step.specs.Streams.{Content}
+use Rattle.bc_step.specs.State.{State, start}
+use Rattle.bc_step.specs.declared.state.End.{End}
+use Rattle.bc_machine.specs.Ran.{Ran}
 use Rattle.bc_text.specs.Texts.{IsText}
 use Rattle.bc_text.specs.Printed.{printed_segment}
 use Rattle.bc_image.specs.declared.image.Image.{Image}
@@ -18,3 +22,8 @@ pub record ReadsAs (segments : List (List Item)) (image : Image) : Type 0 where
   pub only : (others : List (List Item)) → IsText (text_of segments) others → others ≡ segments
   pub linked : refusal_of (behind segments) ≡ None
   pub image_is : image ≡ image_of (behind segments)
+
+-- the end of a run of at most `steps` instructions from the image
+abbrev pub IsRunFrom : Image → ℕ → Type 0 → Type 0 → Content → Content → ℕ → ℕ → End → Type 0
+IsRunFrom image steps told tells old new before after end =
+    (last : State) × (last.streams ≡ new) × Ran told tells steps (start image.words image.stack_base old) last end before after

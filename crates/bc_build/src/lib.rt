@@ -3,6 +3,7 @@
 
 mod build_error;
 mod building;
+pub mod laws;
 mod ranges;
 
 pub use bc_gen::GenError;
