@@ -1,0 +1,4 @@
+pub mod Fitting
+pub mod Lengths
+pub mod Codes
+pub mod Steps

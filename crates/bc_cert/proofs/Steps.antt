@@ -1,0 +1,124 @@
+-- Steps of lines and of bytes.
+use Rattle.std.proofs.Common.{◌≡◌, ℕ, ◌≤◌, List, [], ◌∷◌, ◌++◌, Option, Some, None, Result, Ok, Err, take, drop, refl, ap, sym, ◌∙◌, subst, append_assoc, append-nil}
+use Rattle.std.specs.Option.{IfSome}
+use Rattle.std.specs.Io.KnownBytes.{Consumes, IsAtEnd}
+use Rattle.std.proofs.lemmas.List.{take-append-drop, take-take}
+use Rattle.bc_certificate.specs.declared.check_fault.CheckFault.{CheckFault}
+use Rattle.bc_certificate.specs.declared.check_fault.CheckFault.TheVariants as faults
+use Rattle.bc_certificate.specs.Verdict.{Verdict}
+use Rattle.bc_stack.specs.declared.place.Place.{Place}
+use Rattle.bc_stack.specs.Stacks.{◌>>=◌}
+use Rattle.bc_certificate.specs.declared.verdict.Verdict as code
+use Rattle.bc_certificate.specs.View.{verdict}
+use Rattle.bc_stack.specs.View.{Fails, Gives}
+use Rattle.bc_cert.specs.Judging.{State, between, start, step_at, between_step, place_of, counted, line_step, byte_step, feed_from, finished, judged}
+use Rattle.bc_cert.specs.Answer.{Says, Lacks, IsFault, IsAnswer}
+
+pub between_line : (line : List ℕ) (st : State) (p : Place) → st.stage ≡ between → p ≡ place_of (counted st) → between_step line p (counted st) ≡ line_step line st
+between_line line st p h e = ap (λ q. between_step line q (counted st)) e ∙ ap (λ s. step_at s line (place_of (counted st)) (counted st)) (sym h)
+
+bind_grouped : {A B C : Type 0} (r : Result A CheckFault) (f : A → Result B CheckFault) (g : B → Result C CheckFault) → (r >>= f) >>= g ≡ r >>= (λ x. f x >>= g)
+bind_grouped (Ok x) f g = refl
+bind_grouped (Err e) f g = refl
+
+bind_along : {A B : Type 0} (r : Result A CheckFault) (f g : A → Result B CheckFault) → ((x : A) → f x ≡ g x) → r >>= f ≡ r >>= g
+bind_along (Ok x) f g h = h x
+bind_along (Err e) f g h = refl
+
+-- bytes are taken one after another, however they are cut
+pub feed_append : (xs ys : List ℕ) (s : State × List ℕ) → feed_from (xs ++ ys) s ≡ feed_from xs s >>= (λ t. feed_from ys t)
+feed_append [] ys s = refl
+feed_append (x ∷ xs) ys s =
+    bind_along (byte_step x s) (λ t. feed_from (xs ++ ys) t) (λ t. feed_from xs t >>= (λ u. feed_from ys u)) (λ t. feed_append xs ys t)
+    ∙ sym (bind_grouped (byte_step x s) (λ t. feed_from xs t) (λ t. feed_from ys t))
+
+pub fed_more : (xs ys : List ℕ) (s t u : State × List ℕ) → feed_from xs s ≡ Ok t → feed_from ys t ≡ Ok u → feed_from (xs ++ ys) s ≡ Ok u
+fed_more xs ys s t u h i = feed_append xs ys s ∙ ap (λ r. r >>= (λ x. feed_from ys x)) h ∙ i
+
+pub fed_fault : (xs ys : List ℕ) (s t : State × List ℕ) (f : CheckFault) → feed_from xs s ≡ Ok t → feed_from ys t ≡ Err f → feed_from (xs ++ ys) s ≡ Err f
+fed_fault xs ys s t f h i = feed_append xs ys s ∙ ap (λ r. r >>= (λ x. feed_from ys x)) h ∙ i
+
+-- a fault of a line stays, whatever comes behind it
+fault_stays : (xs more : List ℕ) (f : CheckFault) → feed_from xs (start, []) ≡ Err f → judged (xs ++ more) ≡ Err f
+fault_stays xs more f h = ap (λ r. r >>= (λ t. finished t)) (feed_append xs more (start, []) ∙ ap (λ r. r >>= (λ x. feed_from more x)) h)
+
+fault_itself : (xs : List ℕ) (f : CheckFault) → feed_from xs (start, []) ≡ Err f → judged xs ≡ Err f
+fault_itself xs f h = ap (λ r. r >>= (λ t. finished t)) h
+
+lacks_known : (known : Option (List ℕ)) (xs : List ℕ) (f : CheckFault) → IfSome known (λ k. (zs : List ℕ) × (k ≡ xs ++ zs)) → feed_from xs (start, []) ≡ Err f → Lacks known f
+lacks_known None xs f g h = (xs, tt, fault_itself xs f h)
+lacks_known (Some k) xs f g h = (xs, subst (λ q. judged q ≡ Err f) (sym g.1) (fault_stays xs g.0 f h), fault_itself xs f h)
+
+-- what was consumed before, with a part of what is consumed now
+pub consumes_more : (known middle left : Option (List ℕ)) (bytes now : List ℕ) (kept count : ℕ) → kept ≡ count → Consumes known middle bytes → Consumes middle left (take count now) → Consumes known left (bytes ++ take kept now)
+consumes_more None middle left bytes now kept count same h e = tt
+consumes_more (Some xs) None left bytes now kept count same h e = absurd h
+consumes_more (Some xs) (Some ys) None bytes now kept count same h e = absurd e
+consumes_more (Some xs) (Some ys) (Some zs) bytes now kept count same h e =
+    h ∙ ap (λ more. bytes ++ more) (e ∙ ap (λ n. take n now ++ zs) (sym same)) ∙ sym (append_assoc bytes (take kept now) zs)
+
+begins_part : (known middle left : Option (List ℕ)) (bytes now : List ℕ) (kept count : ℕ) → kept ≤ count → Consumes known middle bytes → Consumes middle left (take count now) → IfSome known (λ k. (zs : List ℕ) × (k ≡ (bytes ++ take kept now) ++ zs))
+begins_part None middle left bytes now kept count small h e = tt
+begins_part (Some xs) None left bytes now kept count small h e = absurd h
+begins_part (Some xs) (Some ys) None bytes now kept count small h e = absurd e
+begins_part (Some xs) (Some ys) (Some zs) bytes now kept count small h e =
+    let part : take count now ≡ take kept now ++ drop kept (take count now) = sym (take-append-drop kept (take count now)) ∙ ap (λ front. front ++ drop kept (take count now)) (take-take kept count now small) in
+    (drop kept (take count now) ++ zs, h ∙ ap (λ more. bytes ++ more) (e ∙ ap (λ front. front ++ zs) part ∙ append_assoc (take kept now) (drop kept (take count now)) zs) ∙ sym (append_assoc bytes (take kept now) (drop kept (take count now) ++ zs)))
+
+-- a fault in what was consumed
+pub fault_given : (known middle left : Option (List ℕ)) (bytes now : List ℕ) (kept count : ℕ) (t : State × List ℕ) (f : CheckFault) → kept ≤ count → Consumes known middle bytes → Consumes middle left (take count now) → feed_from bytes (start, []) ≡ Ok t → Fails f (feed_from (take kept now) t) → IsFault known f
+fault_given known middle left bytes now kept count t f small h e ok bad = by_fault f bad where
+  found : (g : CheckFault) → feed_from (take kept now) t ≡ Err g → Lacks known g
+  found g k = lacks_known known (bytes ++ take kept now) g (begins_part known middle left bytes now kept count small h e) (fed_fault bytes (take kept now) (start, []) t g ok k)
+
+  by_fault : (g : CheckFault) → Fails g (feed_from (take kept now) t) → IsFault known g
+  by_fault faults.Header k = found faults.Header k
+  by_fault (faults.Line l) k = found (faults.Line l) k
+  by_fault faults.Truncated k = found faults.Truncated k
+  by_fault (faults.WrongCost i n) k = found (faults.WrongCost i n) k
+  by_fault (faults.WrongRule i n) k = found (faults.WrongRule i n) k
+  by_fault (faults.WrongCode i) k = found (faults.WrongCode i) k
+  by_fault (faults.WrongWords i) k = found (faults.WrongWords i) k
+  by_fault (faults.TooDeep l) k = found (faults.TooDeep l) k
+  by_fault faults.Read k = tt
+  by_fault faults.Memory k = tt
+
+-- at the end all was consumed
+all_given : (known middle left : Option (List ℕ)) (bytes now : List ℕ) (count : ℕ) → count ≡ 0 → Consumes known middle bytes → Consumes middle left (take count now) → IsAtEnd left → IfSome known (λ xs. xs ≡ bytes)
+all_given None middle left bytes now count none h e end = tt
+all_given (Some xs) None left bytes now count none h e end = absurd h
+all_given (Some xs) (Some ys) None bytes now count none h e end = absurd e
+all_given (Some xs) (Some ys) (Some zs) bytes now count none h e end =
+    let empty : take count now ≡ [] = ap (λ n. take n now) none in
+    h ∙ ap (λ more. bytes ++ more) (e ∙ ap (λ front. front ++ zs) empty ∙ end) ∙ append-nil bytes
+
+judged_all : (bytes : List ℕ) (t : State × List ℕ) (r : Result Verdict CheckFault) → feed_from bytes (start, []) ≡ Ok t → finished t ≡ r → judged bytes ≡ r
+judged_all bytes t r h e = ap (λ q. q >>= (λ u. finished u)) h ∙ e
+
+lacks_all : (known : Option (List ℕ)) (bytes : List ℕ) (f : CheckFault) → IfSome known (λ xs. xs ≡ bytes) → judged bytes ≡ Err f → Lacks known f
+lacks_all None bytes f h e = (bytes, tt, e)
+lacks_all (Some xs) bytes f h e = (bytes, ap judged h ∙ e, e)
+
+pub verdict_given : (known middle left : Option (List ℕ)) (bytes now : List ℕ) (count : ℕ) (t : State × List ℕ) (v : Verdict) → count ≡ 0 → Consumes known middle bytes → Consumes middle left (take count now) → IsAtEnd left → feed_from bytes (start, []) ≡ Ok t → finished t ≡ Ok v → Says known v
+verdict_given known middle left bytes now count t v none h e end ok done = (bytes, all_given known middle left bytes now count none h e end, judged_all bytes t (Ok v) ok done)
+
+pub end_given : (known middle left : Option (List ℕ)) (bytes now : List ℕ) (count : ℕ) (t : State × List ℕ) (f : CheckFault) → count ≡ 0 → Consumes known middle bytes → Consumes middle left (take count now) → IsAtEnd left → feed_from bytes (start, []) ≡ Ok t → Fails f (finished t) → IsFault known f
+end_given known middle left bytes now count t f none h e end ok bad = by_fault f bad where
+  found : (g : CheckFault) → finished t ≡ Err g → Lacks known g
+  found g k = lacks_all known bytes g (all_given known middle left bytes now count none h e end) (judged_all bytes t (Err g) ok k)
+
+  by_fault : (g : CheckFault) → Fails g (finished t) → IsFault known g
+  by_fault faults.Header k = found faults.Header k
+  by_fault (faults.Line l) k = found (faults.Line l) k
+  by_fault faults.Truncated k = found faults.Truncated k
+  by_fault (faults.WrongCost i n) k = found (faults.WrongCost i n) k
+  by_fault (faults.WrongRule i n) k = found (faults.WrongRule i n) k
+  by_fault (faults.WrongCode i) k = found (faults.WrongCode i) k
+  by_fault (faults.WrongWords i) k = found (faults.WrongWords i) k
+  by_fault (faults.TooDeep l) k = found (faults.TooDeep l) k
+  by_fault faults.Read k = tt
+  by_fault faults.Memory k = tt
+
+pub answer_at_end : (known middle left : Option (List ℕ)) (bytes now : List ℕ) (count : ℕ) (t : State × List ℕ) (r : Result code.Verdict CheckFault) → count ≡ 0 → Consumes known middle bytes → Consumes middle left (take count now) → IsAtEnd left → feed_from bytes (start, []) ≡ Ok t → Gives verdict r (finished t) → IsAnswer known r
+answer_at_end known middle left bytes now count t (Ok v) none h e end ok done = verdict_given known middle left bytes now count t (verdict v) none h e end ok done
+answer_at_end known middle left bytes now count t (Err f) none h e end ok done = end_given known middle left bytes now count t f none h e end ok done

@@ -1,0 +1,187 @@
+// Code lines.
+
+ghost use Rattle.std.specs.Prelude.{◌≡◌, IfOk};
+ghost use Rattle.bc_certificate.specs.View.{judged as judged_of};
+ghost use Rattle.bc_core.specs.View.{root as root_of};
+ghost use Rattle.bc_derive.specs.View.{derivation as tree};
+ghost use Rattle.bc_rules.specs.Fits.{root_fits};
+ghost use Rattle.bc_stack.specs.View.{rooted as rooted_of, Gives};
+ghost use Rattle.bc_lines.specs.Lines.{code_of_line};
+ghost use Rattle.bc_lines.specs.View.{code};
+ghost use Rattle.bc_stack.specs.Stacks.{with_whole};
+ghost use Rattle.bc_cert.specs.Judging.{same_item, same_piece, same_code, right_of, code_against, code_fits, pieces_judged, judged_with, code_judged};
+ghost use Rattle.bc_cert.specs.View.{IsDerived};
+
+use bc_certificate::{CheckFault, Judged};
+use bc_core::Root;
+use bc_derive::{Derivation, Piece, Table};
+use bc_item::Item;
+use bc_lines::{Head, code_line};
+use bc_rules::{code_of, is_derivation_by, next_label, words};
+use bc_stack::{Place, Rooted};
+use bc_word::Memory;
+use std::alloc::Global;
+
+/// Whether two items are the same.
+fn is_same(item: Item, other: Item) -> bool
+    ensures { result ≡ same_item item other }
+{
+    item == other
+}
+
+/// Whether two pieces are the same, but for the number of items of a body.
+fn are_alike(piece: Piece, other: Piece) -> bool
+    ensures { result ≡ same_piece piece other }
+{
+    match piece {
+        Piece::Item(item) => match other {
+            Piece::Item(other) => is_same(item, other),
+            Piece::Body(_) => false,
+        },
+        Piece::Body(_) => match other {
+            Piece::Item(_) => false,
+            Piece::Body(_) => true,
+        },
+    }
+}
+
+/// Whether two codes are the same, but for the numbers of items of bodies.
+fn has_code(code: &[Piece], right: &[Piece]) -> bool
+    ensures { result ≡ same_code code.now right.now }
+{
+    if code.len() != right.len() {
+        return false;
+    }
+    for at in 0..code.len() {
+        if !are_alike(code[at], right[at]) {
+            return false;
+        }
+    }
+    true
+}
+
+/// Whether the rules are a derivation of the root.
+fn derives(table: Table, root: &Root, derivation: &Derivation) -> bool
+    ensures { result ≡ root_fits table (root_of root.now) (tree derivation.now) }
+{
+    is_derivation_by(table, root, derivation)
+}
+
+/// The code of a derivation of the root, where its labels have room.
+fn right_code(alloc: Global, head: Head, rooted: &Rooted) -> Result<Option<Vec<Piece>>, Memory>
+    requires { IsDerived (rooted_of rooted.now) }
+    ensures { IfOk result (λ found. code found ≡ right_of head (rooted_of rooted.now)) }
+{
+    match next_label(&rooted.root, &rooted.derivation, head.first) {
+        Some(_) => {
+            let pieces = code_of(
+                alloc,
+                &rooted.root,
+                &rooted.derivation,
+                head.target,
+                head.first,
+            )?;
+            Ok(Some(pieces))
+        }
+        None => Ok(None),
+    }
+}
+
+/// Whether a code is this one, of so many words.
+fn compared(
+    head: Head,
+    least: u128,
+    code: &[Piece],
+    right: &[Piece],
+    place: Place,
+) -> Result<(), CheckFault>
+    ensures { Gives (λ _. tt) result (code_against head least code.now place right.now) }
+{
+    if has_code(code, right) {
+        if words(right) == head.words && least == u128::from(head.words) {
+            Ok(())
+        } else {
+            Err(CheckFault::WrongWords(place.entry))
+        }
+    } else {
+        Err(CheckFault::WrongCode(place.entry))
+    }
+}
+
+/// Whether a code is that of the rules, which are a derivation.
+fn fits(
+    alloc: Global,
+    table: Table,
+    head: Head,
+    rooted: &Rooted,
+    code: &[Piece],
+    place: Place,
+) -> Result<(), CheckFault>
+    ensures { Gives (λ _. tt) result (code_fits table head (rooted_of rooted.now) place code.now) }
+{
+    if derives(table, &rooted.root, &rooted.derivation) {
+        match right_code(alloc, head, rooted)? {
+            Some(right) => compared(head, rooted.words, code, right.as_slice(), place),
+            None => Err(CheckFault::WrongCode(place.entry)),
+        }
+    } else {
+        Err(CheckFault::WrongRule(place.entry, place.node))
+    }
+}
+
+/// The code of an entry's code line.
+fn read_code(alloc: Global, line: &[u8], place: Place) -> Result<Vec<Piece>, CheckFault>
+    ensures { Gives (λ v. v.items) result (with_whole place (code_of_line line.now)) }
+{
+    match code_line(alloc, line)? {
+        Some(code) => Ok(code),
+        None => Err(CheckFault::Line(place.line)),
+    }
+}
+
+/// The code of an entry's code line, where it is that of the rules.
+fn judged_line(
+    alloc: Global,
+    table: Table,
+    head: Head,
+    rooted: &Rooted,
+    line: &[u8],
+    place: Place,
+) -> Result<Vec<Piece>, CheckFault>
+    ensures { Gives (λ v. v.items) result (pieces_judged table head (rooted_of rooted.now) line.now place) }
+{
+    let code = read_code(alloc, line, place)?;
+    fits(alloc, table, head, rooted, code.as_slice(), place)?;
+    Ok(code)
+}
+
+/// An entry that was accepted.
+fn accepted(head: Head, rooted: Box<Rooted>, code: Vec<Piece>) -> Judged
+    ensures { judged_of result ≡ judged_with head (rooted_of rooted.value) code.items }
+{
+    let rooted = Box::into_inner(rooted);
+    Judged {
+        segment: head.segment,
+        item: head.item,
+        root: rooted.root,
+        target: head.target,
+        first: head.first,
+        code,
+        words: head.words,
+    }
+}
+
+/// Judges the code line of an entry.
+pub fn judge_code(
+    alloc: Global,
+    table: Table,
+    head: Head,
+    rooted: Box<Rooted>,
+    line: &[u8],
+    place: Place,
+) -> Result<Judged, CheckFault>
+    ensures { Gives judged_of result (code_judged table head (rooted_of rooted.value) line.now place) }
+{
+    let code = judged_line(alloc, table, head, &rooted, line, place)?;
+    Ok(accepted(head, rooted, code))
+}

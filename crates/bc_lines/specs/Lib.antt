@@ -1,0 +1,5 @@
+pub mod View
+pub mod Fields
+pub mod Items
+pub mod Chains
+pub mod Lines

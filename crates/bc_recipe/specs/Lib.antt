@@ -1,0 +1,5 @@
+pub mod Form
+pub mod Costs
+pub mod Recipe
+pub mod Node
+pub mod Parts

@@ -1,0 +1,14 @@
+//! What the rules make at a node of a certificate, from what is known of its parts alone.
+#![tactic(auto)]
+
+mod costs;
+mod facts;
+mod form;
+mod node;
+mod recipe;
+
+pub use costs::{Costs, LeastWords, number_words};
+pub use facts::{Facts, are_free, words_as_operand};
+pub use form::Form;
+pub use node::{Node, lesser};
+pub use recipe::{Recipe, Takes};

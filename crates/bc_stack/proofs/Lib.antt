@@ -1,0 +1,3 @@
+pub mod Pops
+pub mod Derived
+pub mod Nodes

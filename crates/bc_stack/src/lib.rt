@@ -1,0 +1,16 @@
+//! The trees of an entry of a certificate: what its node lines and its root line make of them.
+#![tactic(auto)]
+
+mod mark;
+mod one;
+mod place;
+mod rooted;
+mod shown;
+mod sides;
+mod stack;
+mod taken;
+mod whole;
+
+pub use place::Place;
+pub use rooted::Rooted;
+pub use stack::Stack;

@@ -1,0 +1,13 @@
+use crate::mark::Mark;
+use bc_core::CoreExp;
+use bc_derive::Derivation;
+use bc_recipe::Facts;
+
+/// A tree that no whole has taken yet.
+#[derive(Drop)]
+pub struct One {
+    pub mark: Mark,
+    pub facts: Facts,
+    pub expression: CoreExp,
+    pub derivation: Derivation,
+}
