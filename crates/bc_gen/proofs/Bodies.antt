@@ -9,10 +9,12 @@ use Rattle.bc_core.specs.Commands.{Valof}
 use Rattle.bc_emit.specs.Emit.{Code, Roots, Exits, zero_item, emit_block}
 use Rattle.bc_emit.specs.Bodies.{BodiesCode, body_exits, emit_valof, bodies_from, level_of}
 use Rattle.bc_emit.specs.Entries.{Marked, Plain, marked_over}
+use Rattle.bc_gen.specs.declared.gen_error.GenError.{GenError}
 use Rattle.bc_gen.specs.declared.writer.Writer.{Writer}
 use Rattle.bc_gen.specs.Chosen.{coding}
 use Rattle.bc_gen.specs.Surroundings.{roots_of, bodies_of, valofs_in}
 use Rattle.bc_gen.specs.Writing.{Writes, Puts}
+use Rattle.bc_gen.proofs.Rises.{out_of_memory}
 use Rattle.bc_gen.proofs.Forms.{there, Wrote}
 
 abbrev choice : Bool → Code Marked → Code Marked → Code Marked
@@ -60,7 +62,7 @@ pub outside : (vs : List code.Valof) (least n : ℕ) → least ≤ n → length 
 outside vs least n h g = let e = length-drop least (valofs_in vs) in let m = length-map vs valof_of in omega (arith, h, g, e, m)
 
 -- the code of the body with this number
-body_is : (cvs : List code.Valof) (least n : ℕ) (v : code.Valof) (l f : ℕ) → least ≤ n → n < length cvs → v ≡ get_or cvs n v
+pub body_is : (cvs : List code.Valof) (least n : ℕ) (v : code.Valof) (l f : ℕ) → least ≤ n → n < length cvs → v ≡ get_or cvs n v
     → bodies_of (valofs_in cvs) least n (level_of (valofs_in cvs) n) l f ≡ emit_valof Plain (roots_of (valofs_in cvs) (n + 1)) (block_of v.body) n v.level l f
 body_is cvs least n v l f h g e =
     let vs = valofs_in cvs in
@@ -81,11 +83,11 @@ body_is cvs least n v l f h g e =
     ∙ ap (λ (u : Valof). emit_valof Plain (over (bodies_from Plain over (n + 1) (drop (suc k) (drop least vs)))) u.body n v.level l f) found_behind
     ∙ ap (λ (us : List Valof). emit_valof Plain (over (bodies_from Plain over (n + 1) us)) d.body n v.level l f) rest
 
-pub valof_writes : {X Y : Type 0} (r : Result X Y) (cvs : List code.Valof) (least n : ℕ) (v : code.Valof) (roots1 : Roots Marked) (E1 : Exits) (l : ℕ) (w0 w1 w2 : Writer)
+pub valof_writes : {X : Type 0} (r : Result X GenError) (cvs : List code.Valof) (least n : ℕ) (v : code.Valof) (roots1 : Roots Marked) (E1 : Exits) (l : ℕ) (w0 w1 w2 : Writer)
     → least ≤ n → n < length cvs → v ≡ get_or cvs n v → roots1 ≡ roots_of (valofs_in cvs) (n + 1) → E1 ≡ body_exits l
     → Wrote w0 w1 (emit_block Plain roots1 (block_of v.body) v.level E1 w0.next) → Puts r w1 w2 (Plain zero_item ∷ [])
     → Writes r w0 w2 (bodies_of (valofs_in cvs) least n (level_of (valofs_in cvs) n) l w0.next)
-valof_writes (Err x) cvs least n v roots1 E1 l w0 w1 w2 h g e er ee h1 h2 = h2
+valof_writes (Err x) cvs least n v roots1 E1 l w0 w1 w2 h g e er ee h1 h2 = out_of_memory x _ h2
 valof_writes (Ok x) cvs least n v roots1 E1 l w0 w1 w2 h g e er ee h1 h2 =
     let b = body_is cvs least n v l w0.next h g e in
     let P : Code Marked → Type 0 = λ c. Wrote w0 w2 c in

@@ -1,5 +1,5 @@
 -- The choice is that of the derivations of least words.
-use Rattle.std.proofs.Common.{ℕ, ◌+◌, ◌≤◌, ◌≡◌, List, Option, Some, None, IfSome, sym}
+use Rattle.std.proofs.Common.{ℕ, ◌+◌, ◌≤◌, ◌≡◌, List, Option, Some, None, sym, arith}
 use Rattle.std.specs.Option.{SomeIff}
 use Rattle.bc_core.specs.Tree.{Root}
 use Rattle.bc_derive.specs.declared.rule.Table.TheVariants.{Two}
@@ -8,6 +8,7 @@ use Rattle.bc_derive.specs.Rules.{Tree, root_shape}
 use Rattle.bc_least.specs.Chosen.{chosen}
 use Rattle.bc_rules.specs.Code.{IsCodeOf, IsNextLabel}
 use Rattle.bc_gen.specs.Chosen.{coding}
+use Rattle.bc_gen.specs.Writing.{IsNext}
 
 pub derivation_is : (r : Root) (x : Tree) → x ≡ root_shape (chosen Two r) → x ≡ coding.derivation r
 unfolding coding
@@ -21,6 +22,6 @@ next_is : (r : Root) (x : Tree) (f : ℕ) (n : Option ℕ) → IsNextLabel r x f
 unfolding coding
 next_is r x f n h e = h.exact Two (chosen Two r) (sym e)
 
-pub next_gives : (r : Root) (x : Tree) (f : ℕ) (n : Option ℕ) → IsNextLabel r x f n → x ≡ coding.derivation r → IfSome n (λ v. v ≡ f + coding.labels r)
-next_gives r x f None h e = tt
+pub next_gives : (r : Root) (x : Tree) (f : ℕ) (n : Option ℕ) → IsNextLabel r x f n → x ≡ coding.derivation r → IsNext n (f + coding.labels r)
+next_gives r x f None h e = let k = next_is r x f None h e in omega (arith, k)
 next_gives r x f (Some v) h e = (next_is r x f (Some v) h e).1

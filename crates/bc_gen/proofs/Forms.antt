@@ -13,11 +13,13 @@ use Rattle.bc_emit.specs.Bodies.{body_exits, emit_body}
 use Rattle.bc_emit.specs.Entries.{Marked, Plain}
 use Rattle.bc_gen.specs.declared.around.Numbered.{Numbered}
 use Rattle.bc_gen.specs.declared.around.Around.{Around}
+use Rattle.bc_gen.specs.declared.gen_error.GenError.{GenError}
 use Rattle.bc_gen.specs.declared.writer.Writer.{Writer}
 use Rattle.bc_gen.specs.declared.parts.Part.{Part}
 use Rattle.bc_gen.specs.Parts.{part, parts}
 use Rattle.bc_gen.specs.Surroundings.{label_in, label_pairs, case_pairs, exits_of, roots_in}
 use Rattle.bc_gen.specs.Writing.{Writes, Puts}
+use Rattle.bc_gen.proofs.Rises.{out_of_memory}
 use Rattle.bc_gen.proofs.Labels.{labelled_is, cased_is}
 
 -- what stands there
@@ -39,61 +41,61 @@ Same before after = after.parts ≡ before.parts
 abbrev pub Set : Writer → Writer → List Marked → Type 0
 Set before after ps = (there after ≡ there before ++ ps) × (after.next ≡ before.next)
 
-pub if_writes : {X Y : Type 0} (r : Result X Y) (roots : Roots Marked) (sense : Bool) (e : Exp) (b : Block) (s : ℕ) (E : Exits) (past : ℕ) (w0 w1 w2 w3 w4 : Writer)
+pub if_writes : {X : Type 0} (r : Result X GenError) (roots : Roots Marked) (sense : Bool) (e : Exp) (b : Block) (s : ℕ) (E : Exits) (past : ℕ) (w0 w1 w2 w3 w4 : Writer)
     → Took w0 w1 past 1 → Same w0 w1 → Wrote w1 w2 (roots (Test s (not sense) e) past w1.next) → Wrote w2 w3 (emit_block Plain roots b s E w2.next)
     → Puts r w3 w4 (Plain (Label past) ∷ []) → Writes r w0 w4 (emit Plain roots (commands.If sense e b) s E w0.next)
-if_writes (Err x) roots sense e b s E past w0 w1 w2 w3 w4 t p h2 h3 h4 = h4
+if_writes (Err x) roots sense e b s E past w0 w1 w2 w3 w4 t p h2 h3 h4 = out_of_memory x _ h4
 if_writes (Ok x) roots sense e b s E past w0 w1 w2 w3 w4 t p h2 h3 h4 =
     rw (h4.0, h4.1, h3.0, h3.1, h2.0, h2.1, p, t.1, t.0) (simp append_assoc, refl)
 
 -- two and three labels taken one by one
-two_taken : (f n1 n2 : ℕ) → n1 ≡ f + 1 → n2 ≡ n1 + 1 → n2 ≡ f + 2
+pub two_taken : (f n1 n2 : ℕ) → n1 ≡ f + 1 → n2 ≡ n1 + 1 → n2 ≡ f + 2
 two_taken f n1 n2 h g = omega (arith, h, g)
 
-three_taken : (f n1 n2 n3 : ℕ) → n1 ≡ f + 1 → n2 ≡ n1 + 1 → n3 ≡ n2 + 1 → n3 ≡ f + 3
+pub three_taken : (f n1 n2 n3 : ℕ) → n1 ≡ f + 1 → n2 ≡ n1 + 1 → n3 ≡ n2 + 1 → n3 ≡ f + 3
 three_taken f n1 n2 n3 h g k = omega (arith, h, g, k)
 
-pub test_writes : {X Y : Type 0} (r : Result X Y) (roots : Roots Marked) (e : Exp) (b c : Block) (s : ℕ) (E : Exits) (other past : ℕ) (w0 w1 w2 w3 w4 w5 w6 w7 w8 : Writer)
+pub test_writes : {X : Type 0} (r : Result X GenError) (roots : Roots Marked) (e : Exp) (b c : Block) (s : ℕ) (E : Exits) (other past : ℕ) (w0 w1 w2 w3 w4 w5 w6 w7 w8 : Writer)
     → Took w0 w1 other 1 → Same w0 w1 → Took w1 w2 past 1 → Same w1 w2
     → Wrote w2 w3 (roots (Test s false e) other w2.next) → Wrote w3 w4 (emit_block Plain roots b s E w3.next)
     → Set w4 w5 (Plain (jump past) ∷ []) → Set w5 w6 (Plain (Label other) ∷ []) → Wrote w6 w7 (emit_block Plain roots c s E w6.next)
     → Puts r w7 w8 (Plain (Label past) ∷ []) → Writes r w0 w8 (emit Plain roots (commands.Test e b c) s E w0.next)
-test_writes (Err x) roots e b c s E other past w0 w1 w2 w3 w4 w5 w6 w7 w8 t1 p1 t2 p2 h3 h4 h5 h6 h7 h8 = h8
+test_writes (Err x) roots e b c s E other past w0 w1 w2 w3 w4 w5 w6 w7 w8 t1 p1 t2 p2 h3 h4 h5 h6 h7 h8 = out_of_memory x _ h8
 test_writes (Ok x) roots e b c s E other past w0 w1 w2 w3 w4 w5 w6 w7 w8 t1 p1 t2 p2 h3 h4 h5 h6 h7 h8 =
     let n2 = two_taken w0.next w1.next w2.next t1.1 t2.1 in
     rw (h8.0, h8.1, h7.0, h7.1, h6.0, h6.1, h5.0, h5.1, h4.0, h4.1, h3.0, h3.1, p2, p1, n2, t2.0, t1.1, t1.0) (simp append_assoc, refl)
 
-pub while_writes : {X Y : Type 0} (r : Result X Y) (a a1 : Around) (sense : Bool) (e : Exp) (b : Block) (s again past : ℕ) (w0 w1 w2 w3 w4 w5 w6 w7 : Writer)
+pub while_writes : {X : Type 0} (r : Result X GenError) (a a1 : Around) (sense : Bool) (e : Exp) (b : Block) (s again past : ℕ) (w0 w1 w2 w3 w4 w5 w6 w7 : Writer)
     → Took w0 w1 again 1 → Same w0 w1 → Took w1 w2 past 1 → Same w1 w2 → a1 ≡ record a { broken = past; looped = again }
     → Set w2 w3 (Plain (Label again) ∷ []) → Wrote w3 w4 (roots_in a (Test s (not sense) e) past w3.next)
     → Wrote w4 w5 (emit_block Plain (roots_in a1) b s (exits_of a1) w4.next) → Set w5 w6 (Plain (jump again) ∷ [])
     → Puts r w6 w7 (Plain (Label past) ∷ []) → Writes r w0 w7 (emit Plain (roots_in a) (commands.While sense e b) s (exits_of a) w0.next)
-while_writes (Err x) a a1 sense e b s again past w0 w1 w2 w3 w4 w5 w6 w7 t1 p1 t2 p2 l h3 h4 h5 h6 h7 = h7
+while_writes (Err x) a a1 sense e b s again past w0 w1 w2 w3 w4 w5 w6 w7 t1 p1 t2 p2 l h3 h4 h5 h6 h7 = out_of_memory x _ h7
 while_writes (Ok x) a a1 sense e b s again past w0 w1 w2 w3 w4 w5 w6 w7 t1 p1 t2 p2 l h3 h4 h5 h6 h7 =
     let n2 = two_taken w0.next w1.next w2.next t1.1 t2.1 in
     rw (h7.0, h7.1, h6.0, h6.1, h5.0, h5.1, l, h4.0, h4.1, h3.0, h3.1, p2, p1, n2, t2.0, t1.1, t1.0) (simp append_assoc, refl)
 
-pub repeat_writes : {X Y : Type 0} (r : Result X Y) (a a1 : Around) (b : Block) (s again past : ℕ) (w0 w1 w2 w3 w4 w5 w6 : Writer)
+pub repeat_writes : {X : Type 0} (r : Result X GenError) (a a1 : Around) (b : Block) (s again past : ℕ) (w0 w1 w2 w3 w4 w5 w6 : Writer)
     → Took w0 w1 again 1 → Same w0 w1 → Took w1 w2 past 1 → Same w1 w2 → a1 ≡ record a { broken = past; looped = again }
     → Set w2 w3 (Plain (Label again) ∷ []) → Wrote w3 w4 (emit_block Plain (roots_in a1) b s (exits_of a1) w3.next) → Set w4 w5 (Plain (jump again) ∷ [])
     → Puts r w5 w6 (Plain (Label past) ∷ []) → Writes r w0 w6 (emit Plain (roots_in a) (commands.Repeat b) s (exits_of a) w0.next)
-repeat_writes (Err x) a a1 b s again past w0 w1 w2 w3 w4 w5 w6 t1 p1 t2 p2 l h3 h4 h5 h6 = h6
+repeat_writes (Err x) a a1 b s again past w0 w1 w2 w3 w4 w5 w6 t1 p1 t2 p2 l h3 h4 h5 h6 = out_of_memory x _ h6
 repeat_writes (Ok x) a a1 b s again past w0 w1 w2 w3 w4 w5 w6 t1 p1 t2 p2 l h3 h4 h5 h6 =
     let n2 = two_taken w0.next w1.next w2.next t1.1 t2.1 in
     rw (h6.0, h6.1, h5.0, h5.1, h4.0, h4.1, l, h3.0, h3.1, p2, p1, n2, t2.0, t1.1, t1.0) (simp append_assoc, refl)
 
-pub repeat_while_writes : {X Y : Type 0} (r : Result X Y) (a a1 : Around) (sense : Bool) (e : Exp) (b : Block) (s again past onward : ℕ) (w0 w1 w2 w3 w4 w5 w6 w7 w8 : Writer)
+pub repeat_while_writes : {X : Type 0} (r : Result X GenError) (a a1 : Around) (sense : Bool) (e : Exp) (b : Block) (s again past onward : ℕ) (w0 w1 w2 w3 w4 w5 w6 w7 w8 : Writer)
     → Took w0 w1 again 1 → Same w0 w1 → Took w1 w2 past 1 → Same w1 w2 → Took w2 w3 onward 1 → Same w2 w3 → a1 ≡ record a { broken = past; looped = onward }
     → Set w3 w4 (Plain (Label again) ∷ []) → Wrote w4 w5 (emit_block Plain (roots_in a1) b s (exits_of a1) w4.next) → Set w5 w6 (Plain (Label onward) ∷ [])
     → Wrote w6 w7 (roots_in a (Test s sense e) again w6.next)
     → Puts r w7 w8 (Plain (Label past) ∷ []) → Writes r w0 w8 (emit Plain (roots_in a) (commands.RepeatWhile b sense e) s (exits_of a) w0.next)
-repeat_while_writes (Err x) a a1 sense e b s again past onward w0 w1 w2 w3 w4 w5 w6 w7 w8 t1 p1 t2 p2 t3 p3 l h4 h5 h6 h7 h8 = h8
+repeat_while_writes (Err x) a a1 sense e b s again past onward w0 w1 w2 w3 w4 w5 w6 w7 w8 t1 p1 t2 p2 t3 p3 l h4 h5 h6 h7 h8 = out_of_memory x _ h8
 repeat_while_writes (Ok x) a a1 sense e b s again past onward w0 w1 w2 w3 w4 w5 w6 w7 w8 t1 p1 t2 p2 t3 p3 l h4 h5 h6 h7 h8 =
     let n2 = two_taken w0.next w1.next w2.next t1.1 t2.1 in
     let n3 = three_taken w0.next w1.next w2.next w3.next t1.1 t2.1 t3.1 in
     rw (h8.0, h8.1, h7.0, h7.1, h6.0, h6.1, h5.0, h5.1, l, h4.0, h4.1, p3, p2, p1, n3, t3.0, n2, t2.0, t1.1, t1.0) (simp append_assoc, refl)
 
-pub for_writes : {X Y : Type 0} (r : Result X Y) (roots roots1 : Roots Marked) (E E1 : Exits) (start limit start1 limit1 end step : Exp) (by : ℕ) (b : Block) (s s1 o again past onward : ℕ) (w0 w1 w2 w3 w4 w5 w6 w7 w8 w9 w10 w11 w12 : Writer)
+pub for_writes : {X : Type 0} (r : Result X GenError) (roots roots1 : Roots Marked) (E E1 : Exits) (start limit start1 limit1 end step : Exp) (by : ℕ) (b : Block) (s s1 o again past onward : ℕ) (w0 w1 w2 w3 w4 w5 w6 w7 w8 w9 w10 w11 w12 : Writer)
     → Took w0 w1 again 1 → Same w0 w1 → Took w1 w2 past 1 → Same w1 w2 → Took w2 w3 onward 1 → Same w2 w3 → roots1 ≡ roots → E1 ≡ record E { broken = past; looped = onward }
     → s1 ≡ s + 2 → o ≡ s + 1 → start1 ≡ start → limit1 ≡ limit → end ≡ end_of_for by s → step ≡ step_of_for by s
     → Wrote w3 w4 (roots (Assign s1 start1 (Frame s)) 0 w3.next) → Wrote w4 w5 (roots (Assign s1 limit1 (Frame o)) 0 w4.next)
@@ -101,13 +103,13 @@ pub for_writes : {X Y : Type 0} (r : Result X Y) (roots roots1 : Roots Marked) (
     → Wrote w7 w8 (emit_block Plain roots1 b s1 E1 w7.next) → Set w8 w9 (Plain (Label onward) ∷ [])
     → Wrote w9 w10 (roots (Assign s1 step (Frame s)) 0 w9.next) → Set w10 w11 (Plain (jump again) ∷ [])
     → Puts r w11 w12 (Plain (Label past) ∷ []) → Writes r w0 w12 (emit Plain roots (commands.For start limit by b) s E w0.next)
-for_writes (Err x) roots roots1 E E1 start limit start1 limit1 end step by b s s1 o again past onward w0 w1 w2 w3 w4 w5 w6 w7 w8 w9 w10 w11 w12 t1 p1 t2 p2 t3 p3 lr le es eo e1 e2 e3 e4 h4 h5 h6 h7 h8 h9 h10 h11 h12 = h12
+for_writes (Err x) roots roots1 E E1 start limit start1 limit1 end step by b s s1 o again past onward w0 w1 w2 w3 w4 w5 w6 w7 w8 w9 w10 w11 w12 t1 p1 t2 p2 t3 p3 lr le es eo e1 e2 e3 e4 h4 h5 h6 h7 h8 h9 h10 h11 h12 = out_of_memory x _ h12
 for_writes (Ok x) roots roots1 E E1 start limit start1 limit1 end step by b s s1 o again past onward w0 w1 w2 w3 w4 w5 w6 w7 w8 w9 w10 w11 w12 t1 p1 t2 p2 t3 p3 lr le es eo e1 e2 e3 e4 h4 h5 h6 h7 h8 h9 h10 h11 h12 =
     let n2 = two_taken w0.next w1.next w2.next t1.1 t2.1 in
     let n3 = three_taken w0.next w1.next w2.next w3.next t1.1 t2.1 t3.1 in
     rw (h12.0, h12.1, h11.0, h11.1, h10.0, h10.1, h9.0, h9.1, h8.0, h8.1, lr, le, h7.0, h7.1, h6.0, h6.1, h5.0, h5.1, h4.0, h4.1, p3, p2, p1, n3, t3.0, n2, t2.0, t1.1, t1.0, es, eo, e1, e2, e3, e4) (simp append_assoc, refl)
 
-pub switchon_writes : {X Y : Type 0} (r : Result X Y) (roots : Roots Marked) (E : Exits) (outer : List Numbered) (e : Exp) (is : Items) (s past d count : ℕ) (ls cs : List Numbered) (w0 w1 w2 w3 w4 w5 w6 w7 w8 w9 w10 : Writer)
+pub switchon_writes : {X : Type 0} (r : Result X GenError) (roots : Roots Marked) (E : Exits) (outer : List Numbered) (e : Exp) (is : Items) (s past d count : ℕ) (ls cs : List Numbered) (w0 w1 w2 w3 w4 w5 w6 w7 w8 w9 w10 : Writer)
     → E.labels ≡ (λ n. label_in outer n 0) → Took w0 w1 past 1 → Same w0 w1
     → d ≡ defaulted is w1.next past → cs ≡ case_pairs is w1.next → count ≡ cases_in is → w2.next ≡ w1.next + entries_in is → Same w1 w2
     → Wrote w2 w3 (roots (Value s e) 0 w2.next) → ls ≡ label_pairs is w3.next ++ outer → w4.next ≡ w3.next + labels_in is → Same w3 w4
@@ -115,23 +117,25 @@ pub switchon_writes : {X Y : Type 0} (r : Result X Y) (roots : Roots Marked) (E 
     → Set w7 w8 (table_of Plain is (λ v. label_in cs v d))
     → Wrote w8 w9 (emit_items Plain roots is s (record E { cases = past; labels = λ n. label_in ls n 0; case_of = λ v. label_in cs v d; default_of = d }) w8.next)
     → Puts r w9 w10 (Plain (Label past) ∷ []) → Writes r w0 w10 (emit Plain roots (commands.Switchon e is) s E w0.next)
-switchon_writes (Err x) roots E outer e is s past d count ls cs w0 w1 w2 w3 w4 w5 w6 w7 w8 w9 w10 eo t1 p1 ed ec en n2 p2 h3 el n4 p4 h5 h6 h7 h8 h9 h10 = h10
+switchon_writes (Err x) roots E outer e is s past d count ls cs w0 w1 w2 w3 w4 w5 w6 w7 w8 w9 w10 eo t1 p1 ed ec en n2 p2 h3 el n4 p4 h5 h6 h7 h8 h9 h10 = out_of_memory x _ h10
 switchon_writes (Ok x) roots E outer e is s past d count ls cs w0 w1 w2 w3 w4 w5 w6 w7 w8 w9 w10 eo t1 p1 ed ec en n2 p2 h3 el n4 p4 h5 h6 h7 h8 h9 h10 =
     let hl = ap (λ (xs : List Numbered). λ (n : ℕ). label_in xs n 0) el ∙ labelled_is is w3.next outer ∙ ap (λ (g : ℕ → ℕ). labelled is w3.next g) (sym eo) in
     let hc = ap (λ (xs : List Numbered). λ (v : ℕ). label_in xs v d) ec ∙ cased_is is w1.next d in
     rw (h10.0, h10.1, h9.0, h9.1, h8.0, h8.1, h7.0, h7.1, h6.0, h6.1, h5.0, h5.1, hl, hc, p4, n4, h3.0, h3.1, p2, p1, ed, en, n2, t1.1, t1.0) (simp append_assoc, refl)
 
-pub block_writes : {X Y : Type 0} (r : Result X Y) (roots : Roots Marked) (E : Exits) (outer : List Numbered) (ds : List (List Variable)) (is : Items) (s inner : ℕ) (ls : List Numbered) (w0 w1 w2 w3 : Writer)
+pub block_writes : {X : Type 0} (r : Result X GenError) (roots : Roots Marked) (E : Exits) (outer : List Numbered) (ds : List (List Variable)) (is : Items) (s inner : ℕ) (ls : List Numbered) (w0 w1 w2 w3 : Writer)
     → E.labels ≡ (λ n. label_in outer n 0) → ls ≡ label_pairs is w0.next ++ outer → w1.next ≡ w0.next + labels_in is → Same w0 w1
     → Wrote w1 w2 (emit_declarations roots ds s w1.next) → inner ≡ s + cells_declared ds
     → Writes r w2 w3 (emit_items Plain roots is inner (record E { labels = λ n. label_in ls n 0 }) w2.next)
     → Writes r w0 w3 (emit_block Plain roots (block ds is) s E w0.next)
-block_writes (Err x) roots E outer ds is s inner ls w0 w1 w2 w3 eo el n1 p1 h2 ei h3 = h3
+block_writes (Err x) roots E outer ds is s inner ls w0 w1 w2 w3 eo el n1 p1 h2 ei h3 =
+    let hl = ap (λ (xs : List Numbered). λ (n : ℕ). label_in xs n 0) el ∙ labelled_is is w0.next outer ∙ ap (λ (g : ℕ → ℕ). labelled is w0.next g) (sym eo) in
+    rw (hl, ei, h2.1, n1) at h3
 block_writes (Ok x) roots E outer ds is s inner ls w0 w1 w2 w3 eo el n1 p1 h2 ei h3 =
     let hl = ap (λ (xs : List Numbered). λ (n : ℕ). label_in xs n 0) el ∙ labelled_is is w0.next outer ∙ ap (λ (g : ℕ → ℕ). labelled is w0.next g) (sym eo) in
     rw (h3.0, h3.1, hl, ei, h2.0, h2.1, p1, n1) (simp append_assoc, refl)
 
-pub command_writes : {X Y : Type 0} (r : Result X Y) (w0 w1 : Writer) (roots : Roots Marked) (s : ℕ) (E : Exits) (f : ℕ) (k k1 : commands.Command)
+pub command_writes : {X : Type 0} (r : Result X GenError) (w0 w1 : Writer) (roots : Roots Marked) (s : ℕ) (E : Exits) (f : ℕ) (k k1 : commands.Command)
     → k ≡ k1 → Writes r w0 w1 (emit Plain roots k1 s E f) → Writes r w0 w1 (emit Plain roots k s E f)
 command_writes r w0 w1 roots s E f k k1 e h = subst (λ (x : commands.Command). Writes r w0 w1 (emit Plain roots x s E f)) (sym e) h
 
@@ -156,9 +160,9 @@ written_is w w1 ps h =
     drop_parts w1.parts.items (length w.parts.items) ∙ ap (λ (xs : List Marked). drop (length w.parts.items) xs) h
     ∙ ap (λ (n : ℕ). drop n (there w ++ ps)) (sym (length-map w.parts.items part)) ∙ drop-append_seam (there w) ps
 
-pub does_writes : {X Y : Type 0} (r : Result X Y) (roots : Roots Marked) (E : Exits) (body : commands.Body) (b : Block) (s s1 : ℕ) (w0 w1 w2 : Writer)
+pub does_writes : {X : Type 0} (r : Result X GenError) (roots : Roots Marked) (E : Exits) (body : commands.Body) (b : Block) (s s1 : ℕ) (w0 w1 w2 : Writer)
     → body ≡ commands.Does b → E ≡ body_exits 0 → s1 ≡ s → Wrote w0 w1 (emit_block Plain roots b s1 E w0.next)
     → Puts r w1 w2 (Plain zero_item ∷ Plain (execute 4) ∷ []) → Writes r w0 w2 (emit_body Plain roots body s w0.next)
-does_writes (Err x) roots E body b s s1 w0 w1 w2 eb ee es h1 h2 = h2
+does_writes (Err x) roots E body b s s1 w0 w1 w2 eb ee es h1 h2 = out_of_memory x _ h2
 does_writes (Ok x) roots E body b s s1 w0 w1 w2 eb ee es h1 h2 =
     rw (eb, h2.0, h2.1, h1.0, h1.1, ee, es) (append_assoc (there w0) (emit_block Plain roots b s (body_exits 0) w0.next).0 (Plain zero_item ∷ Plain (execute 4) ∷ []), refl)

@@ -5,3 +5,5 @@ pub mod Turns
 pub mod Bodies
 pub mod Whole
 pub mod Choosing
+pub mod Rises
+pub mod Outs

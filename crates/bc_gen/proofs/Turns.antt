@@ -24,7 +24,7 @@ append_nothing [] = refl
 append_nothing (x ∷ xs) = ap (λ (ys : List Marked). x ∷ ys) (append_nothing xs)
 
 -- the first item, and then the others
-item_first : (roots : Roots Marked) (x : ListItem) (is : Items) (s : ℕ) (E : Exits) (f : ℕ)
+pub item_first : (roots : Roots Marked) (x : ListItem) (is : Items) (s : ℕ) (E : Exits) (f : ℕ)
     → emit_items Plain roots (items_before x is) s E f
     ≡ (let y = emit_items Plain roots (items_before x no_item) s E f in let z = emit_items Plain roots is s E y.1 in let whole : Code Marked = (y.0 ++ z.0, z.1) in whole)
 item_first roots (entries.Command c) is s E f =
@@ -68,7 +68,7 @@ declarations_turn roots xs i x l l1 cells l0 w0 w w1 whole h g ec el wrote inv =
     )
 
 -- what a variable is set to
-variable_emitted : (roots : Roots Marked) (v : commands.Variable) (k s f : ℕ) → emit_variable roots v k s f ≡ roots (Assign s (initial_of v k) (Frame k)) 0 f
+pub variable_emitted : (roots : Roots Marked) (v : commands.Variable) (k s f : ℕ) → emit_variable roots v k s f ≡ roots (Assign s (initial_of v k) (Frame k)) 0 f
 variable_emitted roots (commands.Initial e) k s f = refl
 variable_emitted roots (commands.Vector n) k s f = refl
 
@@ -88,11 +88,11 @@ variables_turn roots s xs i x e k k1 cells w0 w w1 whole h g ee ec ek wrote inv 
       sym (ap (λ (p : Code Marked). p.1) q) ∙ inv.1,
     )
 
-abbrev Filled : Type 0
+abbrev pub Filled : Type 0
 Filled = List Marked × ℕ × List (List Marked)
 
 -- the first piece, and then the others
-piece_first : (levels : ℕ → ℕ) (bodies : BodiesCode Marked) (p : Piece) (ps : List Piece) (f : ℕ)
+pub piece_first : (levels : ℕ → ℕ) (bodies : BodiesCode Marked) (p : Piece) (ps : List Piece) (f : ℕ)
     → fill Plain levels bodies (p ∷ ps) f
     ≡ (let y = one_piece levels bodies p (label_ahead ps) f in let z = fill Plain levels bodies ps y.1 in let whole : Filled = (y.0 ++ z.0, z.1, y.2 ++ z.2) in whole)
 piece_first levels bodies (pieces.Item i) ps f = refl

@@ -1,12 +1,12 @@
 -- A section's code, put together.
-use Rattle.std.proofs.Common.{ℕ, ◌+◌, ◌≡◌, List, [], ◌++◌, map, length, Vec, Global, refl, ap, ◌∙◌, append_assoc, arith}
+use Rattle.std.proofs.Common.{ℕ, ◌+◌, ◌≤◌, ◌≡◌, List, [], ◌++◌, map, length, Vec, Global, refl, ap, ◌∙◌, append_assoc, arith}
 use Rattle.std.proofs.lemmas.List.{length-map}
 use Rattle.bc_item.specs.declared.item.Item.{Item}
 use Rattle.bc_core.specs.declared.command.Place.{Place}
 use Rattle.bc_core.specs.declared.command.Valof.{Valof}
 use Rattle.bc_core.specs.View.{place_of, section}
 use Rattle.bc_emit.specs.Emit.{Code}
-use Rattle.bc_emit.specs.Bodies.{level_of}
+use Rattle.bc_emit.specs.Bodies.{level_of, bodies_from}
 use Rattle.bc_emit.specs.Section.{emit_routines, routines_over, routines_code, data_items, setting_items, section_items}
 use Rattle.bc_emit.specs.Entries.{Marked, Plain, plain_items, marked_over, marked_code}
 use Rattle.bc_emit.proofs.Standing.{marks_add_nothing}
@@ -17,6 +17,7 @@ use Rattle.bc_gen.specs.declared.writer.Writer.{Writer}
 use Rattle.bc_gen.specs.Chosen.{coding}
 use Rattle.bc_gen.specs.Parts.{parts}
 use Rattle.bc_gen.specs.Surroundings.{roots_in, roots_of, valofs_in}
+use Rattle.bc_gen.proofs.Rises.{marked_up, bodies_up, routines_up}
 use Rattle.bc_gen.proofs.Forms.{there, Wrote}
 
 abbrev Section : Type 0
@@ -46,3 +47,24 @@ items_are core ps w is0 is1 is2 is3 ep ew h0 h1 h2 h3 =
     h3 ∙ h2 ∙ ap (λ (is : List Item). is ++ setting_items 0 (map place_of ps)) (h1 ∙ ap (λ (is : List Item). is ++ data_items 0 (map place_of ps)) (h0 ∙ m))
     ∙ append_assoc (routines_code coding (section core)).0 (data_items 0 (map place_of ps)) (setting_items 0 (map place_of ps))
     ∙ ap (λ (qs : List Place). (routines_code coding (section core)).0 ++ (data_items 0 (map place_of qs) ++ setting_items 0 (map place_of qs))) ep
+
+same_up : (n m : ℕ) → n ≡ m → n ≤ m
+same_up n m h = omega arith
+
+-- the labels of a section are no fewer than those of its places, and just those of its routines
+pub places_up : (core : Section) (ps : List Place) (n : ℕ) → ps ≡ core.0 → n ≡ 1 + length ps → n ≤ (routines_code coding (section core)).1
+places_up core ps n ep h =
+    let c = section core in
+    let levels = level_of c.valofs in
+    let bodies = bodies_from Plain (marked_over coding levels) 0 c.valofs in
+    let up = routines_up (marked_over coding levels bodies) (marked_up coding levels bodies (bodies_up coding levels 0 c.valofs)) 0 c.places (length c.places + 1) in
+    let e = ap (λ (x : Code Item). x.1) (section_plain coding c) in
+    let k : n ≡ length c.places + 1 = first_label ps 1 n refl h ∙ ap (λ (qs : List Place). length (map place_of qs) + 1) ep in
+    rw (k, ← e) up
+
+pub routines_end : (core : Section) (ps : List Place) (vs : List Valof) (a : Around) (f0 n : ℕ) → ps ≡ core.0 → vs ≡ core.1 → f0 ≡ 1 → n ≡ f0 + length ps → roots_in a ≡ roots_of (valofs_in vs) 0
+    → (emit_routines Plain (roots_in a) 0 (map place_of ps) n).1 ≤ (routines_code coding (section core)).1
+routines_end core ps vs a f0 n ep ev one taken er =
+    let k = first_label ps f0 n one taken in
+    let e : emit_routines Plain (roots_in a) 0 (map place_of ps) n ≡ routines_over Plain (marked_over coding (level_of (section core).valofs)) (section core) = rw (er, k, ep, ev) refl in
+    same_up _ _ (ap (λ (c : Code Marked). c.1) e ∙ ap (λ (c : Code Item). c.1) (section_plain coding (section core)))

@@ -1,14 +1,28 @@
 -- For proofs: what one call writes behind the code that is there.
-use Rattle.std.specs.Prelude.{◌≡◌, ◌++◌, List, Result, IfOk}
+use Rattle.std.specs.Prelude.{◌≡◌, ℕ, ◌<◌, ◌++◌, List, Option, Some, None, Result, Ok, Err}
 use Rattle.bc_emit.specs.Emit.{Code}
 use Rattle.bc_emit.specs.Entries.{Marked}
+use Rattle.bc_gen.specs.declared.gen_error.GenError.{GenError}
+use Rattle.bc_gen.specs.declared.gen_error.GenError.TheVariants as errors
 use Rattle.bc_gen.specs.declared.writer.Writer.{Writer}
 use Rattle.bc_gen.specs.Parts.{parts}
 
--- this code came behind what was there, and the next free label is the one behind it, unless an error came
-abbrev pub Writes : {X E : Type 0} → Result X E → Writer → Writer → Code Marked → Type 0
-Writes result before after code = IfOk result (λ _. (parts after.parts.items ≡ parts before.parts.items ++ code.0) × (after.next ≡ code.1))
+-- if this error says that labels ran out, then there is none of this number
+abbrev pub RunsOut : GenError → ℕ → Type 0
+RunsOut errors.TooManyLabels next = 20001 < next
+RunsOut errors.Memory next = Unit {0}
 
--- these items came behind, and no label was taken
-abbrev pub Puts : {X E : Type 0} → Result X E → Writer → Writer → List Marked → Type 0
-Puts result before after ps = IfOk result (λ _. (parts after.parts.items ≡ parts before.parts.items ++ ps) × (after.next ≡ before.next))
+-- this code came behind what was there, and the next free label is the one behind it; or labels ran out in it, or memory
+abbrev pub Writes : {X : Type 0} → Result X GenError → Writer → Writer → Code Marked → Type 0
+Writes (Ok x) before after code = (parts after.parts.items ≡ parts before.parts.items ++ code.0) × (after.next ≡ code.1)
+Writes (Err e) before after code = RunsOut e code.1
+
+-- these items came behind, and no label was taken, unless memory ran out
+abbrev pub Puts : {X : Type 0} → Result X GenError → Writer → Writer → List Marked → Type 0
+Puts (Ok x) before after ps = (parts after.parts.items ≡ parts before.parts.items ++ ps) × (after.next ≡ before.next)
+Puts (Err e) before after ps = e ≡ errors.Memory
+
+-- the next label of a root, which is none where it is no word
+abbrev pub IsNext : Option ℕ → ℕ → Type 0
+IsNext None n = 65536 < n
+IsNext (Some m) n = m ≡ n

@@ -3,6 +3,7 @@ ghost use Rattle.std.specs.Prelude.{◌≡◌, ◌+◌, ◌≤◌, IfOk, IfSome}
 ghost use Rattle.bc_core.specs.View.{root as root_view};
 ghost use Rattle.bc_derive.specs.View.{derivation as derivation_view};
 ghost use Rattle.bc_gen.specs.Chosen.{coding};
+ghost use Rattle.bc_gen.specs.Writing.{IsNext};
 
 use crate::nodes::is_within;
 use bc_core::Root;
@@ -29,7 +30,7 @@ pub(crate) fn chosen(alloc: Global, root: &Root) -> Result<Derivation, Memory>
 #[tactic(auto, using(crate::proofs::Choosing::next_gives))]
 pub(crate) fn label_behind(root: &Root, derivation: &Derivation, first: u16) -> Option<u32>
     requires { derivation_view derivation.now ≡ coding.derivation (root_view root.now) }
-    ensures { IfSome result (λ next. next ≡ first + coding.labels (root_view root.now)) }
+    ensures { IsNext result (first + coding.labels (root_view root.now)) }
 {
     next_label(root, derivation, first)
 }

@@ -16,18 +16,18 @@ use crate::writer::Writer;
 use bc_core::{
     Block, Command, Condition, CoreExp, Declaration, ListItem, Root, Variable, copy_expression,
 };
-use bc_word::{Op, Word};
+use bc_word::{Memory, Op, Word};
 use std::alloc::Global;
 
 /// The offset so many cells behind another. No frame of a section has an offset past 65,535.
-pub(crate) fn behind(offset: u16, cells: u16) -> Result<u16, GenError>
+pub(crate) fn behind(offset: u16, cells: u16) -> Result<u16, Memory>
     ensures { IfOk result (λ found. found ≡ offset + cells) }
 {
-    offset.checked_add(cells).ok_or(GenError::Memory)
+    offset.checked_add(cells).ok_or(Memory)
 }
 
 /// The content of the cell at this offset of the frame.
-fn variable(alloc: Global, offset: u16) -> Result<Box<CoreExp>, GenError>
+fn variable(alloc: Global, offset: u16) -> Result<Box<CoreExp>, Memory>
     ensures { IfOk result (λ e. exp e.value ≡ tree.Load (tree.Frame offset)) }
 {
     let address = Box::new(alloc, CoreExp::Frame(offset))?;
@@ -35,7 +35,7 @@ fn variable(alloc: Global, offset: u16) -> Result<Box<CoreExp>, GenError>
 }
 
 /// Whether a FOR is past its limit: its variable at this offset is greater, or less where it counts down.
-fn end_of_for(alloc: Global, by: Word, offset: u16) -> Result<CoreExp, GenError>
+fn end_of_for(alloc: Global, by: Word, offset: u16) -> Result<CoreExp, Memory>
     ensures { IfOk result (λ e. exp e ≡ end_of by offset) }
 {
     let op = if by.get() < 32768 {
@@ -48,7 +48,7 @@ fn end_of_for(alloc: Global, by: Word, offset: u16) -> Result<CoreExp, GenError>
 }
 
 /// The sum of a FOR's variable at this offset and its step.
-fn step_of_for(alloc: Global, by: Word, offset: u16) -> Result<CoreExp, GenError>
+fn step_of_for(alloc: Global, by: Word, offset: u16) -> Result<CoreExp, Memory>
     ensures { IfOk result (λ e. exp e ≡ step_of by offset) }
 {
     let variable_now = variable(alloc, offset)?;
@@ -57,7 +57,7 @@ fn step_of_for(alloc: Global, by: Word, offset: u16) -> Result<CoreExp, GenError
 }
 
 /// How many cells a variable takes: its own, and those of its vector.
-fn cells_of(variable: &Variable) -> Result<u16, GenError>
+fn cells_of(variable: &Variable) -> Result<u16, Memory>
     ensures { IfOk result (λ cells. cells ≡ cells_of_variable (variable_view variable.now)) }
 {
     match variable {
@@ -66,7 +66,7 @@ fn cells_of(variable: &Variable) -> Result<u16, GenError>
     }
 }
 
-fn cells_of_all(variables: &[Variable]) -> Result<u16, GenError>
+fn cells_of_all(variables: &[Variable]) -> Result<u16, Memory>
     ensures { IfOk result (λ cells. cells ≡ cells_of_variables (map variable_view variables.now)) }
 {
     let mut cells = 0u16;
@@ -77,7 +77,7 @@ fn cells_of_all(variables: &[Variable]) -> Result<u16, GenError>
 }
 
 /// What a variable at this offset is set to.
-fn initial(alloc: Global, variable: &Variable, offset: u16) -> Result<CoreExp, GenError>
+fn initial(alloc: Global, variable: &Variable, offset: u16) -> Result<CoreExp, Memory>
     ensures { IfOk result (λ e. exp e ≡ initial_of (variable_view variable.now) offset) }
 {
     match variable {

@@ -1,5 +1,5 @@
 //! The items of a section.
-ghost use Rattle.std.specs.Prelude.{◌≡◌, ◌++◌, ◌∷◌, ◌≤◌, IfOk, map, length};
+ghost use Rattle.std.specs.Prelude.{◌≡◌, ◌++◌, ◌∷◌, ◌≤◌, IfOk, IfErr, map, length};
 ghost use Rattle.bc_item.specs.declared.item.Item.TheVariants as item;
 ghost use Rattle.bc_core.specs.Level.{level_behind_parameters};
 ghost use Rattle.bc_core.specs.View.{body_of, place_of, section};
@@ -19,7 +19,7 @@ use crate::writer::Writer;
 use bc_core::{Body, Core, Place, Routine};
 use bc_derive::Entry;
 use bc_item::{GlobalNumber, Item, Segment};
-use bc_word::Word;
+use bc_word::{Memory, Word};
 use std::alloc::Global;
 
 /// The code of a section.
@@ -33,13 +33,15 @@ pub struct Generated {
 
 /// The items of a section, with the code of least words for each root, and an entry for each root.
 ///
-/// `TooManyLabels` comes where the section takes more than 20,000 labels. `Memory` comes where an allocation was
-/// refused, or where an offset of a frame, the number of a global or the length of a string would be larger than
-/// its instruction or its byte allows: of a section that `resolve` gives none is.
+/// `TooManyLabels` comes only where the section takes more than 20,000 labels, and such a section gets no items.
+/// `Memory` comes where an allocation was refused, or where an offset of a frame, the number of a global or the
+/// length of a string would be larger than its instruction or its byte allows: of a section that `resolve` gives
+/// none is.
 pub fn generate(alloc: Global, core: &Core) -> Result<Generated, GenError>
     ensures items { IfOk result (λ found. found.items ≡ section_items coding (section core.now)) }
     ensures entries { IfOk result (λ found. map entry_view found.entries.items ≡ section_entries coding (section core.now)) }
     ensures labels { IfOk result (λ _. labels_suffice coding (section core.now)) }
+    ensures refused { IfErr result (λ fault. fault ≡ GenError.TooManyLabels → ¬ labels_suffice coding (section core.now)) }
 {
     let places = core.places();
     let mut writer = Writer {
@@ -96,7 +98,7 @@ impl Writer {
 }
 
 /// The statics, tables and strings, each with the label of its place.
-fn put_data(items: &mut Vec<Item>, places: &[Place]) -> Result<(), GenError>
+fn put_data(items: &mut Vec<Item>, places: &[Place]) -> Result<(), Memory>
     requires { length places.now ≤ 20000 }
     ensures { IfOk result (λ _. items.new.items ≡ items.old.items ++ data_items 0 (map place_of places.now)) }
 {
@@ -122,7 +124,7 @@ fn put_data(items: &mut Vec<Item>, places: &[Place]) -> Result<(), GenError>
     Ok(())
 }
 
-fn put_words(items: &mut Vec<Item>, words: &[Word]) -> Result<(), GenError>
+fn put_words(items: &mut Vec<Item>, words: &[Word]) -> Result<(), Memory>
     ensures { IfOk result (λ _. items.new.items ≡ items.old.items ++ map item.Data words.now) }
 {
     for word in words {
@@ -132,12 +134,12 @@ fn put_words(items: &mut Vec<Item>, words: &[Word]) -> Result<(), GenError>
 }
 
 /// The length of a string, and its bytes.
-fn put_string(items: &mut Vec<Item>, bytes: &[u8]) -> Result<(), GenError>
+fn put_string(items: &mut Vec<Item>, bytes: &[u8]) -> Result<(), Memory>
     ensures { IfOk result (λ _. items.new.items ≡ items.old.items ++ item.Byte (length bytes.now) ∷ map item.Byte bytes.now) }
 {
     match u8::try_from(bytes.len()) {
         Ok(length) => items.push(Item::Byte(length))?,
-        Err(_) => return Err(GenError::Memory),
+        Err(_) => return Err(Memory),
     }
     for byte in bytes {
         items.push(Item::Byte(*byte))?;
@@ -146,7 +148,7 @@ fn put_string(items: &mut Vec<Item>, bytes: &[u8]) -> Result<(), GenError>
 }
 
 /// The globals that routines set.
-fn put_settings(items: &mut Vec<Item>, places: &[Place]) -> Result<(), GenError>
+fn put_settings(items: &mut Vec<Item>, places: &[Place]) -> Result<(), Memory>
     requires { length places.now ≤ 20000 }
     ensures { IfOk result (λ _. items.new.items ≡ items.old.items ++ setting_items 0 (map place_of places.now)) }
 {
@@ -161,12 +163,12 @@ fn put_settings(items: &mut Vec<Item>, places: &[Place]) -> Result<(), GenError>
 }
 
 /// The global that a routine sets to its label, if it sets one.
-fn put_setting(items: &mut Vec<Item>, global: Option<u16>, label: u16) -> Result<(), GenError>
+fn put_setting(items: &mut Vec<Item>, global: Option<u16>, label: u16) -> Result<(), Memory>
     ensures { IfOk result (λ _. items.new.items ≡ items.old.items ++ setting global label) }
 {
     let Some(global) = global else { return Ok(()) };
     match GlobalNumber::new(global) {
-        None => Err(GenError::Memory),
+        None => Err(Memory),
         Some(number) => Ok(items.push(Item::Global {
             number,
             label: Word::new(label),

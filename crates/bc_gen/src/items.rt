@@ -1,9 +1,9 @@
 //! What one call puts behind the code that is there.
-ghost use Rattle.std.specs.Prelude.{◌≡◌, ◌+◌, ◌≤◌, IfOk, [], ◌∷◌};
+ghost use Rattle.std.specs.Prelude.{◌≡◌, ℕ, ◌+◌, ◌≤◌, IfOk, IfErr, [], ◌∷◌};
 ghost use Rattle.bc_item.specs.declared.item.Item.TheVariants as items;
 ghost use Rattle.bc_emit.specs.Emit.{jump as jump_item, execute as execute_item, zero_item};
 ghost use Rattle.bc_emit.specs.Entries.{Plain};
-ghost use Rattle.bc_gen.specs.Writing.{Puts};
+ghost use Rattle.bc_gen.specs.Writing.{IsNext, Puts, RunsOut};
 
 use crate::gen_error::GenError;
 use crate::parts::Part;
@@ -18,6 +18,7 @@ impl Writer {
     /// The first of so many labels, which are taken.
     pub(crate) fn take(&mut self, count: usize) -> Result<u16, GenError>
         ensures taken { IfOk result (λ first. (first ≡ self.old.next) × (self.new.next ≡ self.old.next + count)) }
+        ensures out { IfErr result (λ e. RunsOut e (self.old.next + count)) }
         ensures parts { self.new.parts ≡ self.old.parts }
     {
         let first = self.next;
@@ -31,6 +32,7 @@ impl Writer {
     /// The labels up to this one are taken.
     pub(crate) fn take_to(&mut self, next: Option<u32>) -> Result<(), GenError>
         ensures next { IfOk result (λ _. next ≡ Some self.new.next) }
+        ensures out { IfErr result (λ e. (n : ℕ) → IsNext next n → RunsOut e n) }
         ensures parts { self.new.parts ≡ self.old.parts }
     {
         match next {

@@ -1,8 +1,9 @@
 //! The labels of command lists.
-ghost use Rattle.std.specs.Prelude.{◌≡◌, ◌+◌, ◌++◌, ◌≤◌, IfOk, length};
+ghost use Rattle.std.specs.Prelude.{◌≡◌, ◌+◌, ◌++◌, ◌≤◌, IfOk, IfErr, length};
 ghost use Rattle.bc_core.specs.View.{items};
 ghost use Rattle.bc_emit.specs.Emit.{labels_in, defaulted, cases_in, entries_in};
 ghost use Rattle.bc_gen.specs.Surroundings.{label_pairs, case_pairs};
+ghost use Rattle.bc_gen.specs.Writing.{RunsOut};
 
 use crate::around::Numbered;
 use crate::gen_error::GenError;
@@ -25,6 +26,7 @@ impl Writer {
     ) -> Result<Vec<Numbered>, GenError>
         ensures labels { IfOk result (λ found. found.items ≡ label_pairs (items list.now) self.old.next ++ outer.now) }
         ensures next { IfOk result (λ _. self.new.next ≡ self.old.next + labels_in (items list.now)) }
+        ensures out { IfErr result (λ e. RunsOut e (self.old.next + labels_in (items list.now))) }
         ensures parts { self.new.parts ≡ self.old.parts }
     {
         let mut labels = Vec::new(self.alloc);
@@ -52,6 +54,7 @@ impl Writer {
         ensures count { IfOk result (λ found. length found.cases.items ≡ cases_in (items list.now)) }
         ensures few { IfOk result (λ found. length found.cases.items ≤ self.new.next) }
         ensures next { IfOk result (λ _. self.new.next ≡ self.old.next + entries_in (items list.now)) }
+        ensures out { IfErr result (λ e. RunsOut e (self.old.next + entries_in (items list.now))) }
         ensures parts { self.new.parts ≡ self.old.parts }
     {
         let mut cases = Vec::new(self.alloc);

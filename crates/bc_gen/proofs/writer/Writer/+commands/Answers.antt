@@ -1,20 +1,24 @@
-use Rattle.std.proofs.Common.{◌≡◌, ◌+◌, ℕ, List, map, drop, length, ap, ◌∙◌, refl, arith}
+use Rattle.std.proofs.Common.{◌≡◌, ◌+◌, ℕ, List, map, drop, length, ap, ◌∙◌, refl, arith, not, true, false}
 use Rattle.bc_core.specs.declared.command.Valof.{Valof}
 use Rattle.bc_core.specs.Level.{cells_declared}
-use Rattle.bc_core.specs.Commands.{no_item}
-use Rattle.bc_core.specs.View.{exp, command, items, items_before, block_of, declarations, variable}
+use Rattle.bc_core.specs.Commands as commands
+use Rattle.bc_core.specs.Commands.{no_item, block}
+use Rattle.bc_core.specs.Tree.{Value, Test, Assign, Frame}
+use Rattle.bc_core.specs.View.{exp, command, items, items_before, block_of, declarations, variable, root}
 use Rattle.bc_core.proofs.Rows.{if_view, test_view, while_view, repeat_view, repeat_while_view, for_view, switchon_view, nested_view}
-use Rattle.bc_emit.specs.Emit.{cases_in, emit_items, emit_declarations, emit_variables}
+use Rattle.bc_emit.specs.Emit.{cases_in, emit_items, emit_declarations, emit_variables, emit, emit_block, labels_in, entries_in}
 use Rattle.bc_emit.specs.Bodies.{fill, level_of, label_ahead}
 use Rattle.bc_emit.specs.Entries.{Plain, count_items, marked_over}
 use Rattle.bc_gen.specs.Chosen.{coding}
 use Rattle.bc_gen.specs.declared.parts.Part.{Part}
 use Rattle.bc_gen.specs.Parts.{parts}
-use Rattle.bc_gen.specs.Surroundings.{roots_in, exits_of, valofs_in, bodies_of}
+use Rattle.bc_gen.specs.Surroundings.{roots_in, exits_of, valofs_in, bodies_of, label_in, one_piece}
 use Rattle.bc_gen.proofs.Weights.{weight, weight_of_items, weight_of_block, weight_of_valofs, weight_if, weight_test, weight_while, weight_repeat, weight_repeat_while, weight_for, weight_switchon, weight_nested, weight_of_one, weight_of_valof}
-use Rattle.bc_gen.proofs.Forms.{if_writes, test_writes, while_writes, repeat_writes, repeat_while_writes, for_writes, switchon_writes, block_writes, command_writes, writes_nothing, written_is}
+use Rattle.bc_gen.proofs.Forms.{if_writes, test_writes, while_writes, repeat_writes, repeat_while_writes, for_writes, switchon_writes, block_writes, command_writes, writes_nothing, written_is, two_taken, three_taken}
 use Rattle.bc_gen.proofs.Turns.{list_turn, declarations_turn, declarations_end, variables_turn, fill_turn}
 use Rattle.bc_gen.proofs.Bodies.{none_before, none_behind, outside, valof_writes}
+use Rattle.bc_gen.proofs.Outs.{block_declared, block_labelled, bodies_grow, declarations_out, ended, fails, fill_out, for_ended, for_limited, for_started, for_stepped, for_taken, for_tested, grown_on, if_taken, if_tested, less_one, less_two, limited, list_out, repeat_done, repeat_taken, repeat_while_done, repeat_while_half, repeat_while_taken, rising, root_taken, second, second_of_three, started, switchon_done, switchon_taken, switchon_valued, test_done, test_half, test_taken, test_tested, tested, third, valof_out, variables_out, while_done, while_taken, while_tested}
+use Rattle.bc_gen.proofs.Rises.{less}
 use Rattle.bc_gen.proofs.writer.Writer.+commands.Goals as goal
 
 pub command-if_command-requires : goal.command-if_command-requires
@@ -237,3 +241,289 @@ valof-returns-in_ok-block-in-Some t c =
     valof_writes c.zero.result c.args.around.now.valofs.now c.args.around.now.least c.args.number c.in-Some.valof.now (roots_in c.body-within.result) (exits_of c.body-within.result) c.args.label
     c.args.self.now c.block.new.self c.zero.new.self c.if-number-around.false c.in-Some.ensures.lookup.3.0 c.in-Some.ensures.lookup.1 c.body-within.ensures.roots c.body-within.ensures.exits
     c.in_ok-block-in-Some.ensures c.zero.ensures
+
+-- where labels run out in a part of a form
+pub if_command-returns-in_err-past : goal.if_command-returns-in_err-past
+if_command-returns-in_err-past t c =
+    fails c.from_residual.result c.in_err-past.field-0.0 c.args.self.now c.take.new.self (c.args.self.now.next + 1)
+    (emit Plain (roots_in c.args.around.now) (commands.If c.args.condition.now.sense (exp c.args.condition.now.test) (block_of c.args.body.now)) c.args.level (exits_of c.args.around.now) c.args.self.now.next)
+    c.from_residual.ensures.1 c.in_err-past.ensures.out
+    (if_taken (roots_in c.args.around.now) (rising c.args.around.now) c.args.condition.now.sense (exp c.args.condition.now.test) (block_of c.args.body.now) c.args.level (exits_of c.args.around.now) c.args.self.now.next)
+
+pub if_command-returns-in_err-test : goal.if_command-returns-in_err-test
+if_command-returns-in_err-test t c =
+    fails c.from_residual-in_err-test.result c.in_err-test.field-0.0 c.args.self.now c.test.new.self (roots_in c.args.around.now (Test c.args.level (not c.args.condition.now.sense) (exp c.args.condition.now.test)) c.in_ok-past.past c.take.new.self.next).1
+    (emit Plain (roots_in c.args.around.now) (commands.If c.args.condition.now.sense (exp c.args.condition.now.test) (block_of c.args.body.now)) c.args.level (exits_of c.args.around.now) c.args.self.now.next)
+    c.from_residual-in_err-test.ensures.1 c.in_err-test.ensures
+    (if_tested (roots_in c.args.around.now) (rising c.args.around.now) c.args.condition.now.sense (exp c.args.condition.now.test) (block_of c.args.body.now) c.args.level (exits_of c.args.around.now) c.args.self.now.next _ _ c.in_ok-past.ensures.taken.0 c.in_ok-past.ensures.taken.1)
+
+pub test_command-returns-in_err-other : goal.test_command-returns-in_err-other
+test_command-returns-in_err-other t c =
+    fails c.from_residual.result c.in_err-other.field-0.0 c.args.self.now c.take.new.self (c.args.self.now.next + 1)
+    (emit Plain (roots_in c.args.around.now) (commands.Test (exp c.args.test.now) (block_of c.args.this.now) (block_of c.args.that.now)) c.args.level (exits_of c.args.around.now) c.args.self.now.next)
+    c.from_residual.ensures.1 c.in_err-other.ensures.out
+    (less_one _ _ (test_taken (roots_in c.args.around.now) (rising c.args.around.now) (exp c.args.test.now) (block_of c.args.this.now) (block_of c.args.that.now) c.args.level (exits_of c.args.around.now) c.args.self.now.next))
+
+pub test_command-returns-in_err-past : goal.test_command-returns-in_err-past
+test_command-returns-in_err-past t c =
+    fails c.from_residual-in_err-past.result c.in_err-past.field-0.0 c.args.self.now c.take-2.new.self (c.take.new.self.next + 1)
+    (emit Plain (roots_in c.args.around.now) (commands.Test (exp c.args.test.now) (block_of c.args.this.now) (block_of c.args.that.now)) c.args.level (exits_of c.args.around.now) c.args.self.now.next)
+    c.from_residual-in_err-past.ensures.1 c.in_err-past.ensures.out
+    (second _ _ _ c.in_ok-other.ensures.taken.1 (test_taken (roots_in c.args.around.now) (rising c.args.around.now) (exp c.args.test.now) (block_of c.args.this.now) (block_of c.args.that.now) c.args.level (exits_of c.args.around.now) c.args.self.now.next))
+
+pub test_command-returns-in_err-test : goal.test_command-returns-in_err-test
+test_command-returns-in_err-test t c =
+    fails c.from_residual-in_err-test.result c.in_err-test.field-0.0 c.args.self.now c.test.new.self (roots_in c.args.around.now (Test c.args.level false (exp c.args.test.now)) c.in_ok-other.other c.take-2.new.self.next).1
+    (emit Plain (roots_in c.args.around.now) (commands.Test (exp c.args.test.now) (block_of c.args.this.now) (block_of c.args.that.now)) c.args.level (exits_of c.args.around.now) c.args.self.now.next)
+    c.from_residual-in_err-test.ensures.1 c.in_err-test.ensures
+    (test_tested (roots_in c.args.around.now) (rising c.args.around.now) (exp c.args.test.now) (block_of c.args.this.now) (block_of c.args.that.now) c.args.level (exits_of c.args.around.now) c.args.self.now.next _ _ c.in_ok-other.ensures.taken.0 (two_taken _ _ _ c.in_ok-other.ensures.taken.1 c.in_ok-past.ensures.taken.1))
+
+pub test_command-returns-in_err-block : goal.test_command-returns-in_err-block
+test_command-returns-in_err-block t c =
+    fails c.from_residual-in_err-block.result c.in_err-block.field-0.0 c.args.self.now c.block.new.self (emit_block Plain (roots_in c.args.around.now) (block_of c.args.this.now) c.args.level (exits_of c.args.around.now) c.test.new.self.next).1
+    (emit Plain (roots_in c.args.around.now) (commands.Test (exp c.args.test.now) (block_of c.args.this.now) (block_of c.args.that.now)) c.args.level (exits_of c.args.around.now) c.args.self.now.next)
+    c.from_residual-in_err-block.ensures.1 c.in_err-block.ensures
+    (test_half (roots_in c.args.around.now) (rising c.args.around.now) (exp c.args.test.now) (block_of c.args.this.now) (block_of c.args.that.now) c.args.level (exits_of c.args.around.now) c.args.self.now.next _ _ _ c.in_ok-other.ensures.taken.0 (two_taken _ _ _ c.in_ok-other.ensures.taken.1 c.in_ok-past.ensures.taken.1) c.in_ok-test.ensures.1)
+
+pub test_command-returns-in_err-block-2 : goal.test_command-returns-in_err-block-2
+test_command-returns-in_err-block-2 t c =
+    fails c.from_residual-in_err-block-2.result c.in_err-block-2.field-0.0 c.args.self.now c.block-2.new.self (emit_block Plain (roots_in c.args.around.now) (block_of c.args.that.now) c.args.level (exits_of c.args.around.now) c.label.new.self.next).1
+    (emit Plain (roots_in c.args.around.now) (commands.Test (exp c.args.test.now) (block_of c.args.this.now) (block_of c.args.that.now)) c.args.level (exits_of c.args.around.now) c.args.self.now.next)
+    c.from_residual-in_err-block-2.ensures.1 c.in_err-block-2.ensures
+    (test_done (roots_in c.args.around.now) (exp c.args.test.now) (block_of c.args.this.now) (block_of c.args.that.now) c.args.level (exits_of c.args.around.now) c.args.self.now.next _ _ _ _ c.in_ok-other.ensures.taken.0 (two_taken _ _ _ c.in_ok-other.ensures.taken.1 c.in_ok-past.ensures.taken.1) c.in_ok-test.ensures.1 (c.in_ok-label.ensures.1 ∙ c.in_ok-jump.ensures.1 ∙ c.in_ok-block.ensures.1))
+
+pub while_loop-returns-in_err-again : goal.while_loop-returns-in_err-again
+while_loop-returns-in_err-again t c =
+    fails c.from_residual.result c.in_err-again.field-0.0 c.args.self.now c.take.new.self (c.args.self.now.next + 1)
+    (emit Plain (roots_in c.args.around.now) (commands.While c.args.condition.now.sense (exp c.args.condition.now.test) (block_of c.args.body.now)) c.args.level (exits_of c.args.around.now) c.args.self.now.next)
+    c.from_residual.ensures.1 c.in_err-again.ensures.out
+    (less_one _ _ (while_taken c.args.around.now c.args.condition.now.sense (exp c.args.condition.now.test) (block_of c.args.body.now) c.args.level c.args.self.now.next))
+
+pub while_loop-returns-in_err-past : goal.while_loop-returns-in_err-past
+while_loop-returns-in_err-past t c =
+    fails c.from_residual-in_err-past.result c.in_err-past.field-0.0 c.args.self.now c.take-2.new.self (c.take.new.self.next + 1)
+    (emit Plain (roots_in c.args.around.now) (commands.While c.args.condition.now.sense (exp c.args.condition.now.test) (block_of c.args.body.now)) c.args.level (exits_of c.args.around.now) c.args.self.now.next)
+    c.from_residual-in_err-past.ensures.1 c.in_err-past.ensures.out
+    (second _ _ _ c.in_ok-again.ensures.taken.1 (while_taken c.args.around.now c.args.condition.now.sense (exp c.args.condition.now.test) (block_of c.args.body.now) c.args.level c.args.self.now.next))
+
+pub while_loop-returns-in_err-test : goal.while_loop-returns-in_err-test
+while_loop-returns-in_err-test t c =
+    fails c.from_residual-in_err-test.result c.in_err-test.field-0.0 c.args.self.now c.test.new.self (roots_in c.args.around.now (Test c.args.level (not c.args.condition.now.sense) (exp c.args.condition.now.test)) c.in_ok-past.past c.label.new.self.next).1
+    (emit Plain (roots_in c.args.around.now) (commands.While c.args.condition.now.sense (exp c.args.condition.now.test) (block_of c.args.body.now)) c.args.level (exits_of c.args.around.now) c.args.self.now.next)
+    c.from_residual-in_err-test.ensures.1 c.in_err-test.ensures
+    (while_tested c.args.around.now c.args.condition.now.sense (exp c.args.condition.now.test) (block_of c.args.body.now) c.args.level c.args.self.now.next _ _ (c.in_ok-past.ensures.taken.0 ∙ c.in_ok-again.ensures.taken.1) (c.in_ok-label.ensures.1 ∙ (two_taken _ _ _ c.in_ok-again.ensures.taken.1 c.in_ok-past.ensures.taken.1)))
+
+pub while_loop-returns-in_err-block : goal.while_loop-returns-in_err-block
+while_loop-returns-in_err-block t c =
+    fails c.from_residual-in_err-block.result c.in_err-block.field-0.0 c.args.self.now c.block.new.self (emit_block Plain (roots_in c.in_loop.result) (block_of c.args.body.now) c.args.level (exits_of c.in_loop.result) c.test.new.self.next).1
+    (emit Plain (roots_in c.args.around.now) (commands.While c.args.condition.now.sense (exp c.args.condition.now.test) (block_of c.args.body.now)) c.args.level (exits_of c.args.around.now) c.args.self.now.next)
+    c.from_residual-in_err-block.ensures.1 c.in_err-block.ensures
+    (while_done c.args.around.now c.in_loop.result c.args.condition.now.sense (exp c.args.condition.now.test) (block_of c.args.body.now) c.args.level c.args.self.now.next _ _ _ _ c.in_loop.ensures c.in_ok-again.ensures.taken.0 (c.in_ok-past.ensures.taken.0 ∙ c.in_ok-again.ensures.taken.1) (c.in_ok-label.ensures.1 ∙ (two_taken _ _ _ c.in_ok-again.ensures.taken.1 c.in_ok-past.ensures.taken.1)) c.in_ok-test.ensures.1)
+
+pub repeat-returns-in_err-again : goal.repeat-returns-in_err-again
+repeat-returns-in_err-again t c =
+    fails c.from_residual.result c.in_err-again.field-0.0 c.args.self.now c.take.new.self (c.args.self.now.next + 1)
+    (emit Plain (roots_in c.args.around.now) (commands.Repeat (block_of c.args.body.now)) c.args.level (exits_of c.args.around.now) c.args.self.now.next)
+    c.from_residual.ensures.1 c.in_err-again.ensures.out
+    (less_one _ _ (repeat_taken c.args.around.now (block_of c.args.body.now) c.args.level c.args.self.now.next))
+
+pub repeat-returns-in_err-past : goal.repeat-returns-in_err-past
+repeat-returns-in_err-past t c =
+    fails c.from_residual-in_err-past.result c.in_err-past.field-0.0 c.args.self.now c.take-2.new.self (c.take.new.self.next + 1)
+    (emit Plain (roots_in c.args.around.now) (commands.Repeat (block_of c.args.body.now)) c.args.level (exits_of c.args.around.now) c.args.self.now.next)
+    c.from_residual-in_err-past.ensures.1 c.in_err-past.ensures.out
+    (second _ _ _ c.in_ok-again.ensures.taken.1 (repeat_taken c.args.around.now (block_of c.args.body.now) c.args.level c.args.self.now.next))
+
+pub repeat-returns-in_err-block : goal.repeat-returns-in_err-block
+repeat-returns-in_err-block t c =
+    fails c.from_residual-in_err-block.result c.in_err-block.field-0.0 c.args.self.now c.block.new.self (emit_block Plain (roots_in c.in_loop.result) (block_of c.args.body.now) c.args.level (exits_of c.in_loop.result) c.label.new.self.next).1
+    (emit Plain (roots_in c.args.around.now) (commands.Repeat (block_of c.args.body.now)) c.args.level (exits_of c.args.around.now) c.args.self.now.next)
+    c.from_residual-in_err-block.ensures.1 c.in_err-block.ensures
+    (repeat_done c.args.around.now c.in_loop.result (block_of c.args.body.now) c.args.level c.args.self.now.next _ _ _ c.in_loop.ensures c.in_ok-again.ensures.taken.0 (c.in_ok-past.ensures.taken.0 ∙ c.in_ok-again.ensures.taken.1) (c.in_ok-label.ensures.1 ∙ (two_taken _ _ _ c.in_ok-again.ensures.taken.1 c.in_ok-past.ensures.taken.1)))
+
+pub repeat_while-returns-in_err-again : goal.repeat_while-returns-in_err-again
+repeat_while-returns-in_err-again t c =
+    fails c.from_residual.result c.in_err-again.field-0.0 c.args.self.now c.take.new.self (c.args.self.now.next + 1)
+    (emit Plain (roots_in c.args.around.now) (commands.RepeatWhile (block_of c.args.body.now) c.args.condition.now.sense (exp c.args.condition.now.test)) c.args.level (exits_of c.args.around.now) c.args.self.now.next)
+    c.from_residual.ensures.1 c.in_err-again.ensures.out
+    (less_two _ _ (repeat_while_taken c.args.around.now (block_of c.args.body.now) c.args.condition.now.sense (exp c.args.condition.now.test) c.args.level c.args.self.now.next))
+
+pub repeat_while-returns-in_err-past : goal.repeat_while-returns-in_err-past
+repeat_while-returns-in_err-past t c =
+    fails c.from_residual-in_err-past.result c.in_err-past.field-0.0 c.args.self.now c.take-2.new.self (c.take.new.self.next + 1)
+    (emit Plain (roots_in c.args.around.now) (commands.RepeatWhile (block_of c.args.body.now) c.args.condition.now.sense (exp c.args.condition.now.test)) c.args.level (exits_of c.args.around.now) c.args.self.now.next)
+    c.from_residual-in_err-past.ensures.1 c.in_err-past.ensures.out
+    (second_of_three _ _ _ c.in_ok-again.ensures.taken.1 (repeat_while_taken c.args.around.now (block_of c.args.body.now) c.args.condition.now.sense (exp c.args.condition.now.test) c.args.level c.args.self.now.next))
+
+pub repeat_while-returns-in_err-onward : goal.repeat_while-returns-in_err-onward
+repeat_while-returns-in_err-onward t c =
+    fails c.from_residual-in_err-onward.result c.in_err-onward.field-0.0 c.args.self.now c.take-3.new.self (c.take-2.new.self.next + 1)
+    (emit Plain (roots_in c.args.around.now) (commands.RepeatWhile (block_of c.args.body.now) c.args.condition.now.sense (exp c.args.condition.now.test)) c.args.level (exits_of c.args.around.now) c.args.self.now.next)
+    c.from_residual-in_err-onward.ensures.1 c.in_err-onward.ensures.out
+    (third _ _ _ (two_taken _ _ _ c.in_ok-again.ensures.taken.1 c.in_ok-past.ensures.taken.1) (repeat_while_taken c.args.around.now (block_of c.args.body.now) c.args.condition.now.sense (exp c.args.condition.now.test) c.args.level c.args.self.now.next))
+
+pub repeat_while-returns-in_err-block : goal.repeat_while-returns-in_err-block
+repeat_while-returns-in_err-block t c =
+    fails c.from_residual-in_err-block.result c.in_err-block.field-0.0 c.args.self.now c.block.new.self (emit_block Plain (roots_in c.in_loop.result) (block_of c.args.body.now) c.args.level (exits_of c.in_loop.result) c.label.new.self.next).1
+    (emit Plain (roots_in c.args.around.now) (commands.RepeatWhile (block_of c.args.body.now) c.args.condition.now.sense (exp c.args.condition.now.test)) c.args.level (exits_of c.args.around.now) c.args.self.now.next)
+    c.from_residual-in_err-block.ensures.1 c.in_err-block.ensures
+    (repeat_while_half c.args.around.now c.in_loop.result (block_of c.args.body.now) c.args.condition.now.sense (exp c.args.condition.now.test) c.args.level c.args.self.now.next _ _ _ c.in_loop.ensures (c.in_ok-past.ensures.taken.0 ∙ c.in_ok-again.ensures.taken.1) (c.in_ok-onward.ensures.taken.0 ∙ (two_taken _ _ _ c.in_ok-again.ensures.taken.1 c.in_ok-past.ensures.taken.1)) (c.in_ok-label.ensures.1 ∙ (three_taken _ _ _ _ c.in_ok-again.ensures.taken.1 c.in_ok-past.ensures.taken.1 c.in_ok-onward.ensures.taken.1)))
+
+pub repeat_while-returns-in_err-test : goal.repeat_while-returns-in_err-test
+repeat_while-returns-in_err-test t c =
+    fails c.from_residual-in_err-test.result c.in_err-test.field-0.0 c.args.self.now c.test.new.self (roots_in c.args.around.now (Test c.args.level c.args.condition.now.sense (exp c.args.condition.now.test)) c.in_ok-again.again c.label-2.new.self.next).1
+    (emit Plain (roots_in c.args.around.now) (commands.RepeatWhile (block_of c.args.body.now) c.args.condition.now.sense (exp c.args.condition.now.test)) c.args.level (exits_of c.args.around.now) c.args.self.now.next)
+    c.from_residual-in_err-test.ensures.1 c.in_err-test.ensures
+    (repeat_while_done c.args.around.now c.in_loop.result (block_of c.args.body.now) c.args.condition.now.sense (exp c.args.condition.now.test) c.args.level c.args.self.now.next _ _ _ _ _ c.in_loop.ensures c.in_ok-again.ensures.taken.0 (c.in_ok-past.ensures.taken.0 ∙ c.in_ok-again.ensures.taken.1) (c.in_ok-onward.ensures.taken.0 ∙ (two_taken _ _ _ c.in_ok-again.ensures.taken.1 c.in_ok-past.ensures.taken.1)) (c.in_ok-label.ensures.1 ∙ (three_taken _ _ _ _ c.in_ok-again.ensures.taken.1 c.in_ok-past.ensures.taken.1 c.in_ok-onward.ensures.taken.1)) (c.in_ok-label-2.ensures.1 ∙ c.in_ok-block.ensures.1))
+
+pub for_loop-returns-in_err-again : goal.for_loop-returns-in_err-again
+for_loop-returns-in_err-again t c =
+    fails c.from_residual.result c.in_err-again.field-0.0 c.args.self.now c.take.new.self (c.args.self.now.next + 1)
+    (emit Plain (roots_in c.args.around.now) (commands.For (exp c.args.start.now) (exp c.args.limit.now) c.args.by (block_of c.args.body.now)) c.args.offset (exits_of c.args.around.now) c.args.self.now.next)
+    c.from_residual.ensures.1 c.in_err-again.ensures.out
+    (less_two _ _ (for_taken (roots_in c.args.around.now) (rising c.args.around.now) (exits_of c.args.around.now) (exp c.args.start.now) (exp c.args.limit.now) c.args.by (block_of c.args.body.now) c.args.offset c.args.self.now.next))
+
+pub for_loop-returns-in_err-past : goal.for_loop-returns-in_err-past
+for_loop-returns-in_err-past t c =
+    fails c.from_residual-in_err-past.result c.in_err-past.field-0.0 c.args.self.now c.take-2.new.self (c.take.new.self.next + 1)
+    (emit Plain (roots_in c.args.around.now) (commands.For (exp c.args.start.now) (exp c.args.limit.now) c.args.by (block_of c.args.body.now)) c.args.offset (exits_of c.args.around.now) c.args.self.now.next)
+    c.from_residual-in_err-past.ensures.1 c.in_err-past.ensures.out
+    (second_of_three _ _ _ c.in_ok-again.ensures.taken.1 (for_taken (roots_in c.args.around.now) (rising c.args.around.now) (exits_of c.args.around.now) (exp c.args.start.now) (exp c.args.limit.now) c.args.by (block_of c.args.body.now) c.args.offset c.args.self.now.next))
+
+pub for_loop-returns-in_err-onward : goal.for_loop-returns-in_err-onward
+for_loop-returns-in_err-onward t c =
+    fails c.from_residual-in_err-onward.result c.in_err-onward.field-0.0 c.args.self.now c.take-3.new.self (c.take-2.new.self.next + 1)
+    (emit Plain (roots_in c.args.around.now) (commands.For (exp c.args.start.now) (exp c.args.limit.now) c.args.by (block_of c.args.body.now)) c.args.offset (exits_of c.args.around.now) c.args.self.now.next)
+    c.from_residual-in_err-onward.ensures.1 c.in_err-onward.ensures.out
+    (third _ _ _ (two_taken _ _ _ c.in_ok-again.ensures.taken.1 c.in_ok-past.ensures.taken.1) (for_taken (roots_in c.args.around.now) (rising c.args.around.now) (exits_of c.args.around.now) (exp c.args.start.now) (exp c.args.limit.now) c.args.by (block_of c.args.body.now) c.args.offset c.args.self.now.next))
+
+pub for_loop-returns-in_err-set : goal.for_loop-returns-in_err-set
+for_loop-returns-in_err-set t c =
+    fails c.from_residual-in_err-set.result c.in_err-set.field-0.0 c.args.self.now c.set.new.self (roots_in c.args.around.now (Assign c.in_ok-level.level (exp c.in_ok-start.start) (Frame c.args.offset)) 0 c.take-3.new.self.next).1
+    (emit Plain (roots_in c.args.around.now) (commands.For (exp c.args.start.now) (exp c.args.limit.now) c.args.by (block_of c.args.body.now)) c.args.offset (exits_of c.args.around.now) c.args.self.now.next)
+    c.from_residual-in_err-set.ensures.1 c.in_err-set.ensures
+    (for_started (roots_in c.args.around.now) (rising c.args.around.now) (exits_of c.args.around.now) (exp c.args.start.now) (exp c.args.limit.now) c.args.by (block_of c.args.body.now) c.args.offset c.args.self.now.next _ (started (roots_in c.args.around.now) c.args.offset c.args.self.now.next c.in_ok-level.level _ _ _ c.in_ok-level.ensures c.in_ok-start.ensures (three_taken _ _ _ _ c.in_ok-again.ensures.taken.1 c.in_ok-past.ensures.taken.1 c.in_ok-onward.ensures.taken.1)))
+
+pub for_loop-returns-in_err-set-2 : goal.for_loop-returns-in_err-set-2
+for_loop-returns-in_err-set-2 t c =
+    fails c.from_residual-in_err-set-2.result c.in_err-set-2.field-0.0 c.args.self.now c.set-2.new.self (roots_in c.args.around.now (Assign c.in_ok-level.level (exp c.in_ok-limit.limit) (Frame c.in_ok-behind.field-0)) 0 c.set.new.self.next).1
+    (emit Plain (roots_in c.args.around.now) (commands.For (exp c.args.start.now) (exp c.args.limit.now) c.args.by (block_of c.args.body.now)) c.args.offset (exits_of c.args.around.now) c.args.self.now.next)
+    c.from_residual-in_err-set-2.ensures.1 c.in_err-set-2.ensures
+    (for_limited (roots_in c.args.around.now) (rising c.args.around.now) (exits_of c.args.around.now) (exp c.args.start.now) (exp c.args.limit.now) c.args.by (block_of c.args.body.now) c.args.offset c.args.self.now.next _ (limited (roots_in c.args.around.now) c.args.offset c.args.self.now.next c.in_ok-level.level _ _ _ _ _ c.in_ok-level.ensures c.in_ok-behind.ensures c.in_ok-limit.ensures (c.in_ok-set.ensures.1 ∙ started (roots_in c.args.around.now) c.args.offset c.args.self.now.next c.in_ok-level.level _ _ _ c.in_ok-level.ensures c.in_ok-start.ensures (three_taken _ _ _ _ c.in_ok-again.ensures.taken.1 c.in_ok-past.ensures.taken.1 c.in_ok-onward.ensures.taken.1))))
+
+pub for_loop-returns-in_err-test : goal.for_loop-returns-in_err-test
+for_loop-returns-in_err-test t c =
+    fails c.from_residual-in_err-test.result c.in_err-test.field-0.0 c.args.self.now c.test.new.self (roots_in c.args.around.now (Test c.in_ok-level.level true (exp c.in_ok-end.end)) c.in_ok-past.past c.label.new.self.next).1
+    (emit Plain (roots_in c.args.around.now) (commands.For (exp c.args.start.now) (exp c.args.limit.now) c.args.by (block_of c.args.body.now)) c.args.offset (exits_of c.args.around.now) c.args.self.now.next)
+    c.from_residual-in_err-test.ensures.1 c.in_err-test.ensures
+    (for_tested (roots_in c.args.around.now) (rising c.args.around.now) (exits_of c.args.around.now) (exp c.args.start.now) (exp c.args.limit.now) c.args.by (block_of c.args.body.now) c.args.offset c.args.self.now.next _ (tested (roots_in c.args.around.now) c.args.offset c.args.self.now.next c.in_ok-level.level c.args.by _ _ _ _ _ c.in_ok-level.ensures c.in_ok-end.ensures (c.in_ok-past.ensures.taken.0 ∙ c.in_ok-again.ensures.taken.1) (c.in_ok-label.ensures.1 ∙ c.in_ok-set-2.ensures.1 ∙ limited (roots_in c.args.around.now) c.args.offset c.args.self.now.next c.in_ok-level.level _ _ _ _ _ c.in_ok-level.ensures c.in_ok-behind.ensures c.in_ok-limit.ensures (c.in_ok-set.ensures.1 ∙ started (roots_in c.args.around.now) c.args.offset c.args.self.now.next c.in_ok-level.level _ _ _ c.in_ok-level.ensures c.in_ok-start.ensures (three_taken _ _ _ _ c.in_ok-again.ensures.taken.1 c.in_ok-past.ensures.taken.1 c.in_ok-onward.ensures.taken.1)))))
+
+pub for_loop-returns-in_err-block : goal.for_loop-returns-in_err-block
+for_loop-returns-in_err-block t c =
+    fails c.from_residual-in_err-block.result c.in_err-block.field-0.0 c.args.self.now c.block.new.self (emit_block Plain (roots_in c.in_loop.result) (block_of c.args.body.now) c.in_ok-level.level (exits_of c.in_loop.result) c.test.new.self.next).1
+    (emit Plain (roots_in c.args.around.now) (commands.For (exp c.args.start.now) (exp c.args.limit.now) c.args.by (block_of c.args.body.now)) c.args.offset (exits_of c.args.around.now) c.args.self.now.next)
+    c.from_residual-in_err-block.ensures.1 c.in_err-block.ensures
+    (for_ended (roots_in c.args.around.now) (rising c.args.around.now) (exits_of c.args.around.now) (exp c.args.start.now) (exp c.args.limit.now) c.args.by (block_of c.args.body.now) c.args.offset c.args.self.now.next _ (ended c.args.around.now c.in_loop.result (block_of c.args.body.now) c.args.offset c.args.self.now.next c.in_ok-level.level c.args.by (exp c.args.start.now) (exp c.args.limit.now) _ _ _ c.in_ok-level.ensures c.in_loop.ensures (c.in_ok-past.ensures.taken.0 ∙ c.in_ok-again.ensures.taken.1) (c.in_ok-onward.ensures.taken.0 ∙ (two_taken _ _ _ c.in_ok-again.ensures.taken.1 c.in_ok-past.ensures.taken.1)) (c.in_ok-test.ensures.1 ∙ tested (roots_in c.args.around.now) c.args.offset c.args.self.now.next c.in_ok-level.level c.args.by _ _ _ _ _ c.in_ok-level.ensures c.in_ok-end.ensures (c.in_ok-past.ensures.taken.0 ∙ c.in_ok-again.ensures.taken.1) (c.in_ok-label.ensures.1 ∙ c.in_ok-set-2.ensures.1 ∙ limited (roots_in c.args.around.now) c.args.offset c.args.self.now.next c.in_ok-level.level _ _ _ _ _ c.in_ok-level.ensures c.in_ok-behind.ensures c.in_ok-limit.ensures (c.in_ok-set.ensures.1 ∙ started (roots_in c.args.around.now) c.args.offset c.args.self.now.next c.in_ok-level.level _ _ _ c.in_ok-level.ensures c.in_ok-start.ensures (three_taken _ _ _ _ c.in_ok-again.ensures.taken.1 c.in_ok-past.ensures.taken.1 c.in_ok-onward.ensures.taken.1))))))
+
+pub for_loop-returns-in_err-set-3 : goal.for_loop-returns-in_err-set-3
+for_loop-returns-in_err-set-3 t c =
+    fails c.from_residual-in_err-set-3.result c.in_err-set-3.field-0.0 c.args.self.now c.set-3.new.self (roots_in c.args.around.now (Assign c.in_ok-level.level (exp c.in_ok-step.step) (Frame c.args.offset)) 0 c.label-2.new.self.next).1
+    (emit Plain (roots_in c.args.around.now) (commands.For (exp c.args.start.now) (exp c.args.limit.now) c.args.by (block_of c.args.body.now)) c.args.offset (exits_of c.args.around.now) c.args.self.now.next)
+    c.from_residual-in_err-set-3.ensures.1 c.in_err-set-3.ensures
+    (for_stepped (roots_in c.args.around.now) (exits_of c.args.around.now) (exp c.args.start.now) (exp c.args.limit.now) c.args.by (block_of c.args.body.now) c.args.offset c.args.self.now.next c.in_ok-level.level _ _ c.in_ok-level.ensures c.in_ok-step.ensures (c.in_ok-label-2.ensures.1 ∙ c.in_ok-block.ensures.1 ∙ ended c.args.around.now c.in_loop.result (block_of c.args.body.now) c.args.offset c.args.self.now.next c.in_ok-level.level c.args.by (exp c.args.start.now) (exp c.args.limit.now) _ _ _ c.in_ok-level.ensures c.in_loop.ensures (c.in_ok-past.ensures.taken.0 ∙ c.in_ok-again.ensures.taken.1) (c.in_ok-onward.ensures.taken.0 ∙ (two_taken _ _ _ c.in_ok-again.ensures.taken.1 c.in_ok-past.ensures.taken.1)) (c.in_ok-test.ensures.1 ∙ tested (roots_in c.args.around.now) c.args.offset c.args.self.now.next c.in_ok-level.level c.args.by _ _ _ _ _ c.in_ok-level.ensures c.in_ok-end.ensures (c.in_ok-past.ensures.taken.0 ∙ c.in_ok-again.ensures.taken.1) (c.in_ok-label.ensures.1 ∙ c.in_ok-set-2.ensures.1 ∙ limited (roots_in c.args.around.now) c.args.offset c.args.self.now.next c.in_ok-level.level _ _ _ _ _ c.in_ok-level.ensures c.in_ok-behind.ensures c.in_ok-limit.ensures (c.in_ok-set.ensures.1 ∙ started (roots_in c.args.around.now) c.args.offset c.args.self.now.next c.in_ok-level.level _ _ _ c.in_ok-level.ensures c.in_ok-start.ensures (three_taken _ _ _ _ c.in_ok-again.ensures.taken.1 c.in_ok-past.ensures.taken.1 c.in_ok-onward.ensures.taken.1))))))
+
+pub switchon-returns-in_err-past : goal.switchon-returns-in_err-past
+switchon-returns-in_err-past t c =
+    fails c.from_residual.result c.in_err-past.field-0.0 c.args.self.now c.take.new.self (c.args.self.now.next + 1)
+    (emit Plain (roots_in c.args.around.now) (commands.Switchon (exp c.args.value.now) (items c.args.list.now)) c.args.level (exits_of c.args.around.now) c.args.self.now.next)
+    c.from_residual.ensures.1 c.in_err-past.ensures.out
+    (less _ (entries_in (items c.args.list.now)) _ (switchon_taken (roots_in c.args.around.now) (rising c.args.around.now) (exits_of c.args.around.now) (exp c.args.value.now) (items c.args.list.now) c.args.level c.args.self.now.next))
+
+pub switchon-returns-in_err-found : goal.switchon-returns-in_err-found
+switchon-returns-in_err-found t c =
+    fails c.from_residual-in_err-found.result c.in_err-found.field-0.0 c.args.self.now c.case_labels.new.self (c.take.new.self.next + entries_in (items c.args.list.now))
+    (emit Plain (roots_in c.args.around.now) (commands.Switchon (exp c.args.value.now) (items c.args.list.now)) c.args.level (exits_of c.args.around.now) c.args.self.now.next)
+    c.from_residual-in_err-found.ensures.1 c.in_err-found.ensures.out
+    (grown_on _ _ _ _ c.in_ok-past.ensures.taken.1 (switchon_taken (roots_in c.args.around.now) (rising c.args.around.now) (exits_of c.args.around.now) (exp c.args.value.now) (items c.args.list.now) c.args.level c.args.self.now.next))
+
+pub switchon-returns-in_err-value : goal.switchon-returns-in_err-value
+switchon-returns-in_err-value t c =
+    fails c.from_residual-in_err-value.result c.in_err-value.field-0.0 c.args.self.now c.value.new.self (roots_in c.args.around.now (Value c.args.level (exp c.args.value.now)) 0 c.case_labels.new.self.next).1
+    (emit Plain (roots_in c.args.around.now) (commands.Switchon (exp c.args.value.now) (items c.args.list.now)) c.args.level (exits_of c.args.around.now) c.args.self.now.next)
+    c.from_residual-in_err-value.ensures.1 c.in_err-value.ensures
+    (less _ (labels_in (items c.args.list.now)) _ (switchon_valued (roots_in c.args.around.now) (rising c.args.around.now) (exits_of c.args.around.now) (exp c.args.value.now) (items c.args.list.now) c.args.level c.args.self.now.next _ (ap (λ (k : ℕ). (roots_in c.args.around.now (Value c.args.level (exp c.args.value.now)) 0 k).1) (c.in_ok-found.ensures.next ∙ ap (λ (k : ℕ). k + entries_in (items c.args.list.now)) c.in_ok-past.ensures.taken.1))))
+
+pub switchon-returns-in_err-labels : goal.switchon-returns-in_err-labels
+switchon-returns-in_err-labels t c =
+    fails c.from_residual-in_err-labels.result c.in_err-labels.field-0.0 c.args.self.now c.list_labels.new.self (c.value.new.self.next + labels_in (items c.args.list.now))
+    (emit Plain (roots_in c.args.around.now) (commands.Switchon (exp c.args.value.now) (items c.args.list.now)) c.args.level (exits_of c.args.around.now) c.args.self.now.next)
+    c.from_residual-in_err-labels.ensures.1 c.in_err-labels.ensures.out
+    (switchon_valued (roots_in c.args.around.now) (rising c.args.around.now) (exits_of c.args.around.now) (exp c.args.value.now) (items c.args.list.now) c.args.level c.args.self.now.next _ (c.in_ok-value.ensures.1 ∙ ap (λ (k : ℕ). (roots_in c.args.around.now (Value c.args.level (exp c.args.value.now)) 0 k).1) (c.in_ok-found.ensures.next ∙ ap (λ (k : ℕ). k + entries_in (items c.args.list.now)) c.in_ok-past.ensures.taken.1)))
+
+pub switchon-returns-in_err-list : goal.switchon-returns-in_err-list
+switchon-returns-in_err-list t c =
+    fails c.from_residual-in_err-list.result c.in_err-list.field-0.0 c.args.self.now c.list.new.self (emit_items Plain (roots_in c.args.around.now) (items c.args.list.now) c.args.level (record (exits_of c.args.around.now) { cases = c.in_ok-past.past; labels = λ n. label_in c.in_ok-labels.labels.items n 0; case_of = λ v. label_in c.in_ok-found.found.cases.items v c.in_ok-found.found.default; default_of = c.in_ok-found.found.default }) c.table.new.self.next).1
+    (emit Plain (roots_in c.args.around.now) (commands.Switchon (exp c.args.value.now) (items c.args.list.now)) c.args.level (exits_of c.args.around.now) c.args.self.now.next)
+    c.from_residual-in_err-list.ensures.1 (rw (c.deref.ensures.value, c.deref-2.ensures.value) at c.in_err-list.ensures)
+    (switchon_done (roots_in c.args.around.now) (exits_of c.args.around.now) c.args.around.now.labels.now (exp c.args.value.now) (items c.args.list.now) c.args.level _ _ _ _ c.args.self.now.next _ _ _ _ refl c.in_ok-past.ensures.taken.0 c.in_ok-past.ensures.taken.1 c.in_ok-found.ensures.default c.in_ok-found.ensures.cases c.in_ok-found.ensures.next c.in_ok-value.ensures.1 c.in_ok-labels.ensures.labels (c.in_ok-table.ensures.1 ∙ c.in_ok-data_label.ensures.1 ∙ c.in_ok-data.ensures.1 ∙ c.in_ok-execute.ensures.1 ∙ c.in_ok-labels.ensures.next))
+
+pub block-returns-in_err-labels : goal.block-returns-in_err-labels
+block-returns-in_err-labels t c =
+    fails c.from_residual.result c.in_err-labels.field-0.0 c.args.self.now c.list_labels.new.self (c.args.self.now.next + labels_in (items c.args.block.now.list.items))
+    (emit_block Plain (roots_in c.args.around.now) (block (declarations c.args.block.now.declarations.items) (items c.args.block.now.list.items)) c.args.level (exits_of c.args.around.now) c.args.self.now.next)
+    c.from_residual.ensures.1 (rw c.deref.ensures.value at c.in_err-labels.ensures.out)
+    (block_labelled (roots_in c.args.around.now) (rising c.args.around.now) (declarations c.args.block.now.declarations.items) (items c.args.block.now.list.items) c.args.level (exits_of c.args.around.now) c.args.self.now.next)
+
+pub block-returns-in_err-inner : goal.block-returns-in_err-inner
+block-returns-in_err-inner t c =
+    fails c.from_residual-in_err-inner.result c.in_err-inner.field-0.0 c.args.self.now c.declarations.new.self (emit_declarations (roots_in c.args.around.now) (declarations c.args.block.now.declarations.items) c.args.level c.list_labels.new.self.next).1
+    (emit_block Plain (roots_in c.args.around.now) (block (declarations c.args.block.now.declarations.items) (items c.args.block.now.list.items)) c.args.level (exits_of c.args.around.now) c.args.self.now.next)
+    c.from_residual-in_err-inner.ensures.1 (rw c.deref-2.ensures.value at c.in_err-inner.ensures.written)
+    (block_declared (roots_in c.args.around.now) (rising c.args.around.now) (declarations c.args.block.now.declarations.items) (items c.args.block.now.list.items) c.args.level (exits_of c.args.around.now) c.args.self.now.next _ (rw c.deref.ensures.value at c.in_ok-labels.ensures.next))
+
+pub list-returns-in_err-list_item : goal.list-returns-in_err-list_item
+list-returns-in_err-list_item t c =
+    fails c.from_residual.result c.in_err-list_item.field-0.0 c.args.self.now c.list_item.new.self (emit_items Plain (roots_in c.args.around.now) (items_before c.item-item.result no_item) c.args.level (exits_of c.args.around.now) c.loop-item.self.next).1
+    (emit_items Plain (roots_in c.args.around.now) (items c.args.list.now) c.args.level (exits_of c.args.around.now) c.args.self.now.next)
+    c.from_residual.ensures.1 c.in_err-list_item.ensures
+    (list_out (roots_in c.args.around.now) (rising c.args.around.now) c.args.level (exits_of c.args.around.now) c.args.list.now c.loop-item.item-index c.item-item.result c.loop-item.self.next _ c.loop-item-test.true c.item-item.is c.loop-item.invariant.1)
+
+pub declarations-returns-in_err-variables-clause-written : goal.declarations-returns-in_err-variables-clause-written
+declarations-returns-in_err-variables-clause-written t c =
+    fails c.from_residual-in_err-variables.result c.in_err-variables.field-0.0 c.args.self.now c.variables.new.self (emit_variables (roots_in c.args.around.now) (map variable c.declaration-item.result.variables.items) c.loop-declaration.level c.in_ok-inner.inner c.loop-declaration.self.next).1
+    (emit_declarations (roots_in c.args.around.now) (declarations c.args.declarations.now) c.args.level c.args.self.now.next)
+    c.from_residual-in_err-variables.ensures.1 (rw c.deref-in-loop-declaration.ensures.value at c.in_err-variables.ensures)
+    (declarations_out (roots_in c.args.around.now) (rising c.args.around.now) c.args.declarations.now c.loop-declaration.declaration-index c.declaration-item.result c.loop-declaration.level c.in_ok-inner.inner c.in_ok-cells_of_all.field-0 c.loop-declaration.self.next _ c.loop-declaration-test.true c.declaration-item.is (rw c.deref.ensures.value at c.in_ok-cells_of_all.ensures) c.in_ok-inner.ensures c.loop-declaration.invariant.1)
+
+pub variables-returns-in_err-set : goal.variables-returns-in_err-set
+variables-returns-in_err-set t c =
+    fails c.from_residual-in_err-set.result c.in_err-set.field-0.0 c.args.self.now c.set.new.self (roots_in c.args.around.now (Assign c.args.level (exp c.in_ok-value.value) (Frame c.loop-variable.offset)) 0 c.loop-variable.self.next).1
+    (emit_variables (roots_in c.args.around.now) (map variable c.args.variables.now) c.args.offset c.args.level c.args.self.now.next)
+    c.from_residual-in_err-set.ensures.1 c.in_err-set.ensures
+    (variables_out (roots_in c.args.around.now) (rising c.args.around.now) c.args.level c.args.variables.now c.loop-variable.variable-index c.variable-item.result (exp c.in_ok-value.value) c.loop-variable.offset c.loop-variable.self.next _ c.loop-variable-test.true c.variable-item.is c.in_ok-value.ensures c.loop-variable.invariant.1)
+
+pub fill-returns-in_err-piece-clause-written : goal.fill-returns-in_err-piece-clause-written
+fill-returns-in_err-piece-clause-written t c =
+    let whole = fill Plain (level_of (valofs_in c.args.around.now.valofs.now)) (bodies_of (valofs_in c.args.around.now.valofs.now) c.args.around.now.least) c.args.pieces.now c.args.self.now.next in
+    let ahead = c.label_ahead-label.ensures ∙ ap label_ahead c.behind.ensures in
+    fails c.from_residual.result c.in_err-piece.field-0.0 c.args.self.now c.piece.new.self (one_piece (level_of (valofs_in c.args.around.now.valofs.now)) (bodies_of (valofs_in c.args.around.now.valofs.now) c.args.around.now.least) c.index-pieces-i.result c.label_ahead-label.result c.loop-i.self.next).1
+    (whole.0, whole.1) c.from_residual.ensures.1 c.in_err-piece.ensures.written
+    (fill_out (level_of (valofs_in c.args.around.now.valofs.now)) (bodies_of (valofs_in c.args.around.now.valofs.now) c.args.around.now.least) (bodies_grow (valofs_in c.args.around.now.valofs.now) c.args.around.now.least) c.args.pieces.now c.loop-i.i c.index-pieces-i.result c.label_ahead-label.result c.loop-i.self.next _
+    c.loop-i-test.true c.index-pieces-i.is ahead c.loop-i.invariant.1)
+
+pub root-returns-in_err-take_to : goal.root-returns-in_err-take_to
+root-returns-in_err-take_to t c =
+    let r = root c.args.root in
+    fails c.from_residual-in_err-take_to.result c.in_err-take_to.field-0.0 c.args.self.now c.take_to.new.self (c.args.self.now.next + coding.labels r) (roots_in c.args.around.now r c.args.target c.args.self.now.next)
+    c.from_residual-in_err-take_to.ensures.1 (c.in_err-take_to.ensures.out _ c.label_behind.ensures) (root_taken c.args.around.now r c.args.target c.args.self.now.next)
+
+pub valof-returns-in_err-block-in-Some : goal.valof-returns-in_err-block-in-Some
+valof-returns-in_err-block-in-Some t c =
+    let vs = valofs_in c.args.around.now.valofs.now in
+    let least = c.args.around.now.least in
+    fails c.from_residual.result c.in_err-block-in-Some.field-0.0 c.args.self.now c.block.new.self
+    (emit_block Plain (roots_in c.body-within.result) (block_of c.in-Some.valof.now.body) c.in-Some.valof.now.level (exits_of c.body-within.result) c.args.self.now.next).1
+    (bodies_of vs least c.args.number (level_of vs c.args.number) c.args.label c.args.self.now.next)
+    c.from_residual.ensures.1 c.in_err-block-in-Some.ensures
+    (valof_out c.args.around.now.valofs.now least c.args.number c.in-Some.valof.now (roots_in c.body-within.result) (exits_of c.body-within.result) c.args.label c.args.self.now.next
+    c.if-number-around.false c.in-Some.ensures.lookup.3.0 c.in-Some.ensures.lookup.1 c.body-within.ensures.roots c.body-within.ensures.exits)
