@@ -22,19 +22,40 @@ pub struct RunOrder<'a> {
     pub texts: Vec<&'a str>,
 }
 
+/// What `build` is to do.
+#[derive(Debug, Drop)]
+pub struct BuildOrder<'a> {
+    /// The file that the segments' text goes to.
+    pub out: &'a str,
+    /// The file that the certificate goes to, if it is wanted.
+    pub certificate: Option<&'a str>,
+    /// The files that sources get by name.
+    pub gets: Vec<Binding<'a>>,
+    /// The sources that become a segment each.
+    pub files: Vec<&'a str>,
+}
+
+/// What `check` is to do.
+#[derive(Debug, Drop)]
+pub struct CheckOrder<'a> {
+    pub certificate: &'a str,
+    /// The texts that the certificate is to be about.
+    pub texts: Vec<&'a str>,
+}
+
 /// What the words ask for.
 #[derive(Debug, Drop)]
 pub enum Order<'a> {
     /// To run the text on standard input: there were no words.
     RunInput,
     /// To build a program.
-    Build,
+    Build(BuildOrder<'a>),
     /// To print the words that texts become.
     Assemble(Vec<&'a str>),
     /// To run texts.
     Run(RunOrder<'a>),
     /// To check a certificate.
-    Check,
+    Check(CheckOrder<'a>),
 }
 
 /// Why the words ask for nothing.
@@ -77,8 +98,12 @@ fn texts<'a>(alloc: Global, help: &'a str) -> Arg<'a> {
 
 fn build_command<'a>(alloc: Global) -> Result<Command<'a>, AllocError> {
     Command::new(alloc, "build")
-        .about("Compiles BCPL sources (not here yet)")
-        .after_help("Example:\n  bcpl build --out hello.int hello.bcpl")
+        .about(
+            "Compiles BCPL sources to INTCODE text, with a certificate that their code is of least size",
+        )
+        .after_help(
+            "Each FILE is a section and becomes a segment; the library BLIB stands in front of them as the first segment,\nand GET \"LIBHDR\" declares what it has. Behind `ok` are printed the numbers of segments and of entries of the\ncertificate, and the address at which the stack begins.\n\nExample:\n  bcpl build --out hello.int --cert hello.cert hello.bcpl",
+        )
         .arg(
             Arg::new(alloc, "out")
                 .long("out")
@@ -99,7 +124,7 @@ fn build_command<'a>(alloc: Global) -> Result<Command<'a>, AllocError> {
                 .action(ArgAction::Append)
                 .num_args(1..)
                 .required(true)
-                .help("The sources, one section each"),
+                .help("The sources, a section each"),
         )
 }
 
@@ -141,8 +166,10 @@ fn run_command<'a>(alloc: Global) -> Result<Command<'a>, AllocError> {
 
 fn check_command<'a>(alloc: Global) -> Result<Command<'a>, AllocError> {
     Command::new(alloc, "check")
-        .about("Checks a certificate of least size (not here yet)")
-        .after_help("Example:\n  bcpl check hello.cert hello.int")
+        .about("Checks a certificate of least size, and that texts have the code that it lists")
+        .after_help(
+            "A yes says of each expression, test and assignment of the certificate that no derivation from the rule table\nhas fewer words. Behind `ok` are printed the number of entries and the sum of their words.\n\nExample:\n  bcpl check hello.cert hello.int",
+        )
         .arg(
             Arg::new(alloc, "CERT")
                 .value_name("CERT")
@@ -161,9 +188,9 @@ fn check_command<'a>(alloc: Global) -> Result<Command<'a>, AllocError> {
 /// The program's commands, with their options and help.
 fn program<'a>(alloc: Global) -> Result<Command<'a>, AllocError> {
     Command::new(alloc, "bcpl")
-        .about("Assembles, links and runs programs in INTCODE, the code of BCPL's compiler")
+        .about("Compiles BCPL to INTCODE, and assembles, links and runs it")
         .after_help(
-            "With no words at all, the INTCODE text on standard input is run for at most 1,000,000 instructions,\nwith an empty input.\n\nExample:\n  echo '1 L65 SP4 LIG14 K2 X4 G1L1 Z' | bcpl",
+            "With no words at all, the INTCODE text on standard input is run for at most 1,000,000 instructions,\nwith an empty input.\n\nExample:\n  bcpl build --out hello.int hello.bcpl\n  bcpl run --steps 1000000 hello.int",
         )
         .bin_name("bcpl")?
         .no_binary_name(true)
@@ -204,6 +231,19 @@ fn bindings<'a>(
     Ok(bindings)
 }
 
+/// What the words behind `build` ask for.
+fn build_order<'a>(
+    alloc: Global,
+    matches: &ArgMatches<'a>,
+) -> Result<BuildOrder<'a>, BadWords<'a>> {
+    Ok(BuildOrder {
+        out: matches.get_str("out").unwrap_or(""),
+        certificate: matches.get_str("cert"),
+        gets: bindings(alloc, matches, "get")?,
+        files: values(alloc, matches, "FILE")?,
+    })
+}
+
 /// What these words, without the program's name, ask for.
 pub fn wanted<'a>(alloc: Global, words: &'a [&'a str]) -> Result<Order<'a>, BadWords<'a>> {
     if words.is_empty() {
@@ -221,7 +261,11 @@ pub fn wanted<'a>(alloc: Global, words: &'a [&'a str]) -> Result<Order<'a>, BadW
             outputs: bindings(alloc, matches, "to")?,
             texts: values(alloc, matches, "TEXT")?,
         })),
-        Some(("check", _)) => Ok(Order::Check),
-        _ => Ok(Order::Build),
+        Some(("check", matches)) => Ok(Order::Check(CheckOrder {
+            certificate: matches.get_str("CERT").unwrap_or(""),
+            texts: values(alloc, matches, "TEXT")?,
+        })),
+        Some((_, matches)) => Ok(Order::Build(build_order(alloc, matches)?)),
+        None => Ok(Order::RunInput),
     }
 }

@@ -6,6 +6,8 @@ ghost use Rattle.bcpl.specs.Statuses.{status_of};
 ghost use Rattle.bcpl.specs.declared.failure.Failure.TheVariants as failures;
 
 use crate::arguments::{BadWords, Binding, Order, RunOrder, wanted};
+use crate::checking::check_certificate;
+use crate::compiling::compile;
 use crate::devices::{Sink, Source};
 use crate::failure::Failure;
 use crate::loading::image_of;
@@ -197,15 +199,7 @@ pub fn command<'a, F: Files, R: Read + Drop, O: Write + Drop, E: Write + Drop>(
         Ok(Order::RunInput) => status(run_input(rt, alloc, input, out), &mut err),
         Ok(Order::Assemble(texts)) => status(assemble(rt, alloc, texts.as_slice(), out), &mut err),
         Ok(Order::Run(order)) => status(run(rt, alloc, &order, input, out), &mut err),
-        Ok(Order::Build) => absent("build", &mut err),
-        Ok(Order::Check) => absent("check", &mut err),
+        Ok(Order::Build(order)) => status(compile(rt, alloc, &order, &mut out), &mut err),
+        Ok(Order::Check(order)) => status(check_certificate(rt, alloc, &order, &mut out), &mut err),
     }
-}
-
-/// Tells that this command is not there yet.
-fn absent<E: Write>(command: &str, err: &mut E) -> u8
-    ensures { result ≡ 1 }
-{
-    let _ = writeln!(err, "bcpl: {command} is not here yet");
-    1
 }

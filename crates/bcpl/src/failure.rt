@@ -4,6 +4,11 @@ ghost use Rattle.std.specs.Prelude.{◌≡◌};
 ghost use Rattle.bcpl.specs.Statuses.{failure_status};
 ghost use Rattle.bcpl.specs.declared.failure.Failure.TheVariants as failures;
 
+use crate::refusals::{
+    write_against, write_build, write_check, write_link, write_streams, write_text,
+};
+use bc_build::BuildError;
+use bc_cert::{CheckFault, Mismatch};
 use bc_link::LinkError;
 use bc_machine::StreamsError;
 use bc_step::End;
@@ -17,6 +22,14 @@ use std::{fmt, io};
 pub enum Failure {
     /// A text was refused.
     Text(TextError),
+    /// A program was not built.
+    Build(BuildError),
+    /// A certificate was not written, for want of memory.
+    Certificate,
+    /// A certificate was refused.
+    Check(CheckFault),
+    /// Texts don't have the code of a certificate.
+    Against(Mismatch),
     /// Segments were not linked.
     Link(LinkError),
     /// The streams of a run were refused.
@@ -106,45 +119,6 @@ impl From<StreamsError> for Failure {
     }
 }
 
-fn write_text<W: fmt::Write>(f: &mut fmt::Formatter<W>, fault: TextError) -> fmt::Result {
-    match fault {
-        TextError::BadCharacter(at) => write!(f, "text 1 BadCharacter {at}"),
-        TextError::BadNumber(at) => write!(f, "text 2 BadNumber {at}"),
-        TextError::MissingLabel(at) => write!(f, "text 3 MissingLabel {at}"),
-        TextError::Unended => write!(f, "text 4 Unended"),
-        TextError::Write => write!(f, "text 5 Write"),
-        TextError::Memory => write!(f, "text 6 Memory"),
-        TextError::Failed => write!(f, "text 7 Failed"),
-    }
-}
-
-fn write_link<W: fmt::Write>(f: &mut fmt::Formatter<W>, fault: LinkError) -> fmt::Result {
-    match fault {
-        LinkError::LabelUnset(segment, label) => {
-            let label = label.get();
-            write!(f, "link 1 LabelUnset {segment} {label}")
-        }
-        LinkError::LabelTwice(segment, label) => {
-            let label = label.get();
-            write!(f, "link 2 LabelTwice {segment} {label}")
-        }
-        LinkError::GlobalTwice(number) => {
-            let number = number.get();
-            write!(f, "link 3 GlobalTwice {number}")
-        }
-        LinkError::TooLarge => write!(f, "link 4 TooLarge"),
-        LinkError::Memory => write!(f, "link 5 Memory"),
-    }
-}
-
-fn write_streams<W: fmt::Write>(f: &mut fmt::Formatter<W>, fault: StreamsError) -> fmt::Result {
-    match fault {
-        StreamsError::NameTwice => write!(f, "streams 1 NameTwice"),
-        StreamsError::NameTooLong => write!(f, "streams 2 NameTooLong"),
-        StreamsError::Memory => write!(f, "streams 3 Memory"),
-    }
-}
-
 fn write_end<W: fmt::Write>(f: &mut fmt::Formatter<W>, end: End) -> fmt::Result {
     match end {
         End::Finished => write!(f, "ended Finished"),
@@ -162,6 +136,10 @@ impl fmt::Display for Failure {
     fn fmt<W: fmt::Write>(&self, f: &mut fmt::Formatter<W>) -> fmt::Result {
         match self {
             Failure::Text(fault) => write_text(f, *fault),
+            Failure::Build(fault) => write_build(f, fault),
+            Failure::Certificate => write!(f, "cert 2 Memory"),
+            Failure::Check(fault) => write_check(f, *fault),
+            Failure::Against(mismatch) => write_against(f, *mismatch),
             Failure::Link(fault) => write_link(f, *fault),
             Failure::Streams(fault) => write_streams(f, *fault),
             Failure::File(path) => write!(f, "file {path}"),

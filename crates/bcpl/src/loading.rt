@@ -15,7 +15,7 @@ use std::rt::Files;
 const FILE_LIMIT: u64 = 16_777_216;
 
 /// The bytes of a file.
-fn contents<F: Files>(rt: &F, alloc: Global, path: &str) -> Result<Vec<u8>, Failure> {
+pub fn contents<F: Files>(rt: &F, alloc: Global, path: &str) -> Result<Vec<u8>, Failure> {
     let file = match fs::open(rt, path) {
         Ok(file) => file,
         Err(error) => return Err(Failure::io(alloc, &error, path)),
@@ -38,9 +38,12 @@ fn add_segments(alloc: Global, segments: &mut Vec<Segment>, text: &[u8]) -> Resu
     Ok(())
 }
 
-/// The image of the texts in these files behind the primitives. All files are read first, then the texts are judged in
-/// their order, and then they are linked.
-pub fn image_of<F: Files>(rt: &F, alloc: Global, paths: &[&str]) -> Result<Image, Failure> {
+/// The segments of the texts in these files. All files are read first, and then the texts are judged in their order.
+pub fn segments_of<F: Files>(
+    rt: &F,
+    alloc: Global,
+    paths: &[&str],
+) -> Result<Vec<Segment>, Failure> {
     let mut texts = Vec::new(alloc);
     for path in paths {
         texts.push(contents(rt, alloc, path)?)?;
@@ -49,6 +52,11 @@ pub fn image_of<F: Files>(rt: &F, alloc: Global, paths: &[&str]) -> Result<Image
     for text in &texts {
         add_segments(alloc, &mut segments, text.as_slice())?;
     }
-    let segments = behind_primitives(alloc, segments)?;
+    Ok(segments)
+}
+
+/// The image of the texts in these files behind the primitives.
+pub fn image_of<F: Files>(rt: &F, alloc: Global, paths: &[&str]) -> Result<Image, Failure> {
+    let segments = behind_primitives(alloc, segments_of(rt, alloc, paths)?)?;
     Ok(link(alloc, segments.as_slice())?)
 }

@@ -1,12 +1,15 @@
-//! The program: assembles, links and runs INTCODE texts.
+//! The program: compiles BCPL, checks certificates, and assembles, links and runs INTCODE texts.
 #![tactic(auto)]
 
 mod arguments;
+mod checking;
 mod commands;
+mod compiling;
 mod devices;
 mod failure;
 mod loading;
 mod output;
+mod refusals;
 #[cfg(test)]
 mod tests;
 

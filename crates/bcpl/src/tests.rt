@@ -173,10 +173,16 @@ fn missing_files_and_commands(rt: HostRuntime) -> Result<(), Fail> {
         )?
     );
     assert!(rt; answers(&rt, &["asm", "/nowhere/text"], 1, "", missing)?);
-    let build = "bcpl: build is not here yet\n";
-    assert!(rt; answers(&rt, &["build", "--out", "o", "f"], 1, "", build)?);
-    let check = "bcpl: check is not here yet\n";
-    assert!(rt; answers(&rt, &["check", "c"], 1, "", check)?);
+    assert!(rt;
+        answers(
+            &rt,
+            &["build", "--out", "o", "/nowhere/text"],
+            1,
+            "",
+            missing
+        )?
+    );
+    assert!(rt; answers(&rt, &["check", "/nowhere/text"], 1, "", missing)?);
     Ok(())
 }
 

@@ -81,11 +81,7 @@ fn write_parse<W: fmt::Write>(f: &mut fmt::Formatter<W>, fault: ParseError) -> f
 }
 
 /// A refusal that names a name.
-fn write_name<W: fmt::Write>(
-    f: &mut fmt::Formatter<W>,
-    refusal: &str,
-    name: &[u8],
-) -> fmt::Result {
+fn write_name<W: fmt::Write>(f: &mut fmt::Formatter<W>, refusal: &str, name: &[u8]) -> fmt::Result {
     write!(f, "scope {refusal} ")?;
     for byte in name {
         f.write_char(char::from(*byte))?;

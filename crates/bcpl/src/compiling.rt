@@ -1,5 +1,7 @@
 //! The command `build`.
 
+ghost use Rattle.std.specs.Prelude.{◌<◌, All, IfOk};
+
 use crate::arguments::BuildOrder;
 use crate::failure::Failure;
 use crate::loading::contents;
@@ -17,38 +19,55 @@ use std::rt::Files;
 /// How many sources stand in front of those of the command line: LIBHDR and BLIB.
 const LIBRARY_SOURCES: usize = 2;
 
-/// The contents of the files that the words name: those of `--get` first.
-fn contents_of<F: Files>(
+/// A source that was read from a file.
+#[derive(Drop)]
+struct Loaded {
+    /// The name that GET knows it by.
+    name: Vec<u8>,
+    /// Its bytes.
+    text: Vec<u8>,
+}
+
+/// The source of this name in the file of this path.
+fn source_of<F: Files>(rt: &F, alloc: Global, name: &str, path: &str) -> Result<Loaded, Failure> {
+    let text = contents(rt, alloc, path)?;
+    let name = Vec::from_slice(alloc, name.as_bytes())?;
+    Ok(Loaded { name, text })
+}
+
+/// The sources in the files that the words name: those of `--get` first.
+fn sources_of<F: Files>(
     rt: &F,
     alloc: Global,
     order: &BuildOrder<'_>,
-) -> Result<Vec<Vec<u8>>, Failure> {
-    let mut texts = Vec::new(alloc);
+) -> Result<Vec<Loaded>, Failure> {
+    let mut sources = Vec::new(alloc);
     for binding in &order.gets {
-        texts.push(contents(rt, alloc, binding.path)?)?;
+        sources.push(source_of(rt, alloc, binding.name, binding.path)?)?;
     }
     for path in &order.files {
-        texts.push(contents(rt, alloc, path)?)?;
+        sources.push(source_of(rt, alloc, path, path)?)?;
     }
-    Ok(texts)
+    Ok(sources)
 }
 
-/// The names of the sources behind the library's, in the order of their contents.
-fn names_of<'a>(alloc: Global, order: &BuildOrder<'a>) -> Result<Vec<&'a str>, Failure> {
-    let mut names = Vec::new(alloc);
-    for binding in &order.gets {
-        names.push(binding.name)?;
+/// The indexes of the sources that become a segment each, of which there are this many: BLIB, and what stands behind
+/// the library and the files of `--get`.
+fn mains_of(alloc: Global, gets: usize, sources: usize) -> Result<Vec<usize>, Failure>
+    ensures { IfOk result (λ mains. All (λ main. main < sources) mains.items) }
+{
+    let mut mains = Vec::new(alloc);
+    for source in 1..sources {
+        if source < LIBRARY_SOURCES || source - LIBRARY_SOURCES >= gets {
+            mains.push(source)?;
+        }
     }
-    for path in &order.files {
-        names.push(*path)?;
-    }
-    Ok(names)
+    Ok(mains)
 }
 
 /// Builds the program of BLIB and the files.
 fn built<F: Files>(rt: &F, alloc: Global, order: &BuildOrder<'_>) -> Result<Built, Failure> {
-    let texts = contents_of(rt, alloc, order)?;
-    let names = names_of(alloc, order)?;
+    let files = sources_of(rt, alloc, order)?;
     let mut sources = Vec::new(alloc);
     sources.push(Source {
         name: b"LIBHDR",
@@ -58,17 +77,13 @@ fn built<F: Files>(rt: &F, alloc: Global, order: &BuildOrder<'_>) -> Result<Buil
         name: b"BLIB",
         text: BLIB.as_bytes(),
     })?;
-    for (name, text) in names.iter().zip(texts.iter()) {
+    for file in &files {
         sources.push(Source {
-            name: name.as_bytes(),
-            text: text.as_slice(),
+            name: file.name.as_slice(),
+            text: file.text.as_slice(),
         })?;
     }
-    let mut mains = Vec::new(alloc);
-    mains.push(LIBRARY_SOURCES - 1)?;
-    for main in LIBRARY_SOURCES + order.gets.len()..sources.len() {
-        mains.push(main)?;
-    }
+    let mains = mains_of(alloc, order.gets.len(), sources.len())?;
     match build(alloc, sources.as_slice(), mains.as_slice()) {
         Ok(built) => Ok(built),
         Err(fault) => Err(Failure::Build(fault)),
@@ -129,18 +144,22 @@ fn write_certificate<F: Files>(
     }
 }
 
-/// Builds a program, writes its text and certificate, and tells of its size.
-pub fn compile<F: Files, O: Write + Drop>(
+/// Writes the files that the words ask for.
+fn write_files<F: Files>(
     rt: &F,
     alloc: Global,
     order: &BuildOrder<'_>,
-    out: &mut O,
+    built: &Built,
 ) -> Result<(), Failure> {
-    let built = built(rt, alloc, order)?;
     write_segments(rt, alloc, order.out, built.segments.as_slice())?;
-    if let Some(path) = order.certificate {
-        write_certificate(rt, alloc, path, &built)?;
+    match order.certificate {
+        Some(path) => write_certificate(rt, alloc, path, built),
+        None => Ok(()),
     }
+}
+
+/// Tells of a program's size.
+fn tell<O: Write + Drop>(alloc: Global, built: &Built, out: &mut O) -> Result<(), Failure> {
     let segments = built.segments.len();
     let entries = built.entries.len();
     let stack_base = built.image.stack_base.get();
@@ -149,4 +168,16 @@ pub fn compile<F: Files, O: Write + Drop>(
     } else {
         Err(Failure::file(alloc, "SYSPRINT"))
     }
+}
+
+/// Builds a program, writes its text and certificate, and tells of its size.
+pub fn compile<F: Files, O: Write + Drop>(
+    rt: &F,
+    alloc: Global,
+    order: &BuildOrder<'_>,
+    out: &mut O,
+) -> Result<(), Failure> {
+    let program = built(rt, alloc, order)?;
+    write_files(rt, alloc, order, &program)?;
+    tell(alloc, &program, out)
 }
