@@ -54,7 +54,8 @@ abbrev pub rules_field : List Rule → List ℕ
 rules_field [] = 45 ∷ []
 rules_field (r ∷ rs) = rule_name r ++ further_rules rs
 
--- what a node is: Nn Pn Gn Ln Vn ! M ~ Xn ? Kn
+-- What a node is, by a letter or sign, with its number behind it: N, P, G, L and V of a number, a cell of the frame, a global,
+-- a place and a VALOF; `!` of a content, M of minus, `~` of NOT, X of an operator, the question mark of a condition, K of a call.
 abbrev pub form_field : Exp → List ℕ
 form_field (Num n) = 78 ∷ decimal n
 form_field (Frame k) = 80 ∷ decimal k
