@@ -1,13 +1,14 @@
 -- Names that are known, oldest first in the code and newest first in the definitions.
-use Rattle.std.proofs.Common.{◌≡◌, ℕ, ◌+◌, ◌<◌, refl, ap, ◌∙◌, sym, List, [], ◌∷◌, ◌++◌, length, get_or, take}
-use Rattle.std.proofs.lemmas.List.{take_more}
+use Rattle.std.proofs.Common.{◌≡◌, ℕ, ◌+◌, ◌<◌, refl, ap, ◌∙◌, sym, List, [], ◌∷◌, ◌++◌, length, get_or, take, ◌==◌, ◌&&◌, false, suc, arith}
+use Rattle.std.proofs.Math.Bool.{and-true, and-false, and_assoc}
+use Rattle.std.proofs.lemmas.List.{take_more, length-take-le}
 use Rattle.bc_names.specs.declared.scope.Border.{Border}
 use Rattle.bc_names.specs.declared.scope.Border.TheVariants as border
 use Rattle.bc_names.specs.declared.scope.Group.{Group}
 use Rattle.bc_names.specs.declared.scope.Named.{Named}
 use Rattle.bc_names.specs.View.{known_over, groups_over, meant_view}
 use Rattle.bc_names.specs.Crossing.{outer, outside, over, joined, all_over}
-use Rattle.bc_scoping.specs.Scope.{Env, Name, meant_by, Meant, Constant, Pending, Static, Global, Routine, Variable, Label, OuterVariable, OuterLabel, LabelOutside, Undeclared}
+use Rattle.bc_scoping.specs.Scope.{Env, Name, is_name, meant_by, Meant, Constant, Pending, Static, Global, Routine, Variable, Label, OuterVariable, OuterLabel, LabelOutside, Undeclared}
 use Rattle.bc_scoping.specs.Scoping.{in_routine, in_valof}
 
 pub known_push : (b : Border) (E : Env) (ns : List Named) (n : Named) → known_over b E (ns ++ n ∷ []) ≡ (n.name.now, over b (meant_view n.meant)) ∷ known_over b E ns
@@ -133,3 +134,19 @@ all_outer (e ∷ E) = ap (λ F. (e.0, outer e.1) ∷ F) (all_outer E) ∙ sym (r
 pub all_outside : (E : Env) → all_over border.Valof E ≡ in_valof E
 all_outside [] = refl
 all_outside (e ∷ E) = ap (λ F. (e.0, outside e.1) ∷ F) (all_outside E) ∙ sym (valof_entry e.0 e.1 E)
+
+spelled_push : (a b : Name) (p q : ℕ) → length a ≡ length b → is_name (a ++ p ∷ []) (b ++ q ∷ []) ≡ (is_name a b && (p == q))
+spelled_push [] [] p q h = and-true (p == q)
+spelled_push [] (y ∷ b) p q h = absurd (omega arith)
+spelled_push (x ∷ a) [] p q h = absurd (omega arith)
+spelled_push (x ∷ a) (y ∷ b) p q h = ap (λ t. (x == y) && t) (spelled_push a b p q (omega arith)) ∙ sym (and_assoc (x == y) (is_name a b) (p == q))
+
+pub spelled_take : (a b : Name) (i : ℕ) → i < length a → length a ≡ length b → is_name (take (i + 1) a) (take (i + 1) b) ≡ (is_name (take i a) (take i b) && (get_or a i 0 == get_or b i 0))
+spelled_take a b i h e =
+    ap (λ t. is_name t (take (i + 1) b)) (take_more a i 0 h) ∙ ap (λ t. is_name (take i a ++ get_or a i 0 ∷ []) t) (take_more b i 0 (omega arith)) ∙ spelled_push (take i a) (take i b) (get_or a i 0) (get_or b i 0) (length-take-le i a (omega arith) ∙ sym (length-take-le i b (omega arith)))
+
+pub other_length : (a b : Name) → ¬ (length a ≡ length b) → is_name a b ≡ false
+other_length [] [] h = absurd (h refl)
+other_length [] (y ∷ b) h = refl
+other_length (x ∷ a) [] h = refl
+other_length (x ∷ a) (y ∷ b) h = ap (λ t. (x == y) && t) (other_length a b (λ e. h (ap suc e))) ∙ and-false (x == y)

@@ -1,5 +1,5 @@
 -- For proofs: what a meaning becomes in a routine and in a VALOF, and over the borders of both.
-use Rattle.std.specs.Prelude.{List, [], ◌∷◌, Option, Some, None}
+use Rattle.std.specs.Prelude.{[], ◌∷◌}
 use Rattle.bc_scoping.specs.Scope.{Env, Meant, Variable, Label, LabelOutside, OuterVariable, OuterLabel}
 use Rattle.bc_names.specs.declared.scope.Border.{Border}
 use Rattle.bc_names.specs.declared.scope.Border.TheVariants as border

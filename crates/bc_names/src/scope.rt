@@ -1,5 +1,5 @@
 ghost use Rattle.std.specs.Prelude.{◌≡◌, [], ◌∷◌, IfOk, List};
-ghost use Rattle.bc_scoping.specs.Scope.{Env, meant_by};
+ghost use Rattle.bc_scoping.specs.Scope.{Env, is_name, meant_by};
 ghost use Rattle.bc_scoping.specs.Scoping.{in_routine, in_valof};
 ghost use Rattle.bc_names.specs.View.{meant_view, scope_view, known_over, groups_over, found_or};
 ghost use Rattle.bc_names.specs.Crossing.{outer, outside, joined, over, all_over};
@@ -205,11 +205,29 @@ fn find(names: &[Named<'_>], border: Border, name: &[u8]) -> Option<Meant>
     while i > 0 {
         i -= 1;
         let named = names[i];
-        if named.name == name {
+        if is_spelled(named.name, name) {
             return Some(meant_over(border, named.meant));
         }
     }
     None
+}
+
+/// Whether two names are the same. Names of one length differ mostly at their end, so that is compared first.
+#[tactic(auto, using(crate::proofs::Names::other_length, crate::proofs::Names::spelled_take))]
+fn is_spelled(left: &[u8], right: &[u8]) -> bool
+    ensures { result ≡ is_name left.now right.now }
+{
+    if left.len() != right.len() {
+        return false;
+    }
+    let mut i = left.len();
+    while i > 0 {
+        i -= 1;
+        if left[i] != right[i] {
+            return false;
+        }
+    }
+    true
 }
 
 /// Two borders, one behind the other.
