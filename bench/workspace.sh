@@ -50,7 +50,8 @@ crates_below() {
 copy_proved() {
     if [ -f "$1/stamp" ] && ! cmp -s "$1/stamp" "$2/stamp"; then
         rm -rf "$2"
-        cp -r "$1" "$2"
+        # Links do where both are on one disk: what is built is replaced, and never written to.
+        cp -rl "$1" "$2" 2>/dev/null || { rm -rf "$2" && cp -r "$1" "$2"; }
     fi
 }
 

@@ -1,8 +1,16 @@
 #!/usr/bin/env bash
-# The time of `write_cert` over a certificate of 48 MB and over one of half as many entries: the best of ten runs of each, taken in
-# turn. Prints the rate and the ratio.
+# bench/certificate/run.sh [PROGRAM]: the time of `write_cert` over a certificate of 48 MB, and of `bcpl check` over one of 50 MB, the entries of a
+# generated program over and over; and over one of half as many entries each: the best of ten runs, taken in turn. Prints the rates and the
+# ratios. PROGRAM is the built program (crates/bcpl/out/bcpl, proved and built first, if left out).
 set -eu
+if [ $# -gt 0 ]; then set -- "$(realpath "$1")"; fi
 cd "$(dirname "$0")"
+if [ $# -gt 0 ]; then
+    bcpl=$1
+else
+    ../../bcpl --help >/dev/null
+    bcpl=../../crates/bcpl/out/bcpl
+fi
 . ../workspace.sh
 make_workspace write_bench write.rt.in anyhow bc_entries bc_derive bc_core bc_word
 echo 10 | build_program
@@ -14,3 +22,9 @@ for _ in $(seq 10); do
 done
 echo "$best" | awk '{
     printf "%d bytes: %.1f MB/s, twice the entries take %.2f times as long\n", $3, $3 * 1000 / $1, $1 / $2 }'
+
+python3 ../build/make_program.py 29950 >"$work/source"
+"$bcpl" build --out "$work/text" --cert "$work/built" "$work/source" >/dev/null
+python3 make_certificate.py "$work/built" 50000000 >"$work/whole"
+python3 make_certificate.py "$work/built" 25000000 >"$work/half"
+python3 check_times.py "$bcpl" "$work/whole" "$work/half"
