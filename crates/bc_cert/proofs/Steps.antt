@@ -11,7 +11,7 @@ use Rattle.bc_stack.specs.Stacks.{◌>>=◌}
 use Rattle.bc_certificate.specs.declared.verdict.Verdict as code
 use Rattle.bc_certificate.specs.View.{verdict}
 use Rattle.bc_stack.specs.View.{Fails, Gives}
-use Rattle.bc_cert.specs.Judging.{State, between, start, step_at, between_step, place_of, counted, line_step, byte_step, feed_from, finished, judged}
+use Rattle.bc_verdict.specs.Judging.{State, between, start, step_at, between_step, place_of, counted, line_step, byte_step, feed_from, finished, judged}
 use Rattle.bc_cert.specs.Answer.{Says, Lacks, IsFault, IsAnswer}
 
 pub between_line : (line : List ℕ) (st : State) (p : Place) → st.stage ≡ between → p ≡ place_of (counted st) → between_step line p (counted st) ≡ line_step line st

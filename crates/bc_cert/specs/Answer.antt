@@ -6,7 +6,7 @@ use Rattle.bc_certificate.specs.declared.check_fault.CheckFault.TheVariants as f
 use Rattle.bc_certificate.specs.declared.verdict.Verdict as code
 use Rattle.bc_certificate.specs.Verdict.{Verdict}
 use Rattle.bc_certificate.specs.View.{verdict}
-use Rattle.bc_cert.specs.Judging.{judged}
+use Rattle.bc_verdict.specs.Judging.{judged}
 
 -- this is what some bytes say that the reader gave; where it tells its bytes, they are all of them
 abbrev pub Says : Option (List ℕ) → Verdict → Type 0

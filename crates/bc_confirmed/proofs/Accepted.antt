@@ -31,7 +31,7 @@ use Rattle.bc_stack.specs.Marks.{levels_fit, depth_over}
 use Rattle.bc_stack.specs.Showing.{shown_for, judged as shown_where}
 use Rattle.bc_stack.specs.Wholes.{whole}
 use Rattle.bc_stack.specs.Stacks.{◌>>=◌, Stack, no_trees, with_whole, fitting, line_node, new_mark, new_facts, without_expressions, put_over, node_judged_over, node_whole, node_from, node_step, Rooted, root_step}
-use Rattle.bc_cert.specs.Judging.{Stage, the_header, between, nodes, code, the_end, State, start, same_piece, same_code, judged_with, code_against, against_right, code_fits, pieces_judged, code_judged, begun, ended, entered, rooted, noded, code_step, step_at, place_of, counted, line_step, byte_step, feed_from, no_rest, finished_at, finished}
+use Rattle.bc_verdict.specs.Judging.{Stage, the_header, between, nodes, code, the_end, State, start, same_piece, same_code, judged_with, code_against, against_right, code_fits, pieces_judged, code_judged, begun, ended, entered, rooted, noded, code_step, step_at, place_of, counted, line_step, byte_step, feed_from, no_rest, finished_at, finished}
 use Rattle.bc_confirmed.specs.Laws.{SamePiece, IsLeastCode, AcceptedIsLeast}
 use Rattle.bc_confirmed.proofs.Known.{Known, known_front, known_behind, known_more, whole_known, new_part}
 use Rattle.bc_confirmed.proofs.Roots.{bound, passed, got, ok_same, HasLeast, root_least}

@@ -3,7 +3,7 @@ use Rattle.std.proofs.Common.{◌≡◌, ℕ, List, [], ◌∷◌, ◌++◌, Res
 use Rattle.bc_certificate.specs.declared.check_fault.CheckFault.{CheckFault}
 use Rattle.bc_certificate.specs.declared.check_fault.CheckFault.TheVariants.{Header, Truncated}
 use Rattle.bc_stack.specs.Stacks.{◌>>=◌}
-use Rattle.bc_cert.specs.Judging.{Stage, the_header, between, nodes, code, the_end, State, start, byte_step, feed_from, no_rest, finished_at, finished}
+use Rattle.bc_verdict.specs.Judging.{Stage, the_header, between, nodes, code, the_end, State, start, byte_step, feed_from, no_rest, finished_at, finished}
 use Rattle.bc_confirmed.specs.Laws.{FaultStays}
 
 grouped : {A B C : Type 0} (r : Result A CheckFault) (f : A → Result B CheckFault) (g : B → Result C CheckFault) → ((r >>= f) >>= g) ≡ (r >>= (λ x. f x >>= g))

@@ -13,7 +13,7 @@ use Rattle.bc_certificate.specs.declared.check_fault.CheckFault.TheVariants.{Hea
 use Rattle.bc_certificate.specs.Verdict.{Judged, Verdict}
 use Rattle.bc_entries.specs.Certificate.{Derived, entry_of}
 use Rattle.bc_rules.specs.Derivation.{IsDerivation}
-use Rattle.bc_cert.specs.Judging.{judged}
+use Rattle.bc_verdict.specs.Judging.{judged}
 
 -- a body of a verdict has its number of items, one of a derivation the VALOF's number
 abbrev pub SamePiece : Piece → Piece → Type 0

@@ -1,4 +1,4 @@
--- What a certificate comes to, line by line: the first fault of a line, or what comes behind it.
+-- For proofs: what a certificate comes to, line by line: the first fault of a line, or what comes behind it.
 use Rattle.std.specs.Prelude.{ℕ, ◌+◌, ◌==◌, Bool, true, false, ◌&&◌, cond, nat_le, length, List, [], ◌∷◌, ◌++◌, Option, Some, None, Result, Ok, Err}
 use Rattle.bc_item.specs.declared.item.Item.{Item}
 use Rattle.bc_item.specs.contracts.item.ItemPartialEq.TheImpl.{ghosts}

@@ -1,0 +1,4 @@
+pub mod Judging
+pub mod Entries
+pub mod Faults
+pub mod Standing

@@ -1,0 +1,1 @@
+//! Laws of certificates. Each is the contract of a function that does nothing.
