@@ -102,8 +102,8 @@ pub record IsNodeLine (e : Exp) (s : ℕ) (c : Costs) (names : List Name) (text 
   pub level : IsLevel s
   pub number : HasSmallNumber e
   pub costs : CostsHaveRoom c
-  pub names : AllByRecursion IsName names
-  pub text : text ≡ line (decimal s) (form_field e ∷ decimal c.any ∷ words_field c.push ∷ decimal c.on_false ∷ decimal c.on_true ∷ names_field names ∷ [])
+  pub all_names : AllByRecursion IsName names
+  pub is : text ≡ line (decimal s) (form_field e ∷ decimal c.any ∷ words_field c.push ∷ decimal c.on_false ∷ decimal c.on_true ∷ names_field names ∷ [])
 
 pub record AreLeastCosts (T : Table) (e : Exp) (s : ℕ) (c : Costs) : Type 0 where
   pub any : AreLeastWords T e (Gets Any) s (Some c.any)
@@ -147,7 +147,7 @@ pub data RootOver : List Grown → Root → List ℕ → Type 0 where
 -- the lines of an entry so far are those of a derivation of the root of least words
 pub record RootStands (T : Table) (r : Root) (nodes : List Shown) (text : List ℕ) (d : RootDerives T r) : Type 0 where
   pub shown : nodes ≡ root_shown d
-  pub text : text ≡ line_of_root d
+  pub is : text ≡ line_of_root d
   pub fewest : (other : RootDerives T r) → root_cost d ≤ root_cost other
 
 -- What may come next: behind the header and whole entries, behind some node lines, behind a root line.
@@ -208,6 +208,6 @@ IsUnended bytes = lines bytes ≡ 0
 
 -- the first fault: that of a line behind lines that are right, or the want of a last line
 pub data Lacks : List ℕ → CheckFault → Type 0 where
-  at_line : {text l rest : List ℕ} {stage : Stage} {f : CheckFault} → Reaches text stage → IsUnended l → LineFault text stage (l ++ 10 ∷ []) f → Lacks (text ++ (l ++ 10 ∷ rest)) f
+  at_line : {text : List ℕ} {stage : Stage} {f : CheckFault} (l rest : List ℕ) → Reaches text stage → IsUnended l → LineFault text stage (l ++ 10 ∷ []) f → Lacks (text ++ (l ++ 10 ∷ rest)) f
   in_header : {bytes : List ℕ} → IsUnended bytes → Lacks bytes Header
   in_lines : {text rest : List ℕ} {stage : Stage} → Reaches text stage → ¬ (stage ≡ the_header) → IsUnended rest → ((T : Table) (js : List Judged) → stage ≡ the_end T js → ¬ (rest ≡ [])) → Lacks (text ++ rest) Truncated

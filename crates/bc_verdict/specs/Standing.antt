@@ -49,7 +49,7 @@ pub record IsChain (c : Chain) : Type 0 where
 
 -- the rules of a line, by the names in it
 pub data AreNamed : List Name → Rules → Type 0 where
-  taken : AreNamed [] Taken
+  no_name : AreNamed [] Taken
   named : {c : Chain} → IsChain c → AreNamed (map name (chain_rules c)) (Named c)
   wrong : {names : List Name} → ¬ (names ≡ []) → ((c : Chain) → IsChain c → ¬ (names ≡ map name (chain_rules c))) → AreNamed names Wrong
 
@@ -103,8 +103,8 @@ pub record Stands (T : Table) (t : Grown) (m : Mark) (f : Facts) (e : Exp) (x : 
   pub depth : m.depth ≡ nested t.expression
   pub part : IsPart T t.expression t.level f
   pub order : map (λ n. (n.expression, n.level)) t.shown ≡ in_order t.expression t.level
-  pub bare : m.is_bare ≡ true → t.shown ≡ bare t.expression t.level
-  pub is_bare : t.shown ≡ bare t.expression t.level → m.is_bare ≡ true
+  pub bare_to : m.is_bare ≡ true → t.shown ≡ bare t.expression t.level
+  pub bare_from : t.shown ≡ bare t.expression t.level → m.is_bare ≡ true
   pub shows : (aim : Aim) → has_aim m.shown aim ≡ true → Shows T t aim
   pub has : (aim : Aim) (d : Derives T t.expression aim) → t.shown ≡ shown d t.level → IsFewest d t.level → (has_aim m.shown aim ≡ true) × (shape d ≡ x)
 
@@ -122,15 +122,15 @@ pub record IsOver (T : Table) (n : NodeLine) (ts : List Grown) (ms : List Mark) 
 
 -- the rules that a line shows
 pub data ShowsRules : Rules → List Rule → Type 0 where
-  bare : ShowsRules Taken []
-  named : {c : Chain} → IsChain c → ShowsRules (Named c) (chain_rules c)
+  no_rule : ShowsRules Taken []
+  by_chain : {c : Chain} → IsChain c → ShowsRules (Named c) (chain_rules c)
 
 -- A derivation that goes on at no node with V0 or J6 before this rule, of so many words, whose parts show these nodes.
 pub record Begins (T : Table) (e : Exp) (aim : Aim) (s : ℕ) (r : Rule) (words : ℕ) (nodes : List Shown) : Type 0 where
   pub derivation : Derives T e aim
-  pub rules : rules_at derivation ≡ r ∷ []
-  pub words : cost derivation s ≡ words
-  pub below : below derivation s ≡ nodes
+  pub first : rules_at derivation ≡ r ∷ []
+  pub counted : cost derivation s ≡ words
+  pub parts : below derivation s ≡ nodes
 
 -- what the checker keeps of such a rule
 abbrev pub begun : Rule → List Facts → List Tree → Tree
