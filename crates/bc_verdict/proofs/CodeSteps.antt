@@ -34,7 +34,7 @@ use Rattle.bc_stack.specs.Stacks.{◌>>=◌, with_whole, Rooted}
 use Rattle.bc_verdict.specs.Entries.{PieceHasRoom, pieces_line, SamePiece}
 use Rattle.bc_verdict.specs.Faults.{Stage, code, judged, IsCode, LineFault, no_pieces, wrong_code, wrong_words}
 use Rattle.bc_verdict.specs.Judging.{State, between, same_item, same_piece, same_code, judged_with, code_against, against_right, right_of, code_fits, code_step}
-use Rattle.bc_verdict.proofs.Results.{StandsBehind, ok_same, err_same, equal_true, equal_false, not_equal, at_most_true, at_most, not_at_most, at_most_false}
+use Rattle.bc_verdict.proofs.Results.{StandsBehind, ok_same, err_same, both_true, equal_true, equal_false, not_equal, at_most_true, at_most, not_at_most, at_most_false}
 
 -- what the checker keeps of a root, by its derivation
 abbrev pub rooted_by : {T : Table} {r : Root} → RootDerives T r → Rooted
@@ -64,9 +64,6 @@ base_itself bases.Number = refl
 base_itself bases.P = refl
 base_itself bases.G = refl
 base_itself bases.Label = refl
-
-both_true : (a b : Bool) → a ≡ true → b ≡ true → (a && b) ≡ true
-both_true a b h i = cc
 
 item_itself : (i : Item) → same_item i i ≡ true
 item_itself (items.Label n) = number_itself n

@@ -1,2 +1,4 @@
 pub mod Results
 pub mod CodeSteps
+pub mod Sides
+pub mod RootSteps
