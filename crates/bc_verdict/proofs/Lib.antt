@@ -1,4 +1,5 @@
 pub mod Results
 pub mod CodeSteps
+pub mod Keeping
 pub mod Sides
 pub mod RootSteps

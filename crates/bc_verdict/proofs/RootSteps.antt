@@ -48,10 +48,7 @@ use Rattle.bc_verdict.specs.Standing.{root_text, RootLineIsSmall, IsFewest, Show
 use Rattle.bc_verdict.proofs.Results.{some_same, ok_same, err_same, passed, both_true, equal_true, equal_false}
 use Rattle.bc_verdict.proofs.Sides.{sides_least, least_is_cost, cost_is_least, side_is, level_of_operand, level_of_none, words_are, free_is}
 use Rattle.bc_verdict.proofs.CodeSteps.{rooted_by}
-
--- the trees that are kept stand for these
-abbrev pub StackStands : Table → List Grown → Stack → Type 0
-StackStands T ts x = AllStand T ts x.marks x.facts x.expressions x.derivations
+use Rattle.bc_verdict.proofs.Keeping.{StackStands, Kept, nothing, further, kept}
 
 abbrev pub OneStands : Table → Grown → One → Type 0
 OneStands T t o = Stands T t o.mark o.facts o.expression o.derivation
@@ -62,23 +59,6 @@ pub data IsRootOf : RootLine → List Grown → Root → Type 0 where
   of_test : {t : Grown} {sense : Bool} → IsRootOf (lines.Test sense) (t ∷ []) (Test t.level sense t.expression)
   of_assignment : {v a : Grown} {s : ℕ} {r : Rule} → IsAssignment r → IsLevel s → v.level ≡ side_level a.expression s → a.level ≡ side_level a.expression s → IsRootOf (lines.Assign r s) (v ∷ a ∷ []) (Assign s v.expression a.expression)
 
--- trees that are kept, from the first on
-pub data Kept (T : Table) : List Grown → List Mark → List Facts → List Exp → List Tree → Type 0 where
-  nothing : Kept T [] [] [] [] []
-  further : {t : Grown} {m : Mark} {f : Facts} {e : Exp} {x : Tree} {ts : List Grown} {ms : List Mark} {fs : List Facts} {es : List Exp} {xs : List Tree} → Stands T t m f e x → AllStand T ts ms fs es xs → Kept T (t ∷ ts) (m ∷ ms) (f ∷ fs) (e ∷ es) (x ∷ xs)
-
-pub kept : (T : Table) (ts : List Grown) (ms : List Mark) (fs : List Facts) (es : List Exp) (xs : List Tree) → AllStand T ts ms fs es xs → Kept T ts ms fs es xs
-kept T [] [] [] [] [] h = nothing
-kept T [] [] [] [] (x ∷ xs) h = absurd h
-kept T [] [] [] (e ∷ es) xs h = absurd h
-kept T [] [] (f ∷ fs) es xs h = absurd h
-kept T [] (m ∷ ms) fs es xs h = absurd h
-kept T (t ∷ ts) [] fs es xs h = absurd h
-kept T (t ∷ ts) (m ∷ ms) [] es xs h = absurd h
-kept T (t ∷ ts) (m ∷ ms) (f ∷ fs) [] xs h = absurd h
-kept T (t ∷ ts) (m ∷ ms) (f ∷ fs) (e ∷ es) [] h = absurd h
-kept T (t ∷ ts) (m ∷ ms) (f ∷ fs) (e ∷ es) (x ∷ xs) h = further h.0 h.1
-
 -- one tree, and two
 data OneOf (T : Table) : List Grown → Option One → Type 0 where
   just_one : {t : Grown} {o : One} → OneStands T t o → OneOf T (t ∷ []) (Some o)
@@ -86,10 +66,8 @@ data OneOf (T : Table) : List Grown → Option One → Type 0 where
 
 one_of : {T : Table} {ts : List Grown} {ms : List Mark} {fs : List Facts} {es : List Exp} {xs : List Tree} → Kept T ts ms fs es xs → OneOf T ts (one_among ms fs es xs)
 one_of nothing = not_one (λ t i. cc)
-one_of {T = T} (further {ts = ts} {ms = ms} {fs = fs} {es = es} {xs = xs} a rest) = alone a (kept T ts ms fs es xs rest) where
-  alone : {t : Grown} {m : Mark} {f : Facts} {e : Exp} {x : Tree} {ts : List Grown} {ms : List Mark} {fs : List Facts} {es : List Exp} {xs : List Tree} → Stands T t m f e x → Kept T ts ms fs es xs → OneOf T (t ∷ ts) (one_among (m ∷ ms) (f ∷ fs) (e ∷ es) (x ∷ xs))
-  alone a nothing = just_one a
-  alone a (further b rest) = not_one (λ t i. cc)
+one_of (further a nothing) = just_one a
+one_of (further a (further b rest)) = not_one (λ t i. cc)
 
 data TwoOf (T : Table) : List Grown → Option (One × One) → Type 0 where
   just_two : {t u : Grown} {q : One × One} → OneStands T t q.0 → OneStands T u q.1 → TwoOf T (t ∷ u ∷ []) (Some q)
@@ -97,15 +75,9 @@ data TwoOf (T : Table) : List Grown → Option (One × One) → Type 0 where
 
 two_of : {T : Table} {ts : List Grown} {ms : List Mark} {fs : List Facts} {es : List Exp} {xs : List Tree} → Kept T ts ms fs es xs → TwoOf T ts (two_among ms fs es xs)
 two_of nothing = not_two (λ t u i. cc)
-two_of {T = T} (further {ts = ts} {ms = ms} {fs = fs} {es = es} {xs = xs} a rest) = behind a (kept T ts ms fs es xs rest) where
-  last : {t u : Grown} {m n : Mark} {f g : Facts} {e i : Exp} {x y : Tree} {ts : List Grown} {ms : List Mark} {fs : List Facts} {es : List Exp} {xs : List Tree} → Stands T t m f e x → Stands T u n g i y → Kept T ts ms fs es xs
-      → TwoOf T (t ∷ u ∷ ts) (two_among (m ∷ n ∷ ms) (f ∷ g ∷ fs) (e ∷ i ∷ es) (x ∷ y ∷ xs))
-  last a b nothing = just_two a b
-  last a b (further c rest) = not_two (λ t u i. cc)
-
-  behind : {t : Grown} {m : Mark} {f : Facts} {e : Exp} {x : Tree} {ts : List Grown} {ms : List Mark} {fs : List Facts} {es : List Exp} {xs : List Tree} → Stands T t m f e x → Kept T ts ms fs es xs → TwoOf T (t ∷ ts) (two_among (m ∷ ms) (f ∷ fs) (e ∷ es) (x ∷ xs))
-  behind a nothing = not_two (λ t u i. cc)
-  behind a (further {ts = ts} {ms = ms} {fs = fs} {es = es} {xs = xs} b rest) = last a b (kept T ts ms fs es xs rest)
+two_of (further a nothing) = not_two (λ t u i. cc)
+two_of (further a (further b nothing)) = just_two a b
+two_of (further a (further b (further c rest))) = not_two (λ t u i. cc)
 
 -- the words of a derivation of least words
 least_at : {T : Table} {e : Exp} {aim : Aim} (s n : ℕ) (c : Option ℕ) (d : Derives T e aim) → AreLeastWords T e aim s c → c ≡ Some n → IsFewest d s → cost d s ≡ n
