@@ -3,3 +3,4 @@ pub mod CodeSteps
 pub mod Keeping
 pub mod Sides
 pub mod RootSteps
+pub mod NodeParts
