@@ -4,3 +4,4 @@ pub mod Keeping
 pub mod Sides
 pub mod RootSteps
 pub mod NodeParts
+pub mod NodeCosts
