@@ -5,3 +5,4 @@ pub mod Sides
 pub mod RootSteps
 pub mod NodeParts
 pub mod NodeCosts
+pub mod NodeSteps
