@@ -23,12 +23,12 @@ use Rattle.bc_stack.specs.declared.mark.Shown.{Shown}
 use Rattle.bc_stack.specs.declared.place.Place.{Place}
 use Rattle.bc_stack.specs.Derived.{derived}
 use Rattle.bc_stack.specs.Marks.{levels_fit, depth_over}
-use Rattle.bc_stack.specs.Showing.{shown_for, judged}
+use Rattle.bc_stack.specs.Showing.{shown_for, shown_with, judged}
 use Rattle.bc_stack.specs.Stacks.{◌>>=◌, Stack, second_zero, line_node, new_mark, new_facts, with_whole, fitting, without_expressions, put_over, node_judged_over, node_whole, node_from, node_step}
 use Rattle.bc_stack.specs.Wholes.{whole}
 use Rattle.bc_verdict.specs.Entries.{nested}
 use Rattle.bc_verdict.specs.Faults.{Grown, all_shown, parts, Ends, Name, name, StandsBy, node, grown}
-use Rattle.bc_verdict.specs.Standing.{AreNamed, Stands, AllStand, IsOver, ShowsRules, no_rule, by_chain}
+use Rattle.bc_verdict.specs.Standing.{AreNamed, no_name, named, wrong, chain_rules, Stands, AllStand, IsOver, ShowsRules, no_rule, by_chain}
 use Rattle.bc_verdict.proofs.Results.{some_same, ok_same, err_same, at_most_true, at_most, not_at_most, at_most_false}
 use Rattle.bc_verdict.proofs.Keeping.{StackStands, Kept, all_stand, kept_front, kept_behind, kept_more, kept_lengths}
 use Rattle.bc_verdict.proofs.NodeParts.{placed, expressions, levels_right, expressions_are, levels_are, own_form, right_levels, right_whole, right_length, parts_right, whole_form, whole_made}
@@ -124,3 +124,136 @@ node_decided {T = T} n ts x p h = at (nat_lt (length x.facts) (parts_of n.form))
       (ap (λ b. cond b (Err (faults.Line p.line)) (node_from T n p x (place_of n x))) i
       ∙ ap (λ b. cond b (cond (nat_le (depth_over (drop (place_of n x) x.marks)) 400) (Ok (depth_over (drop (place_of n x) x.marks))) (Err (faults.TooDeep p.line))) (Err (faults.Line p.line)) >>= (λ depth. node_whole T n p x (place_of n x) depth)) j)
       (λ e form ends. let f = (fits_of_ends n ts x ends h form).levels in let bad : true ≡ false = sym f ∙ j in cc)
+
+-- what the step is where the line fits
+abbrev new_stack : NodeLine → Stack → Exp → Shown → Stack
+new_stack n x e shown = put_over n (without_expressions (place_of n x) x) (place_of n x) (depth_over (drop (place_of n x) x.marks)) e shown
+
+abbrev shown_over : Table → NodeLine → Place → Stack → Exp → Result Shown CheckFault
+shown_over T n p x e = shown_for (line_node T n e (drop (place_of n x) x.facts)) (drop (place_of n x) x.marks) n p
+
+abbrev are_least : Table → NodeLine → Stack → Exp → Bool
+are_least T n x e = are_costs (least_words_of (line_node T n e (drop (place_of n x) x.facts))) n.costs
+
+abbrev decided : Table → NodeLine → Place → Stack → Exp → (deep least : Bool) → Result Stack CheckFault
+decided T n p x e deep least =
+    cond deep (cond least (shown_over T n p x e) (Err (faults.WrongCost p.entry p.node)) >>= (λ shown. Ok (new_stack n x e shown))) (Err (faults.TooDeep p.line))
+
+node_result : {T : Table} {e : Exp} {n : NodeLine} {ts : List Grown} {x : Stack} {ends : Ends e n.level ts} (p : Place) → NodeFits T n ts x e ends → node_step T n p x ≡ decided T n p x e (nat_le (depth_over (drop (place_of n x) x.marks)) 400) (are_least T n x e)
+node_result {T = T} {e = e} {n = n} {x = x} p fit =
+    let at = place_of n x in
+    let depth = depth_over (drop at x.marks) in
+    ap (λ b. cond b (Err (faults.Line p.line)) (node_from T n p x at)) fit.enough
+    ∙ ap (λ b. cond b (cond (nat_le depth 400) (Ok depth) (Err (faults.TooDeep p.line))) (Err (faults.Line p.line)) >>= (λ d. node_whole T n p x at d)) fit.levels
+    ∙ deeper (nat_le depth 400)
+    ∙ ap (λ o. cond (nat_le depth 400) (with_whole p o >>= (λ e. node_judged_over T n p (without_expressions at x) at depth e)) (Err (faults.TooDeep p.line))) fit.is_whole where
+      deeper : (b : Bool) → (cond b (Ok (depth_over (drop (place_of n x) x.marks))) (Err (faults.TooDeep p.line)) >>= (λ d. node_whole T n p x (place_of n x) d))
+          ≡ cond b (node_whole T n p x (place_of n x) (depth_over (drop (place_of n x) x.marks))) (Err (faults.TooDeep p.line))
+      deeper true = refl
+      deeper false = refl
+
+is_over : {T : Table} {e : Exp} {n : NodeLine} {ts : List Grown} {x : Stack} {ends : Ends e n.level ts} → NodeFits T n ts x e ends → AreLeast T e n.level n.costs
+    → IsOver T n ends.own (drop (place_of n x) x.marks) (drop (place_of n x) x.facts) (drop (place_of n x) x.expressions) (drop (place_of n x) x.derivations) e
+is_over fit least = record { parts = all_stand fit.own; levels = fit.levels; whole = fit.is_whole; costs = least }
+
+depth_over_is : RulesAtNodes → {T : Table} {e : Exp} {n : NodeLine} {ts : List Grown} {x : Stack} {ends : Ends e n.level ts} → NodeFits T n ts x e ends → depth_over (drop (place_of n x) x.marks) ≡ nested e
+depth_over_is rules {T = T} {e = e} {n = n} {x = x} {ends = ends} fit =
+    rules.depth_is T n ends.own (drop (place_of n x) x.marks) (drop (place_of n x) x.facts) (drop (place_of n x) x.expressions) (drop (place_of n x) x.derivations) e (all_stand fit.own) fit.levels fit.is_whole
+
+-- the rules that names say where a step goes on
+record NamesShow (names : List Name) (rs : Rules) : Type 0 where
+  rules : List Rule
+  names_are : names ≡ map name rules
+  shows : ShowsRules rs rules
+
+names_show : (T : Table) {names : List Name} {rs : Rules} (n : NodeLine) (e : Exp) (fs : List Facts) (ms : List Mark) (p : Place) (shown : Shown) → n.rules ≡ rs → AreNamed names rs → shown_for (line_node T n e fs) ms n p ≡ Ok shown → NamesShow names rs
+names_show T n e fs ms p shown h no_name k = record { rules = []; names_are = refl; shows = no_rule }
+names_show T n e fs ms p shown h (named {c = c} is) k = record { rules = chain_rules c; names_are = refl; shows = by_chain is }
+names_show T n e fs ms p shown h (wrong some none) k =
+    let bad : ◌≡◌ {A = Result Shown CheckFault} (Err (faults.WrongRule p.entry p.node)) (Ok shown) = sym (ap (λ r. shown_with (line_node T n e fs) ms n.costs r p) h) ∙ k in cc
+
+-- A node line that was taken: the tree of its node stands over its parts.
+pub record NodeRight (T : Table) (n : NodeLine) (ts : List Grown) (names : List Name) (e : Exp) (ends : Ends e n.level ts) (y : Stack) : Type 0 where
+  pub rules : List Rule
+  pub names_are : names ≡ map name rules
+  pub shows : ShowsRules n.rules rules
+  pub depth : nested e ≤ 400
+  pub least : AreLeast T e n.level n.costs
+  pub stands : StandsBy T e n.level rules (all_shown ends.own ++ node e n.level rules ∷ [])
+  pub trees : StackStands T (ends.before ++ grown e n.level rules ends.own ∷ []) y
+
+-- the fault of a node line whose form fits
+pub data NodeWrong (T : Table) (n : NodeLine) (ts : List Grown) (names : List Name) (e : Exp) (ends : Ends e n.level ts) (p : Place) : CheckFault → Type 0 where
+  is_deep : 400 < nested e → NodeWrong T n ts names e ends p (faults.TooDeep p.line)
+  is_cost : nested e ≤ 400 → ¬ AreLeast T e n.level n.costs → NodeWrong T n ts names e ends p (faults.WrongCost p.entry p.node)
+  is_rule : nested e ≤ 400 → AreLeast T e n.level n.costs → ((rules : List Rule) → names ≡ map name rules → ¬ StandsBy T e n.level rules (all_shown ends.own ++ node e n.level rules ∷ [])) → NodeWrong T n ts names e ends p (faults.WrongRule p.entry p.node)
+
+stack_more : RulesAtNodes → {T : Table} {e : Exp} {n : NodeLine} {ts : List Grown} {x : Stack} {ends : Ends e n.level ts} (p : Place) (rules : List Rule) (shown : Shown) → NodeFits T n ts x e ends → AreLeast T e n.level n.costs → ShowsRules n.rules rules → shown_over T n p x e ≡ Ok shown
+    → StackStands T (ends.before ++ grown e n.level rules ends.own ∷ []) (new_stack n x e shown) × StandsBy T e n.level rules (all_shown ends.own ++ node e n.level rules ∷ [])
+stack_more at_nodes {T = T} {e = e} {n = n} {x = x} {ends = ends} p rules shown fit least shows k =
+    let new = at_nodes.new_stands T n ends.own (drop (place_of n x) x.marks) (drop (place_of n x) x.facts) (drop (place_of n x) x.expressions) (drop (place_of n x) x.derivations) e (is_over fit least) rules shows p shown k in
+    (all_stand (kept_more fit.before new.0), new.1)
+
+pub node_right : RulesAtNodes → {T : Table} {e : Exp} {n : NodeLine} {ts : List Grown} {x : Stack} {ends : Ends e n.level ts} (p : Place) (names : List Name) (y : Stack) → NodeFits T n ts x e ends → AreNamed names n.rules → node_step T n p x ≡ Ok y → NodeRight T n ts names e ends y
+node_right at_nodes {T = T} {e = e} {n = n} {ts = ts} {x = x} {ends = ends} p names y fit are k = at (nat_le (depth_over (drop (place_of n x) x.marks)) 400) refl (are_least T n x e) refl (shown_over T n p x e) refl (sym (node_result p fit) ∙ k) where
+  at : (deep : Bool) → nat_le (depth_over (drop (place_of n x) x.marks)) 400 ≡ deep → (least : Bool) → are_least T n x e ≡ least → (r : Result Shown CheckFault) → shown_over T n p x e ≡ r
+      → cond deep (cond least r (Err (faults.WrongCost p.entry p.node)) >>= (λ shown. Ok (new_stack n x e shown))) (Err (faults.TooDeep p.line)) ≡ Ok y → NodeRight T n ts names e ends y
+  at true i true j (Ok shown) m k =
+      let least = costs_are_least T n e (drop (place_of n x) x.facts) n.costs fit.form (own_parts e n.level fit.own ends.parts) j in
+      let names_said = names_show T n e (drop (place_of n x) x.facts) (drop (place_of n x) x.marks) p shown refl are m in
+      let more = stack_more at_nodes p names_said.rules shown fit least names_said.shows m in
+      let depth = at_most _ _ i in let same = depth_over_is at_nodes fit in
+      record {
+        rules = names_said.rules;
+        names_are = names_said.names_are;
+        shows = names_said.shows;
+        depth = omega (arith, depth, same);
+        least = least;
+        stands = more.1;
+        trees = subst (StackStands T (ends.before ++ grown e n.level names_said.rules ends.own ∷ [])) (ok_same k) more.0;
+      }
+  at true i true j (Err f) m k = cc
+  at true i false j r m k = cc
+  at false i least j r m k = cc
+
+pub node_wrong : RulesAtNodes → {T : Table} {e : Exp} {n : NodeLine} {ts : List Grown} {x : Stack} {ends : Ends e n.level ts} (p : Place) (names : List Name) (f : CheckFault) → NodeFits T n ts x e ends → AreNamed names n.rules → node_step T n p x ≡ Err f → NodeWrong T n ts names e ends p f
+node_wrong at_nodes {T = T} {e = e} {n = n} {ts = ts} {x = x} {ends = ends} p names f fit are k = at (nat_le (depth_over (drop (place_of n x) x.marks)) 400) refl (are_least T n x e) refl (shown_over T n p x e) refl (sym (node_result p fit) ∙ k) where
+  not_deep : nat_le (depth_over (drop (place_of n x) x.marks)) 400 ≡ true → nested e ≤ 400
+  not_deep i = let depth = at_most _ _ i in let same = depth_over_is at_nodes fit in omega (arith, depth, same)
+
+  at : (deep : Bool) → nat_le (depth_over (drop (place_of n x) x.marks)) 400 ≡ deep → (least : Bool) → are_least T n x e ≡ least → (r : Result Shown CheckFault) → shown_over T n p x e ≡ r
+      → cond deep (cond least r (Err (faults.WrongCost p.entry p.node)) >>= (λ shown. Ok (new_stack n x e shown))) (Err (faults.TooDeep p.line)) ≡ Err f → NodeWrong T n ts names e ends p f
+  at true i true j (Ok shown) m k = cc
+  at true i true j (Err g) m k =
+      let least = costs_are_least T n e (drop (place_of n x) x.facts) n.costs fit.form (own_parts e n.level fit.own ends.parts) j in
+      let wrong = at_nodes.no_rules T n ends.own (drop (place_of n x) x.marks) (drop (place_of n x) x.facts) (drop (place_of n x) x.expressions) (drop (place_of n x) x.derivations) e (is_over fit least) names are p g m in
+      subst (NodeWrong T n ts names e ends p) (sym wrong.0 ∙ err_same k) (is_rule (not_deep i) least wrong.1)
+  at true i false j r m k =
+      subst (NodeWrong T n ts names e ends p) (err_same k)
+      (is_cost (not_deep i) (λ least. let is = least_are_costs T n e (drop (place_of n x) x.facts) n.costs fit.form (own_parts e n.level fit.own ends.parts) least in let bad : true ≡ false = sym is ∙ j in cc))
+  at false i least j r m k = let depth = not_at_most _ _ i in let same = depth_over_is at_nodes fit in subst (NodeWrong T n ts names e ends p) (err_same k) (is_deep (deep_so same depth)) where
+    deep_so : depth_over (drop (place_of n x) x.marks) ≡ nested e → ¬ (depth_over (drop (place_of n x) x.marks) ≤ 400) → 400 < nested e
+    deep_so same h = grind (arith, same, h)
+
+-- a line that shows rules that stand is taken, with just these
+shows_same : {rs : Rules} {xs ys : List Rule} → ShowsRules rs xs → ShowsRules rs ys → xs ≡ ys
+shows_same no_rule no_rule = refl
+shows_same (by_chain h) (by_chain k) = refl
+
+pub record NodeMade (T : Table) (n : NodeLine) (p : Place) (x : Stack) (trees : List Grown) : Type 0 where
+  pub stack : Stack
+  pub is : node_step T n p x ≡ Ok stack
+  pub stands : StackStands T trees stack
+
+pub node_made : RulesAtNodes → {T : Table} {e : Exp} {n : NodeLine} {ts : List Grown} {x : Stack} {ends : Ends e n.level ts} (p : Place) (names : List Name) (rules : List Rule) → NodeFits T n ts x e ends → AreNamed names n.rules → names ≡ map name rules → nested e ≤ 400 → AreLeast T e n.level n.costs
+    → StandsBy T e n.level rules (all_shown ends.own ++ node e n.level rules ∷ []) → NodeMade T n p x (ends.before ++ grown e n.level rules ends.own ∷ [])
+node_made at_nodes {T = T} {e = e} {n = n} {ts = ts} {x = x} {ends = ends} p names rules fit are names_are depth least stands =
+    let right = at_nodes.right_rules T n ends.own (drop (place_of n x) x.marks) (drop (place_of n x) x.facts) (drop (place_of n x) x.expressions) (drop (place_of n x) x.derivations) e (is_over fit least) names rules names_are are stands p in
+    let same = depth_over_is at_nodes fit in
+    let deep : nat_le (depth_over (drop (place_of n x) x.marks)) 400 ≡ true = at_most_true _ _ (omega (arith, same, depth)) in
+    let costs : are_least T n x e ≡ true = least_are_costs T n e (drop (place_of n x) x.facts) n.costs fit.form (own_parts e n.level fit.own ends.parts) least in
+    record {
+      stack = new_stack n x e right.1.0;
+      is = node_result p fit ∙ ap (λ b. decided T n p x e b (are_least T n x e)) deep ∙ ap (λ b. decided T n p x e true b) costs ∙ ap (λ r. r >>= (λ shown. Ok (new_stack n x e shown))) right.1.1;
+      stands = (stack_more at_nodes p rules right.1.0 fit least right.0 right.1.1).0;
+    }
