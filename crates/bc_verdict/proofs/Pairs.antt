@@ -1,1 +1,193 @@
--- x
+-- The rules of an operator, by what the lines of its two parts show.
+use Rattle.std.proofs.Common.{◌≡◌, ℕ, ◌+◌, ◌*◌, ◌≤◌, Bool, true, false, not, cond, Option, Some, None, List, [], ◌∷◌, ◌++◌, is_some, refl, ap, sym, subst, ◌∙◌, arith}
+use Rattle.bc_word.specs.declared.operator.Op.{Op}
+use Rattle.bc_word.specs.declared.operator.Op.TheVariants.{Add, Subtract, Equal, NotEqual, And, Or}
+use Rattle.bc_word.specs.Words.{negated}
+use Rattle.bc_word.specs.Mirror.{mirror_of}
+use Rattle.bc_core.specs.Tree.{Exp, Num, Bin}
+use Rattle.bc_core.specs.Operand.{operand_of, constant_of}
+use Rattle.bc_derive.specs.declared.rule.Table.{Table}
+use Rattle.bc_derive.specs.declared.rule.Table.TheVariants.{One, Two}
+use Rattle.bc_derive.specs.declared.rule.Mode.{Mode}
+use Rattle.bc_derive.specs.declared.rule.Mode.TheVariants.{Any, Push}
+use Rattle.bc_derive.specs.declared.rule.Aim.{Aim}
+use Rattle.bc_derive.specs.declared.rule.Aim.TheVariants.{Gets, Jumps}
+use Rattle.bc_derive.specs.declared.rule.Rule.{Rule}
+use Rattle.bc_derive.specs.declared.rule.Rule.TheVariants.{V1, V6, V7, V8, V9, V10, V11, V12, V13, V14, V15, V16, V17, V18, V19, J2, J3, J4, J5, J8, J9}
+use Rattle.bc_derive.specs.Free.{is_zero, are_free}
+use Rattle.bc_derive.specs.Piece.{w, operand_words}
+use Rattle.bc_derive.specs.Rules.{Derives, v6, v7, v8, v9, v10, v11, v12, v13, v14, v15, v16, v17, v18, v19, j2, j3, j4, j5, j8, j9}
+use Rattle.bc_least.specs.Choices.{zero_number, has_tests_of_zero}
+use Rattle.bc_least.specs.Lower.{is_zero_is}
+use Rattle.bc_recipe.specs.declared.facts.Facts.{Facts}
+use Rattle.bc_recipe.specs.declared.recipe.Takes.TheVariants.{First, Second, InOrder, Turned}
+use Rattle.bc_recipe.specs.declared.recipe.Recipe.{Recipe}
+use Rattle.bc_recipe.specs.Recipe.{recipe, value_of_two, test_of_two, without_zero, less_number, beside_zero, facts_of, only_at, where_so, adding}
+use Rattle.bc_recipe.specs.Node.{Node}
+use Rattle.bc_stack.specs.Showing.{makes}
+use Rattle.bc_entries.specs.Shown.{Shown, shown, bare}
+use Rattle.bc_verdict.specs.Standing.{Begins}
+use Rattle.bc_core.specs.Value.{has_call}
+use Rattle.bc_verdict.proofs.TwoParts.{TwoTrees, over, Beside, Makes, never, made_so, made_at, made_with, both_taken, both_turned, left_taken, right_taken, beside_taken}
+
+number_is : (e : Exp) (n : ℕ) → constant_of e ≡ Some n → e ≡ Num n
+number_is (Num m) n h = let i : m ≡ n = cc in ap Num i
+number_is e n h = absurd cc
+
+record IsMirrored (o : Option Op) : Type 0 where
+  mirror : Op
+  is : o ≡ Some mirror
+
+mirrored : (o : Option Op) → is_some o ≡ true → IsMirrored o
+mirrored None h = never h
+mirrored (Some q) h = record { mirror = q; is = refl }
+
+second_table : (T : Table) → has_tests_of_zero T ≡ true → T ≡ Two
+second_table One h = never h
+second_table Two h = refl
+
+module _ (T : Table) (a b : Exp) (s : ℕ) (l k : List Shown) (two : TwoTrees T a b s l k) where
+  abbrev f : Facts
+  f = facts_of a (has_call a) two.left_costs
+
+  abbrev g : Facts
+  g = facts_of b (has_call b) two.right_costs
+
+  abbrev BeginsWith : Op → Aim → Rule → ℕ → Type 0
+  BeginsWith op aim r words = Begins T (Bin op a b) aim s r words (l ++ k)
+
+  -- at another operator
+  at_op : (op wanted : Op) (aim : Aim) (r : Rule) (words : ℕ) → op ≡ wanted → BeginsWith wanted aim r words → BeginsWith op aim r words
+  at_op op wanted aim r words e h = let P : Op → Type 0 = λ o. BeginsWith o aim r words in subst P (sym e) h
+
+  -- a part beside a 0, by the constants
+  zeros : (z u : Bool) (p : Aim) (j words : ℕ) → z ≡ is_zero b → Beside T a b s (l ++ k) z u p j words → Beside T a b s (l ++ k) (is_zero b) u p j words
+  zeros z u p j words e h = subst (λ z. Beside T a b s (l ++ k) z u p j words) e h
+
+  beside_to : (op : Op) (p : Aim) (j words : ℕ) → Makes T a b s l k two op words (beside_zero f g p j) → Beside T a b s (l ++ k) (is_zero b) (is_zero a) p j words
+  beside_to op p j words h =
+      let o = beside_taken T a b s l k two op words (zero_number (constant_of b)) (zero_number (constant_of a)) p j h in
+      subst (λ u. Beside T a b s (l ++ k) (is_zero b) u p j words) (is_zero_is a) (zeros _ _ p j words (is_zero_is b) o)
+
+  so_is : (z : Bool) (r : Option Recipe) → where_so z r ≡ cond z r None
+  so_is true r = refl
+  so_is false r = refl
+
+  left_to : (op : Op) (p : Aim) (j words : ℕ) → Makes T a b s l k two op words (where_so (zero_number (constant_of b)) (recipe (First p) j)) → Beside T a b s (l ++ k) (is_zero b) false p j words
+  left_to op p j words h =
+      zeros _ false p j words (is_zero_is b)
+      (beside_taken T a b s l k two op words (zero_number (constant_of b)) false p j (subst (Makes T a b s l k two op words) (so_is (zero_number (constant_of b)) (recipe (First p) j)) h))
+
+  zero_to : (op : Op) (m : Mode) (words : ℕ) → Makes T a b s l k two op words (without_zero op f g (Gets m)) → BeginsWith op (Gets m) V8 words
+  zero_to Add m words h = let q = beside_to Add (Gets m) 0 words h in record { derivation = v8 q.is q.derivation; first = refl; counted = omega (arith, q.counted); parts = q.parts }
+  zero_to Subtract m words h = let q = left_to Subtract (Gets m) 0 words h in record { derivation = v8 q.is q.derivation; first = refl; counted = omega (arith, q.counted); parts = q.parts }
+  zero_to op m words h = never h
+
+  -- a number is taken off
+  number_to : (o : Option ℕ) (m : Mode) (words : ℕ) → constant_of b ≡ o → Makes T a b s l k two Subtract words (less_number o (Gets m)) → BeginsWith Subtract (Gets m) V9 words
+  number_to None m words e h = never h
+  number_to (Some n) m words e h =
+      let is = number_is b n e in
+      let q = left_taken T a b s l k two Subtract words _ _ h in
+      let P : Exp → Type 0 = λ c. Begins T (Bin Subtract a c) (Gets m) s V9 words (l ++ k) in
+      subst P (sym is) (record { derivation = v9 {n = n} q.left; first = refl; counted = q.counted; parts = ap (λ c. shown q.left (s + 1) ++ bare c (s + 1)) (sym is) ∙ q.parts })
+
+  value_to : (op : Op) (r : Rule) (m : Mode) (words : ℕ) → Makes T a b s l k two op words (value_of_two r m op s f g) → BeginsWith op (Gets m) r words
+  value_to op V6 m words h =
+      let o = made_at T a b s l k two op words Add _ h in
+      let p = made_with T a b s l k two op words (operand_of b) _ _ o.1 in
+      let q = left_taken T a b s l k two op words _ _ p.made in
+      at_op op Add (Gets m) V6 words o.0 (record { derivation = v6 p.is q.left; first = refl; counted = omega (arith, q.counted); parts = q.parts })
+  value_to op V7 m words h =
+      let o = made_at T a b s l k two op words Add _ h in
+      let free = made_so T a b s l k two op words _ _ o.1 in
+      let p = made_with T a b s l k two op words (operand_of a) _ _ free.1 in
+      let q = right_taken T a b s l k two op words _ _ p.made in
+      at_op op Add (Gets m) V7 words o.0 (record { derivation = v7 p.is free.0 q.right; first = refl; counted = omega (arith, q.counted); parts = q.parts })
+  value_to op V8 m words h = zero_to op m words h
+  value_to op V9 m words h =
+      let o = made_at T a b s l k two op words Subtract _ h in
+      let e : Makes T a b s l k two Subtract words (less_number (constant_of b) (Gets m)) = o.1 in
+      at_op op Subtract (Gets m) V9 words o.0 (number_to (constant_of b) m words refl e)
+  value_to op V10 m words h =
+      let o = made_at T a b s l k two op words Subtract _ h in
+      let p = made_with T a b s l k two op words (operand_of b) _ _ o.1 in
+      let q = left_taken T a b s l k two op words _ _ p.made in
+      at_op op Subtract (Gets m) V10 words o.0 (record { derivation = v10 p.is q.left; first = refl; counted = omega (arith, q.counted); parts = q.parts })
+  value_to op V11 m words h =
+      let o = made_at T a b s l k two op words Subtract _ h in
+      let free = made_so T a b s l k two op words _ _ o.1 in
+      let p = made_with T a b s l k two op words (operand_of a) _ _ free.1 in
+      let q = right_taken T a b s l k two op words _ _ p.made in
+      at_op op Subtract (Gets m) V11 words o.0 (record { derivation = v11 p.is free.0 q.right; first = refl; counted = omega (arith, q.counted); parts = q.parts })
+  value_to op V12 Any words h = let q = both_taken T a b s l k two op words _ _ _ h in record { derivation = v12 q.left q.right; first = refl; counted = q.counted; parts = q.parts }
+  value_to op V13 Any words h =
+      let o = made_so T a b s l k two op words _ _ h in
+      let free = made_so T a b s l k two op words _ _ o.1 in
+      let q = both_turned T a b s l k two op words _ _ _ free.1 in
+      let mirror = mirrored (mirror_of op) o.0 in
+      record { derivation = v13 mirror.is free.0 q.right q.left; first = refl; counted = omega (arith, q.counted); parts = q.parts }
+  value_to op V14 Any words h =
+      let o = made_at T a b s l k two op words Subtract _ h in
+      let free = made_so T a b s l k two op words _ _ o.1 in
+      let q = both_turned T a b s l k two op words _ _ _ free.1 in
+      at_op op Subtract (Gets Any) V14 words o.0 (record { derivation = v14 free.0 q.right q.left; first = refl; counted = omega (arith, q.counted); parts = q.parts })
+  value_to op V15 Any words h =
+      let o = made_so T a b s l k two op words _ _ h in
+      let q = both_taken T a b s l k two op words _ _ _ o.1 in
+      let mirror = mirrored (mirror_of op) o.0 in
+      record { derivation = v15 mirror.is q.left q.right; first = refl; counted = q.counted; parts = q.parts }
+  value_to op V16 Any words h =
+      let free = made_so T a b s l k two op words _ _ h in
+      let q = both_turned T a b s l k two op words _ _ _ free.1 in
+      record { derivation = v16 free.0 q.right q.left; first = refl; counted = omega (arith, q.counted); parts = q.parts }
+  value_to op V17 Any words h = let q = both_taken T a b s l k two op words _ _ _ h in record { derivation = v17 q.left q.right; first = refl; counted = q.counted; parts = q.parts }
+  value_to op V18 Any words h =
+      let o = made_at T a b s l k two op words Add _ h in
+      let q = both_taken T a b s l k two op words _ _ _ o.1 in
+      at_op op Add (Gets Any) V18 words o.0 (record { derivation = v18 q.left q.right; first = refl; counted = q.counted; parts = q.parts })
+  value_to op V19 Any words h =
+      let o = made_at T a b s l k two op words Subtract _ h in
+      let q = both_taken T a b s l k two op words _ _ _ o.1 in
+      at_op op Subtract (Gets Any) V19 words o.0 (record { derivation = v19 q.left q.right; first = refl; counted = q.counted; parts = q.parts })
+  value_to op r Any words h = never h
+  value_to op r Push words h = never h
+
+  test_to : (op : Op) (r : Rule) (sense : Bool) (words : ℕ) → Makes T a b s l k two op words (test_of_two r T sense op f g) → BeginsWith op (Jumps sense) r words
+  test_to op J2 false words h =
+      let o = made_at T a b s l k two op words And _ h in
+      let q = both_taken T a b s l k two op words _ _ _ o.1 in
+      at_op op And (Jumps false) J2 words o.0 (record { derivation = j2 q.left q.right; first = refl; counted = omega (arith, q.counted); parts = q.parts })
+  test_to op J2 true words h = never (made_at T a b s l k two op words And _ h).1
+  test_to op J3 true words h =
+      let o = made_at T a b s l k two op words And _ h in
+      let q = both_taken T a b s l k two op words _ _ _ o.1 in
+      at_op op And (Jumps true) J3 words o.0 (record { derivation = j3 q.left q.right; first = refl; counted = omega (arith, q.counted); parts = q.parts })
+  test_to op J3 false words h = never (made_at T a b s l k two op words And _ h).1
+  test_to op J4 true words h =
+      let o = made_at T a b s l k two op words Or _ h in
+      let q = both_taken T a b s l k two op words _ _ _ o.1 in
+      at_op op Or (Jumps true) J4 words o.0 (record { derivation = j4 q.left q.right; first = refl; counted = omega (arith, q.counted); parts = q.parts })
+  test_to op J4 false words h = never (made_at T a b s l k two op words Or _ h).1
+  test_to op J5 false words h =
+      let o = made_at T a b s l k two op words Or _ h in
+      let q = both_taken T a b s l k two op words _ _ _ o.1 in
+      at_op op Or (Jumps false) J5 words o.0 (record { derivation = j5 q.left q.right; first = refl; counted = omega (arith, q.counted); parts = q.parts })
+  test_to op J5 true words h = never (made_at T a b s l k two op words Or _ h).1
+  test_to op J8 sense words h =
+      let o = made_at T a b s l k two op words Equal _ h in
+      let p = made_so T a b s l k two op words _ _ o.1 in
+      let q = beside_to op (Gets Any) 2 words p.1 in
+      at_op op Equal (Jumps sense) J8 words o.0 (record { derivation = j8 (second_table T p.0) q.is q.derivation; first = refl; counted = q.counted; parts = q.parts })
+  test_to op J9 sense words h =
+      let o = made_at T a b s l k two op words NotEqual _ h in
+      let p = made_so T a b s l k two op words _ _ o.1 in
+      let q = beside_to op (Gets Any) 2 words p.1 in
+      at_op op NotEqual (Jumps sense) J9 words o.0 (record { derivation = j9 (second_table T p.0) q.is q.derivation; first = refl; counted = q.counted; parts = q.parts })
+  test_to op r sense words h = never h
+
+  -- the rule that the checker finds
+  rule_to : (op : Op) (r : Rule) (aim : Aim) (words : ℕ) → ¬ (r ≡ V1) → makes (over T a b s l k two op) (two.left_mark ∷ two.right_mark ∷ []) r aim (Some words) ≡ true → BeginsWith op aim r words
+  rule_to op V1 aim words other h = absurd (other refl)
+  rule_to op r (Gets m) words other h = value_to op r m words h
+  rule_to op r (Jumps sense) words other h = test_to op r sense words h
