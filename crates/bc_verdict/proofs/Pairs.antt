@@ -13,7 +13,7 @@ use Rattle.bc_derive.specs.declared.rule.Mode.TheVariants.{Any, Push}
 use Rattle.bc_derive.specs.declared.rule.Aim.{Aim}
 use Rattle.bc_derive.specs.declared.rule.Aim.TheVariants.{Gets, Jumps}
 use Rattle.bc_derive.specs.declared.rule.Rule.{Rule}
-use Rattle.bc_derive.specs.declared.rule.Rule.TheVariants.{V0, V1, J6, V6, V7, V8, V9, V10, V11, V12, V13, V14, V15, V16, V17, V18, V19, J2, J3, J4, J5, J8, J9}
+use Rattle.bc_derive.specs.declared.rule.Rule.TheVariants.{V1, V6, V7, V8, V9, V10, V11, V12, V13, V14, V15, V16, V17, V18, V19, J2, J3, J4, J5, J8, J9}
 use Rattle.bc_derive.specs.Free.{is_zero, beside_zero as beside_zero_of, without_zero as without_zero_of}
 use Rattle.bc_derive.specs.Piece.{w, operand_words}
 use Rattle.bc_derive.specs.Rules.{Derives, Tree, v6, v7, v8, v9, v10, v11, v12, v13, v14, v15, v16, v17, v18, v19, v0, v1, j6, by, one, two as pair_of, shape, j2, j3, j4, j5, j8, j9}
@@ -22,13 +22,17 @@ use Rattle.bc_least.specs.Least.{first_rule}
 use Rattle.bc_least.specs.Choices.{zero_number, has_tests_of_zero}
 use Rattle.bc_least.specs.Lower.{is_zero_is}
 use Rattle.bc_recipe.specs.declared.facts.Facts.{Facts}
+use Rattle.bc_recipe.specs.declared.form.Form.TheVariants as forms
 use Rattle.bc_recipe.specs.declared.recipe.Takes.TheVariants.{First, Second, InOrder, Turned}
 use Rattle.bc_recipe.specs.declared.recipe.Recipe.{Recipe}
-use Rattle.bc_recipe.specs.Recipe.{recipe, value_of_two, test_of_two, without_zero, less_number, beside_zero, facts_of, only_at, where_so, adding}
+use Rattle.bc_recipe.specs.Recipe.{recipe, value_of_two, test_of_two, without_zero, less_number, beside_zero, facts_of, only_at, where_so, adding, words_of_operand_of}
 use Rattle.bc_recipe.specs.Node.{Node}
+use Rattle.bc_recipe.specs.Parts.{IsPart}
+use Rattle.bc_stack.specs.declared.mark.Mark.{Mark}
 use Rattle.bc_stack.specs.Showing.{makes}
-use Rattle.bc_entries.specs.Shown.{Shown, shown, below, bare}
-use Rattle.bc_verdict.specs.Standing.{Begins, begun, IsFewest}
+use Rattle.bc_entries.specs.Shown.{Shown, rules_of_value, rules_at, shown, below, bare}
+use Rattle.bc_verdict.specs.Standing.{IsFewest, Stands, Begins, begun}
+use Rattle.bc_verdict.proofs.Taking.{tree, is_tree}
 use Rattle.bc_core.specs.Value.{has_call}
 use Rattle.bc_verdict.proofs.TwoParts.{TwoTrees, beside, tree_beside, over, Beside, Makes, never, made_so, made_at, made_with, with_made, so_made, parts_known, both_found, left_found, right_found, beside_found, both_taken, both_turned, left_taken, right_taken, beside_taken}
 
@@ -223,68 +227,97 @@ Finds {T = T} {op = op} {a = a} {b = b} {aim = aim} s l k two d =
 same_two : (r : Rule) (t u x y : Tree) → t ≡ x → u ≡ y → by r (pair_of t u) ≡ by r (pair_of x y)
 same_two r t u x y h i = ap (λ z. by r (pair_of z u)) h ∙ ap (λ z. by r (pair_of x z)) i
 
+no_rules : {T : Table} {e : Exp} {aim : Aim} (d : Derives T e aim) → ¬ (rules_of_value d ≡ [])
+no_rules (v0 d) h = cc
+no_rules d h = cc
+
 rule_from : {T : Table} {op : Op} {a b : Exp} {aim : Aim} (d : Derives T (Bin op a b) aim) (s : ℕ) (l k : List Shown) (two : TwoTrees T a b s l k)
-    → ¬ (first_rule d ≡ V0) → ¬ (first_rule d ≡ V1) → ¬ (first_rule d ≡ J6) → below d s ≡ l ++ k → IsFewest d s → Finds s l k two d
-rule_from (v0 d) s l k two x y z h low = absurd (x refl)
-rule_from (v1 e) s l k two x y z h low = absurd (y refl)
-rule_from (j6 e d) s l k two x y z h low = absurd (z refl)
-rule_from {T = T} (v6 {a = a} {b = b} {m = m} {o = o} e d) s l k two x y z h low =
+    → rules_at d ≡ first_rule d ∷ [] → ¬ (first_rule d ≡ V1) → below d s ≡ l ++ k → IsFewest d s → Finds s l k two d
+rule_from (v0 d) s l k two alone other h low = absurd cc
+rule_from (v1 e) s l k two alone other h low = absurd (other refl)
+rule_from (j6 e d) s l k two alone other h low = let none : rules_of_value d ≡ [] = cc in absurd (no_rules d none)
+rule_from {T = T} (v6 {a = a} {b = b} {m = m} {o = o} e d) s l k two alone other h low =
     let q = left_found T a b s l k two Add _ (Gets m) (operand_words o + 0) d h (λ c. omega (arith, low (v6 e c))) (omega arith) in
     (with_made T a b s l k two Add _ (operand_of b) o (First (Gets m)) 0 e q.0, ap (λ t. by V6 (one t)) q.1)
-rule_from {T = T} (v7 {a = a} {b = b} {m = m} {o = o} e free d) s l k two x y z h low =
+rule_from {T = T} (v7 {a = a} {b = b} {m = m} {o = o} e free d) s l k two alone other h low =
     let q = right_found T a b s l k two Add _ (Gets m) (operand_words o + 0) d h (λ c. omega (arith, low (v7 e free c))) (omega arith) in
     (so_made T a b s l k two Add _ _ _ free (with_made T a b s l k two Add _ (operand_of a) o (Second (Gets m)) 0 e q.0), ap (λ t. by V7 (one t)) q.1)
-rule_from {T = T} (v8 {op = op} {a = a} {b = b} {c = c} {m = m} e d) s l k two x y z h low =
+rule_from {T = T} (v8 {op = op} {a = a} {b = b} {c = c} {m = m} e d) s l k two alone other h low =
     let q = zero_from T a b s l k two op m _ c e d h (λ i. low (v8 e i)) (omega arith) in
     (q.0, ap (λ ts. by V8 ts) q.1)
-rule_from {T = T} (v9 {a = a} {n = n} {m = m} d) s l k two x y z h low =
+rule_from {T = T} (v9 {a = a} {n = n} {m = m} d) s l k two alone other h low =
     let q = left_found T a (Num n) s l k two Subtract _ (Gets m) (w (negated n)) d h (λ c. omega (arith, low (v9 c))) refl in
     (q.0, ap (λ t. by V9 (one t)) q.1)
-rule_from {T = T} (v10 {a = a} {b = b} {m = m} {o = o} e d) s l k two x y z h low =
+rule_from {T = T} (v10 {a = a} {b = b} {m = m} {o = o} e d) s l k two alone other h low =
     let q = left_found T a b s l k two Subtract _ (Gets m) (operand_words o + 2) d h (λ c. omega (arith, low (v10 e c))) (omega arith) in
     (with_made T a b s l k two Subtract _ (operand_of b) o (First (Gets m)) 2 e q.0, ap (λ t. by V10 (one t)) q.1)
-rule_from {T = T} (v11 {a = a} {b = b} {m = m} {o = o} e free d) s l k two x y z h low =
+rule_from {T = T} (v11 {a = a} {b = b} {m = m} {o = o} e free d) s l k two alone other h low =
     let q = right_found T a b s l k two Subtract _ (Gets m) (operand_words o + 1) d h (λ c. omega (arith, low (v11 e free c))) (omega arith) in
     (so_made T a b s l k two Subtract _ _ _ free (with_made T a b s l k two Subtract _ (operand_of a) o (Second (Gets m)) 1 e q.0), ap (λ t. by V11 (one t)) q.1)
-rule_from {T = T} (v12 {op = op} {a = a} {b = b} d e) s l k two x y z h low =
+rule_from {T = T} (v12 {op = op} {a = a} {b = b} d e) s l k two alone other h low =
     let q = both_found T a b s l k two op _ (Gets Any) (Gets Push) 1 d e h (λ c. omega (arith, low (v12 c e))) (λ c. omega (arith, low (v12 d c))) refl in
     (q.0, same_two V12 _ _ _ _ q.1 q.2)
-rule_from {T = T} (v13 {op = op} {a = a} {b = b} i free e d) s l k two x y z h low =
+rule_from {T = T} (v13 {op = op} {a = a} {b = b} i free e d) s l k two alone other h low =
     let q = both_found T a b s l k two op _ (Gets Push) (Gets Any) 1 d e h (λ c. omega (arith, low (v13 i free e c))) (λ c. omega (arith, low (v13 i free c d))) (omega arith) in
     (so_made T a b s l k two op _ _ _ (ap is_some i) (so_made T a b s l k two op _ _ _ free q.0), same_two V13 _ _ _ _ q.2 q.1)
-rule_from {T = T} (v14 {a = a} {b = b} free e d) s l k two x y z h low =
+rule_from {T = T} (v14 {a = a} {b = b} free e d) s l k two alone other h low =
     let q = both_found T a b s l k two Subtract _ (Gets Push) (Gets Any) 2 d e h (λ c. omega (arith, low (v14 free e c))) (λ c. omega (arith, low (v14 free c d))) (omega arith) in
     (so_made T a b s l k two Subtract _ _ _ free q.0, same_two V14 _ _ _ _ q.2 q.1)
-rule_from {T = T} (v15 {op = op} {a = a} {b = b} i d e) s l k two x y z h low =
+rule_from {T = T} (v15 {op = op} {a = a} {b = b} i d e) s l k two alone other h low =
     let q = both_found T a b s l k two op _ (Gets Any) (Gets Any) (1 + 2 * w s) d e h (λ c. omega (arith, low (v15 i c e))) (λ c. omega (arith, low (v15 i d c))) refl in
     (so_made T a b s l k two op _ _ _ (ap is_some i) q.0, same_two V15 _ _ _ _ q.1 q.2)
-rule_from {T = T} (v16 {op = op} {a = a} {b = b} free e d) s l k two x y z h low =
+rule_from {T = T} (v16 {op = op} {a = a} {b = b} free e d) s l k two alone other h low =
     let q = both_found T a b s l k two op _ (Gets Any) (Gets Any) (1 + 2 * w s) d e h (λ c. omega (arith, low (v16 free e c))) (λ c. omega (arith, low (v16 free c d))) (omega arith) in
     (so_made T a b s l k two op _ _ _ free q.0, same_two V16 _ _ _ _ q.2 q.1)
-rule_from {T = T} (v17 {op = op} {a = a} {b = b} d e) s l k two x y z h low =
+rule_from {T = T} (v17 {op = op} {a = a} {b = b} d e) s l k two alone other h low =
     let q = both_found T a b s l k two op _ (Gets Any) (Gets Any) (1 + 2 * w s + 2 * w (s + 1)) d e h (λ c. omega (arith, low (v17 c e))) (λ c. omega (arith, low (v17 d c))) refl in
     (q.0, same_two V17 _ _ _ _ q.1 q.2)
-rule_from {T = T} (v18 {a = a} {b = b} d e) s l k two x y z h low =
+rule_from {T = T} (v18 {a = a} {b = b} d e) s l k two alone other h low =
     let q = both_found T a b s l k two Add _ (Gets Any) (Gets Any) (2 * w s) d e h (λ c. omega (arith, low (v18 c e))) (λ c. omega (arith, low (v18 d c))) refl in
     (q.0, same_two V18 _ _ _ _ q.1 q.2)
-rule_from {T = T} (v19 {a = a} {b = b} d e) s l k two x y z h low =
+rule_from {T = T} (v19 {a = a} {b = b} d e) s l k two alone other h low =
     let q = both_found T a b s l k two Subtract _ (Gets Any) (Gets Any) (1 + 2 * w s) d e h (λ c. omega (arith, low (v19 c e))) (λ c. omega (arith, low (v19 d c))) refl in
     (q.0, same_two V19 _ _ _ _ q.1 q.2)
-rule_from {T = T} (j2 {a = a} {b = b} d e) s l k two x y z h low =
+rule_from {T = T} (j2 {a = a} {b = b} d e) s l k two alone other h low =
     let q = both_found T a b s l k two And _ (Jumps false) (Jumps false) 0 d e h (λ c. omega (arith, low (j2 c e))) (λ c. omega (arith, low (j2 d c))) (omega arith) in
     (q.0, same_two J2 _ _ _ _ q.1 q.2)
-rule_from {T = T} (j3 {a = a} {b = b} d e) s l k two x y z h low =
+rule_from {T = T} (j3 {a = a} {b = b} d e) s l k two alone other h low =
     let q = both_found T a b s l k two And _ (Jumps false) (Jumps true) 0 d e h (λ c. omega (arith, low (j3 c e))) (λ c. omega (arith, low (j3 d c))) (omega arith) in
     (q.0, same_two J3 _ _ _ _ q.1 q.2)
-rule_from {T = T} (j4 {a = a} {b = b} d e) s l k two x y z h low =
+rule_from {T = T} (j4 {a = a} {b = b} d e) s l k two alone other h low =
     let q = both_found T a b s l k two Or _ (Jumps true) (Jumps true) 0 d e h (λ c. omega (arith, low (j4 c e))) (λ c. omega (arith, low (j4 d c))) (omega arith) in
     (q.0, same_two J4 _ _ _ _ q.1 q.2)
-rule_from {T = T} (j5 {a = a} {b = b} d e) s l k two x y z h low =
+rule_from {T = T} (j5 {a = a} {b = b} d e) s l k two alone other h low =
     let q = both_found T a b s l k two Or _ (Jumps true) (Jumps false) 0 d e h (λ c. omega (arith, low (j5 c e))) (λ c. omega (arith, low (j5 d c))) (omega arith) in
     (q.0, same_two J5 _ _ _ _ q.1 q.2)
-rule_from {T = T} (j8 {a = a} {b = b} {c = c} {sense = sense} t e d) s l k two x y z h low =
+rule_from {T = T} (j8 {a = a} {b = b} {c = c} {sense = sense} t e d) s l k two alone other h low =
     let q = beside_from T a b s l k two Equal (Gets Any) 2 _ c e d h (λ i. omega (arith, low (j8 t e i))) refl in
     (so_made T a b s l k two Equal _ _ _ (ap has_tests_of_zero t) q.0, ap (λ ts. by J8 ts) q.1)
-rule_from {T = T} (j9 {a = a} {b = b} {c = c} {sense = sense} t e d) s l k two x y z h low =
+rule_from {T = T} (j9 {a = a} {b = b} {c = c} {sense = sense} t e d) s l k two alone other h low =
     let q = beside_from T a b s l k two NotEqual (Gets Any) 2 _ c e d h (λ i. omega (arith, low (j9 t e i))) refl in
     (so_made T a b s l k two NotEqual _ _ _ (ap has_tests_of_zero t) q.0, ap (λ ts. by J9 ts) q.1)
+
+-- the two results, of parts that stand; V1 is a rule of any operand, and before V0 and J6 stands a rule of their own
+both_known : (T : Table) (a b : Exp) (s : ℕ) (p q : Facts) → IsPart T a (s + 1) p → IsPart T b (s + 1) q → facts_of a (has_call a) p.costs ∷ facts_of b (has_call b) q.costs ∷ [] ≡ p ∷ q ∷ []
+both_known T a b s p q h i = ap (λ f. f ∷ facts_of b (has_call b) q.costs ∷ []) (sym h.facts) ∙ ap (λ g. p ∷ g ∷ []) (sym i.facts)
+
+abbrev two_trees : {T : Table} {a b c e : Exp} {s : ℕ} {l k : List Shown} {m n : Mark} {p q : Facts} {x y : Tree} → Stands T (tree a (s + 1) l) m p c x → Stands T (tree b (s + 1) k) n q e y → TwoTrees T a b s l k
+two_trees {m = m} {n = n} {p = p} {q = q} {x = x} {y = y} h i = record { left_mark = m; right_mark = n; left_costs = p.costs; right_costs = q.costs; left_tree = x; right_tree = y; left = is_tree h; right = is_tree i }
+
+abbrev pub pair_node : Table → Op → Exp → Exp → ℕ → List Facts → Node
+pair_node T op a b s ps = record { table = T; level = s; form = forms.Bin op; operand = words_of_operand_of (Bin op a b); parts = ps }
+
+-- a rule that the checker finds begins a derivation
+pub pair_to : {T : Table} {op : Op} {a b c e : Exp} {s : ℕ} {l k : List Shown} {m n : Mark} {p q : Facts} {x y : Tree} → Stands T (tree a (s + 1) l) m p c x → Stands T (tree b (s + 1) k) n q e y
+    → (r : Rule) (aim : Aim) (words : ℕ) → ¬ (r ≡ V1) → makes (pair_node T op a b s (p ∷ q ∷ [])) (m ∷ n ∷ []) r aim (Some words) ≡ true → Begins T (Bin op a b) aim s r words (l ++ k)
+pair_to {T = T} {op = op} {a = a} {b = b} {s = s} {l = l} {k = k} {m = m} {n = n} {p = p} {q = q} h i r aim words other g =
+    let P : List Facts → Type 0 = λ ps. makes (pair_node T op a b s ps) (m ∷ n ∷ []) r aim (Some words) ≡ true in
+    rule_to T a b s l k (two_trees h i) op r aim words other (subst P (sym (both_known T a b s p q h.part i.part)) g)
+
+-- and of a derivation of least words that shows the lines of the parts the checker finds the rule
+pub pair_from : {T : Table} {op : Op} {a b c e : Exp} {s : ℕ} {l k : List Shown} {m n : Mark} {p q : Facts} {x y : Tree} {aim : Aim} → Stands T (tree a (s + 1) l) m p c x → Stands T (tree b (s + 1) k) n q e y
+    → (d : Derives T (Bin op a b) aim) → rules_at d ≡ first_rule d ∷ [] → ¬ (first_rule d ≡ V1) → below d s ≡ l ++ k → IsFewest d s
+    → (makes (pair_node T op a b s (p ∷ q ∷ [])) (m ∷ n ∷ []) (first_rule d) aim (Some (cost d s)) ≡ true) × (shape d ≡ begun (first_rule d) (p ∷ q ∷ []) (x ∷ y ∷ []))
+pair_from {T = T} {op = op} {a = a} {b = b} {s = s} {l = l} {k = k} {m = m} {n = n} {p = p} {q = q} {x = x} {y = y} {aim = aim} h i d alone other g low =
+    let P : List Facts → Type 0 = λ ps. (makes (pair_node T op a b s ps) (m ∷ n ∷ []) (first_rule d) aim (Some (cost d s)) ≡ true) × (shape d ≡ begun (first_rule d) ps (x ∷ y ∷ [])) in
+    subst P (both_known T a b s p q h.part i.part) (rule_from d s l k (two_trees h i) alone other g low)
