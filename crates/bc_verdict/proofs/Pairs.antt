@@ -1,5 +1,5 @@
 -- The rules of an operator, by what the lines of its two parts show.
-use Rattle.std.proofs.Common.{◌≡◌, ℕ, ◌+◌, ◌*◌, ◌≤◌, Bool, true, false, not, cond, Option, Some, None, List, [], ◌∷◌, ◌++◌, is_some, refl, ap, sym, subst, ◌∙◌, arith}
+use Rattle.std.proofs.Common.{◌≡◌, ℕ, ◌+◌, ◌*◌, Bool, true, false, cond, Option, Some, None, List, [], ◌∷◌, ◌++◌, is_some, refl, ap, sym, subst, ◌∙◌, arith}
 use Rattle.bc_word.specs.declared.operator.Op.{Op}
 use Rattle.bc_word.specs.declared.operator.Op.TheVariants.{Add, Subtract, Equal, NotEqual, And, Or}
 use Rattle.bc_word.specs.Words.{negated}
@@ -23,9 +23,9 @@ use Rattle.bc_least.specs.Choices.{zero_number, has_tests_of_zero}
 use Rattle.bc_least.specs.Lower.{is_zero_is}
 use Rattle.bc_recipe.specs.declared.facts.Facts.{Facts}
 use Rattle.bc_recipe.specs.declared.form.Form.TheVariants as forms
-use Rattle.bc_recipe.specs.declared.recipe.Takes.TheVariants.{First, Second, InOrder, Turned}
+use Rattle.bc_recipe.specs.declared.recipe.Takes.TheVariants.{First, Second}
 use Rattle.bc_recipe.specs.declared.recipe.Recipe.{Recipe}
-use Rattle.bc_recipe.specs.Recipe.{recipe, value_of_two, test_of_two, without_zero, less_number, beside_zero, facts_of, only_at, where_so, adding, words_of_operand_of}
+use Rattle.bc_recipe.specs.Recipe.{recipe, value_of_two, test_of_two, without_zero, less_number, beside_zero, facts_of, where_so, words_of_operand_of}
 use Rattle.bc_recipe.specs.Node.{Node}
 use Rattle.bc_recipe.specs.Parts.{IsPart}
 use Rattle.bc_stack.specs.declared.mark.Mark.{Mark}

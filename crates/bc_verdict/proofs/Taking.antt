@@ -1,7 +1,6 @@
 -- What a part gives a rule that takes it, and what it has of a derivation that shows its lines.
-use Rattle.std.proofs.Common.{◌≡◌, ℕ, zero, suc, ◌+◌, ◌≤◌, Bool, true, false, Option, Some, None, List, [], ◌∷◌, ◌++◌, map, length, refl, ap, sym, subst, ◌∙◌, arith, length-append}
+use Rattle.std.proofs.Common.{◌≡◌, ℕ, suc, ◌+◌, true, Option, Some, None, List, [], ◌∷◌, ◌++◌, map, length, refl, ap, sym, subst, ◌∙◌, arith, length-append}
 use Rattle.bc_core.specs.Tree.{Exp, Value, Test}
-use Rattle.bc_core.specs.Value.{has_call}
 use Rattle.bc_derive.specs.declared.rule.Table.{Table}
 use Rattle.bc_derive.specs.declared.rule.Mode.TheVariants.{Any, Push}
 use Rattle.bc_derive.specs.declared.rule.Aim.{Aim}
@@ -14,14 +13,13 @@ use Rattle.bc_least.proofs.Words.{choices_are_least}
 use Rattle.bc_recipe.specs.declared.costs.Costs.{Costs}
 use Rattle.bc_recipe.specs.declared.facts.Facts.{Facts}
 use Rattle.bc_recipe.specs.Costs.{cost_of}
-use Rattle.bc_recipe.specs.Recipe.{facts_of}
 use Rattle.bc_recipe.specs.Parts.{AreLeast}
 use Rattle.bc_stack.specs.declared.mark.Mark.{Mark}
 use Rattle.bc_stack.specs.Marks.{has_aim}
 use Rattle.bc_entries.specs.Shown.{Shown, shown, below, bare}
 use Rattle.bc_entries.proofs.Texts.{nodes_in_order}
-use Rattle.bc_verdict.specs.Faults.{Grown, node}
-use Rattle.bc_verdict.specs.Standing.{IsFewest, Shows, Stands}
+use Rattle.bc_verdict.specs.Faults.{Grown}
+use Rattle.bc_verdict.specs.Standing.{IsFewest, Stands}
 
 -- the nodes of a derivation, in order
 abbrev place : Shown → Exp × ℕ

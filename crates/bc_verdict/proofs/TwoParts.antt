@@ -1,5 +1,5 @@
 -- What a rule of an operator takes of its two parts, and what a derivation that shows their lines has.
-use Rattle.std.proofs.Common.{◌≡◌, ℕ, ◌+◌, ◌≤◌, ◌==◌, ◌&&◌, Bool, true, false, cond, Option, Some, None, List, [], ◌∷◌, ◌++◌, refl, ap, sym, subst, ◌∙◌, arith}
+use Rattle.std.proofs.Common.{◌≡◌, ℕ, ◌+◌, ◌==◌, ◌&&◌, Bool, true, false, cond, Option, Some, None, List, [], ◌∷◌, ◌++◌, refl, ap, sym, subst, ◌∙◌, arith}
 use Rattle.std.proofs.lemmas.Bool.{eqb-true, and_parts, eq-eqb}
 use Rattle.bc_word.specs.declared.operator.Op.{Op}
 use Rattle.bc_word.specs.declared.operator.Op.TheVariants as operators
@@ -19,17 +19,15 @@ use Rattle.bc_recipe.specs.declared.form.Form.TheVariants as forms
 use Rattle.bc_recipe.specs.declared.recipe.Takes.{Takes}
 use Rattle.bc_recipe.specs.declared.recipe.Takes.TheVariants.{First, Second, InOrder, Turned}
 use Rattle.bc_recipe.specs.declared.recipe.Recipe.{Recipe}
-use Rattle.bc_recipe.specs.Costs.{cost_of}
 use Rattle.bc_recipe.specs.Recipe.{facts_of, recipe, adding, where_so, only_at, words_of_operand, words_of_operand_of}
 use Rattle.bc_recipe.specs.Node.{Node, more_words}
 use Rattle.bc_lines.specs.Lines.{op_numbered}
 use Rattle.bc_stack.specs.declared.mark.Mark.{Mark}
-use Rattle.bc_stack.specs.Marks.{has_aim}
 use Rattle.bc_stack.specs.Derived.{other_part, taken, trees}
 use Rattle.bc_stack.specs.Showing.{has_words, makes_by}
 use Rattle.bc_entries.specs.Shown.{Shown, shown, bare}
 use Rattle.bc_verdict.specs.Standing.{IsFewest}
-use Rattle.bc_verdict.proofs.Taking.{Part, Kept, IsTree, order_is, cut_front, cut_end}
+use Rattle.bc_verdict.proofs.Taking.{IsTree, order_is, cut_front, cut_end}
 
 -- operators have numbers of their own
 numbered : (op : Op) → op_numbered (number_of op) ≡ Some op
