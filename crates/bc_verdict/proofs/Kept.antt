@@ -103,8 +103,8 @@ pair_of xs ys us vs h i = ap (λ l. l ++ ys) h ∙ ap (λ l. us ++ l) i
 bare_arguments : {T : Table} {es : Args} {f : Exp} {s : ℕ} {ns : List Shown} {ms : List Mark} {ps : List Facts} {xs : List Tree} → AreArguments T es f s ns ms ps xs → all_bare ms ≡ true → ns ≡ all_bare_from es s ++ bare f (s + count es)
 bare_arguments {f = f} {s = s} (routine h) b = h.bare_to (two_true _ _ b).0 ∙ ap (λ k. bare f k) (omega arith)
 bare_arguments {f = f} {s = s} (next {e = e} {es = es} {ns = ns} {os = os} h i) b =
-    let c = two_true _ _ b in
     let level : s + 1 + count es ≡ s + (1 + count es) = omega arith in
+    let c = two_true _ _ b in
     pair_of ns os _ _ (h.bare_to c.0) (bare_arguments i c.1 ∙ ap (λ k. all_bare_from es (s + 1) ++ bare f k) level) ∙ sym (append_assoc (bare e s) (all_bare_from es (s + 1)) (bare f (s + (1 + count es))))
 
 pub bare_to : {T : Table} {s : ℕ} {form : Form} {ns : List Shown} {ms : List Mark} {ps : List Facts} {xs : List Tree} {e : Exp} → Over T s form ns ms ps xs e → all_bare ms ≡ true → ns ≡ below_bare e s

@@ -1,2 +1,4 @@
 pub mod Over
 pub mod Kept
+pub mod Parts
+pub mod Others
