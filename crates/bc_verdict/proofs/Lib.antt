@@ -1,0 +1,4 @@
+mod Numbers
+mod Fields
+mod Forms
+mod Chains
