@@ -24,7 +24,7 @@ at_same P a b e h = let s : a ≡ b = cc in subst P s h
 abbrev Says : List ℕ → Form → Type 0
 Says text f = (text ≡ form_text f) × FormIsSmall f
 
-letter_is : (b c : ℕ) (bs : List ℕ) → (b == c) ≡ true → b ∷ bs ≡ c ∷ bs
+pub letter_is : (b c : ℕ) (bs : List ℕ) → (b == c) ≡ true → b ∷ bs ≡ c ∷ bs
 letter_is b c bs e = ap (λ x. x ∷ bs) (eqb-true b c e)
 
 sign_read : (b : ℕ) (f : Form) → sign b ≡ Some f → Says (b ∷ []) f

@@ -2,3 +2,5 @@ mod Numbers
 mod Fields
 mod Forms
 mod Chains
+mod Names
+mod Items

@@ -42,10 +42,10 @@ value_from_least : (n : ℕ) (bs : List ℕ) → n ≤ value_from n bs
 value_from_least n [] = omega arith
 value_from_least n (b ∷ bs) = let h = value_from_least (n * 10 + (b - 48)) bs in omega arith
 
-digit_is : (b : ℕ) → is_digit b ≡ true → IsInRange 48 57 b
+pub digit_is : (b : ℕ) → is_digit b ≡ true → IsInRange 48 57 b
 digit_is b h = grind (arith, nat_tests)
 
-is_digit_of : (b : ℕ) → IsInRange 48 57 b → is_digit b ≡ true
+pub is_digit_of : (b : ℕ) → IsInRange 48 57 b → is_digit b ≡ true
 is_digit_of b h = grind (arith, nat_tests)
 
 digits_read : (n m : ℕ) (bs : List ℕ) → n < 2 ^ 64 → digits_from n bs ≡ Some m → Digits bs × (value_from n bs ≡ m) × (m < 2 ^ 64)
