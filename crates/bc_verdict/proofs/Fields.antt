@@ -26,6 +26,9 @@ each_of_two P (x ∷ xs) ys h k = (h.0, each_of_two P xs ys h.1 k)
 pub without : (separator bound : ℕ) → separator ≤ bound → (bs : List ℕ) → Above bound bs → Without separator bs
 without separator bound h = each (λ b. bound < b) (λ b. b ≢ separator) (λ b k e. omega arith)
 
+pub lower : (bs : List ℕ) → Above 32 bs → Above 10 bs
+lower = each (λ b. 32 < b) (λ b. 10 < b) (λ b h. omega arith)
+
 -- fields with a separator between each two
 abbrev pub joined : ℕ → List ℕ → List (List ℕ) → List ℕ
 joined separator f [] = f

@@ -4,3 +4,4 @@ mod Forms
 mod Chains
 mod Names
 mod Items
+mod Pieces
