@@ -5,3 +5,4 @@ mod Chains
 mod Names
 mod Items
 mod Pieces
+mod Read
