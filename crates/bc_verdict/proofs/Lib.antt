@@ -5,4 +5,5 @@ mod Chains
 mod Names
 mod Items
 mod Pieces
+mod Roots
 mod Read

@@ -1,5 +1,5 @@
 -- What a line is read as, and what it is read from.
-use Rattle.std.proofs.Common.{◌≡◌, ◌⊎◌, ⊎_elim, ℕ, ◌+◌, ◌^◌, ◌<◌, ◌≤◌, ◌==◌, ◌&&◌, Bool, true, false, cond, List, [], ◌∷◌, ◌++◌, map, length, Option, Some, None, IfSome, refl, ap, ap₂, sym, subst, ◌∙◌, arith, append_assoc}
+use Rattle.std.proofs.Common.{◌≡◌, ◌⊎◌, ⊎_elim, ℕ, ◌+◌, ◌^◌, ◌<◌, ◌≤◌, ◌==◌, ◌&&◌, Bool, true, false, cond, List, [], ◌∷◌, ◌++◌, map, length, get_or, Option, Some, None, IfSome, refl, ap, ap₂, sym, subst, ◌∙◌, arith, append_assoc}
 use Rattle.std.specs.List.{AllByRecursion}
 use Rattle.std.specs.Int.{IsInRange}
 use Rattle.std.specs.Fmt.{decimal}
@@ -28,7 +28,9 @@ use Rattle.bc_verdict.proofs.Numbers.{got, chosen, passed, number_read, number_b
 use Rattle.bc_verdict.proofs.Fields.{Without, Above, each, lower, without, joined, field_read, field_back, behind_read, behind_back, line_from, line_to, IsOneLine, line_ends}
 use Rattle.bc_verdict.proofs.Forms.{at_same, letter_is, form_read, form_back, form_above, number_above}
 use Rattle.bc_verdict.proofs.Names.{rules_read, rules_back, names_above}
+use Rattle.bc_verdict.proofs.Roots.{root_begins}
 pub use Rattle.bc_verdict.proofs.Pieces.{code_read, code_back, pieces_end}
+pub use Rattle.bc_verdict.proofs.Roots.{root_read, root_back, root_ends}
 
 -- the header
 behind_byte_read : (b : ℕ) (text rest : List ℕ) → behind_byte b text ≡ Some rest → text ≡ b ∷ rest
@@ -255,3 +257,23 @@ node_ends s f c names h i r k =
       (number_bytes c.on_true r.on_true,
       (lower (names_field names) (names_above names k), tt)))))),
     )
+
+-- lines of different kinds
+none_of : {A : Type 0} (o : Option A) → ((a : A) → ¬ (o ≡ Some a)) → o ≡ None
+none_of None h = refl
+none_of (Some a) h = absurd (h a refl)
+
+no_digit : (b : ℕ) (bs rest more : List ℕ) → 57 < b → Digits bs → 0 < length bs → ¬ (b ∷ rest ≡ bs ++ more)
+no_digit b [] rest more h d n e = omega arith
+no_digit b (c ∷ cs) rest more h d n e = let s : b ≡ c = cc in omega (arith, d.0)
+
+pub node_no_root : (l : List ℕ) (r : RootLine) → l ++ 10 ∷ [] ≡ root_text r → node_line l ≡ None
+node_no_root l r e =
+    none_of (node_line l) (λ n h.
+    let p = node_read l n h in
+    let b = root_begins r in
+    let small : IsNumber n.level = omega (arith, p.level) in
+    no_digit 82 (decimal n.level) b.0 _ (omega arith) (decimal_digits n.level small) (decimal_nonempty n.level small) (sym b.1 ∙ sym e ∙ p.is))
+
+pub end_no_entry : (l : List ℕ) (n : ℕ) → l ++ 10 ∷ [] ≡ end_text n → entry_line l ≡ None
+end_no_entry l n e = none_of (entry_line l) (λ h k. let p = entry_read l h k in let c : 90 ≡ 69 = ap (λ t. get_or t 0 0) (sym e ∙ p.0) in omega arith)
