@@ -2,7 +2,7 @@
 use Rattle.std.proofs.Common.{◌≡◌, ◌⊎◌, inl, inr, ⊎_elim, ℕ, ◌==◌, ◌&&◌, Bool, true, false, cond, List, [], ◌∷◌, map, Option, Some, None, refl, ap, ap₂, sym, subst, ◌∙◌, arith, eq-eqb}
 use Rattle.std.proofs.lemmas.Bool.{eqb-true, and_parts}
 use Rattle.bc_derive.specs.declared.rule.Rule.{Rule}
-use Rattle.bc_derive.specs.declared.rule.Rule.TheVariants.{V0, J1, J6}
+use Rattle.bc_derive.specs.declared.rule.Rule.TheVariants.{V0, J6}
 use Rattle.bc_least.specs.Least.{rule_number}
 use Rattle.bc_entries.specs.Lines.{rule_letter}
 use Rattle.bc_lines.specs.declared.chain.Chain.{Chain}
@@ -11,7 +11,7 @@ use Rattle.bc_lines.specs.declared.chain.Names.{Names}
 use Rattle.bc_lines.specs.declared.chain.Names.TheVariants.{Nothing, Tested, Freed, Whole, Wrong}
 use Rattle.bc_lines.specs.Chains.{letter_of, all_rules, found, rule_named, whole, of_value, begun, behind_test, behind_free, longer, ended}
 use Rattle.bc_verdict.specs.Faults.{Name, name}
-use Rattle.bc_verdict.specs.Standing.{over_if, chain_rules, IsChain, AreNamed, no_name, named, wrong}
+use Rattle.bc_verdict.specs.Standing.{over_if, chain_rules, IsChain, AreNamed, named, wrong}
 use Rattle.bc_verdict.proofs.Numbers.{chosen}
 use Rattle.bc_verdict.proofs.Forms.{at_same}
 
@@ -145,9 +145,9 @@ tested_at x xs d None e h = absurd (not_wrong xs d h)
 tested_at x xs d (Some r) e h =
     ⊎_elim
     (λ i. let l = run_freed true xs d (sym (ap (λ y. run (behind_test y) xs) i) ∙ h) in
-        with_names (name J6 ∷ x ∷ xs) _ d (ap₂ (λ y ys. name J6 ∷ y ∷ ys) (name_of_rule x r e ∙ ap name i) l.names) (are_of true true xs d l))
+    with_names (name J6 ∷ x ∷ xs) _ d (ap₂ (λ y ys. name J6 ∷ y ∷ ys) (name_of_rule x r e ∙ ap name i) l.names) (are_of true true xs d l))
     (λ i. let l = last_of true false x xs d r (name_of_rule x r e) i (sym (ap (λ ns. run ns xs) (test_is r i)) ∙ h) in
-        with_names (name J6 ∷ x ∷ xs) _ d (ap (λ ys. name J6 ∷ ys) l.names) (are_of true false (x ∷ xs) d l))
+    with_names (name J6 ∷ x ∷ xs) _ d (ap (λ ys. name J6 ∷ ys) l.names) (are_of true false (x ∷ xs) d l))
     (is_v0 r)
 
 run_tested : (xs : List Name) (d : Chain) → run Tested xs ≡ Whole d → AreOf (name J6 ∷ xs) d
@@ -164,11 +164,11 @@ begun_at x xs d None e h = absurd (not_wrong xs d h)
 begun_at x xs d (Some r) e h =
     ⊎_elim
     (λ i. let l = run_freed false xs d (sym (ap (λ y. run (begun y) xs) i) ∙ h) in
-        with_names (x ∷ xs) _ d (ap₂ (λ y ys. y ∷ ys) (name_of_rule x r e ∙ ap name i) l.names) (are_of false true xs d l))
+    with_names (x ∷ xs) _ d (ap₂ (λ y ys. y ∷ ys) (name_of_rule x r e ∙ ap name i) l.names) (are_of false true xs d l))
     (λ v. ⊎_elim
-        (λ i. with_names (x ∷ xs) _ d (ap (λ y. y ∷ xs) (name_of_rule x r e ∙ ap name i)) (run_tested xs d (sym (ap (λ y. run (begun y) xs) i) ∙ h)))
-        (λ j. whole_at x xs d r (name_of_rule x r e) v j h)
-        (is_j6 r))
+    (λ i. with_names (x ∷ xs) _ d (ap (λ y. y ∷ xs) (name_of_rule x r e ∙ ap name i)) (run_tested xs d (sym (ap (λ y. run (begun y) xs) i) ∙ h)))
+    (λ j. whole_at x xs d r (name_of_rule x r e) v j h)
+    (is_j6 r))
     (is_v0 r)
 
 run_begun : (xs : List Name) (d : Chain) → run Nothing xs ≡ Whole d → AreOf xs d

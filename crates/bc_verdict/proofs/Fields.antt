@@ -1,10 +1,10 @@
 -- Fields: a text is cut, and taken apart, just where it is fields with separators between them.
-use Rattle.std.proofs.Common.{◌≡◌, ◌≢◌, ℕ, ◌+◌, ◌<◌, ◌≤◌, ◌==◌, Bool, true, false, cond, List, [], ◌∷◌, ◌++◌, Option, Some, None, refl, ap, sym, subst, ◌∙◌, arith, ne_eqb, eq-eqb, append_assoc}
+use Rattle.std.proofs.Common.{◌≡◌, ◌≢◌, ℕ, ◌<◌, ◌≤◌, ◌==◌, Bool, true, false, cond, List, [], ◌∷◌, ◌++◌, Option, Some, None, refl, ap, sym, ◌∙◌, arith, ne_eqb, eq-eqb, append_assoc}
 use Rattle.std.specs.List.{AllByRecursion}
-use Rattle.std.proofs.lemmas.Bool.{eqb-true, eqb-false}
+use Rattle.std.proofs.lemmas.Bool.{eqb-true}
 use Rattle.std.proofs.lemmas.List.{append_cancel_right}
-use Rattle.bc_entries.specs.Lines.{line, line_end}
-use Rattle.bc_lines.specs.Fields.{Cut, cut, longer, fields, put, field, field_of, behind}
+use Rattle.bc_entries.specs.Lines.{line}
+use Rattle.bc_lines.specs.Fields.{cut, longer, fields, put, field, field_of, behind}
 use Rattle.bc_verdict.specs.Faults.{lines}
 use Rattle.bc_verdict.proofs.Numbers.{passed}
 
@@ -66,9 +66,6 @@ pub behind_read : (letter : ℕ) (text rest : List ℕ) → behind text letter �
 behind_read letter [] rest h = absurd (cc)
 behind_read letter (a ∷ []) rest h = absurd (cc)
 behind_read letter (a ∷ b ∷ bs) rest h = let p = passed (a == letter) _ rest h in let q = passed (b == 32) (Some bs) rest p.1 in let x = eqb-true a letter p.0 in let y = eqb-true b 32 q.0 in cc
-
-pub behind_back : (letter : ℕ) (rest : List ℕ) → behind (letter ∷ 32 ∷ rest) letter ≡ Some rest
-behind_back letter rest = rw (eq-eqb letter letter refl)
 
 -- all fields
 pub record Parted (separator : ℕ) (text : List ℕ) : Type 0 where

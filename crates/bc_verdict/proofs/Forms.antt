@@ -1,5 +1,5 @@
--- Forms as fields.
-use Rattle.std.proofs.Common.{◌≡◌, ◌⊎◌, ⊎_elim, ℕ, ◌+◌, ◌^◌, ◌<◌, ◌≤◌, ◌==◌, Bool, true, false, cond, List, [], ◌∷◌, ◌++◌, Option, Some, None, refl, ap, sym, subst, ◌∙◌, arith}
+-- Forms as fields: a letter or sign, and a number behind a letter.
+use Rattle.std.proofs.Common.{◌≡◌, ⊎_elim, ℕ, ◌^◌, ◌<◌, ◌≤◌, ◌==◌, true, cond, List, [], ◌∷◌, Option, Some, None, refl, ap, sym, subst, ◌∙◌, arith}
 use Rattle.std.specs.List.{AllByRecursion}
 use Rattle.std.specs.Int.{IsInRange}
 use Rattle.std.specs.Fmt.{decimal}
@@ -9,11 +9,11 @@ use Rattle.bc_word.specs.declared.operator.Op.TheVariants.{Multiply}
 use Rattle.bc_word.specs.Words.{number_of}
 use Rattle.bc_recipe.specs.declared.form.Form.{Form}
 use Rattle.bc_recipe.specs.declared.form.Form.TheVariants as forms
-use Rattle.bc_lines.specs.Fields.{◌>>=◌, small}
+use Rattle.bc_lines.specs.Fields.{small}
 use Rattle.bc_lines.specs.Lines.{operators, op_among, op_numbered, operator_form, sign, lettered, form}
 use Rattle.bc_verdict.specs.Entries.{IsSmall}
 use Rattle.bc_verdict.specs.Standing.{form_text, FormIsSmall}
-use Rattle.bc_verdict.proofs.Numbers.{got, chosen, passed, Digits, decimal_digits, small_read, small_back}
+use Rattle.bc_verdict.proofs.Numbers.{got, chosen, passed, decimal_digits, small_read, small_back}
 use Rattle.bc_verdict.proofs.Fields.{Above, each}
 
 -- what holds of the one holds of the other
@@ -102,9 +102,6 @@ form_back forms.Cond h = refl
 form_back (forms.Call n) h = with_number 75 n h
 
 -- the bytes of numbers and forms
-pub digits_above : (bs : List ℕ) → Digits bs → Above 47 bs
-digits_above = each (IsInRange 48 57) (λ b. 47 < b) (λ b h. omega arith)
-
 pub number_above : (bound n : ℕ) → bound ≤ 47 → n < 2 ^ 64 → Above bound (decimal n)
 number_above bound n h k = each (IsInRange 48 57) (λ b. bound < b) (λ b i. omega arith) (decimal n) (decimal_digits n k)
 

@@ -1,7 +1,6 @@
--- Items and pieces as fields.
-use Rattle.std.proofs.Common.{◌≡◌, ◌≢◌, ◌⊎◌, inl, inr, ⊎_elim, ℕ, ◌+◌, ◌^◌, ◌<◌, ◌≤◌, ◌==◌, Bool, true, false, cond, List, [], ◌∷◌, ◌++◌, map, Option, Some, None, refl, ap, ap₂, sym, subst, ◌∙◌, arith, ne_eqb}
+-- Items as fields: what is read is what is printed.
+use Rattle.std.proofs.Common.{◌≡◌, ◌≢◌, ⊎_elim, ℕ, ◌<◌, ◌≤◌, ◌==◌, Bool, true, false, cond, List, [], ◌∷◌, ◌++◌, Option, Some, None, refl, ap, ap₂, sym, subst, ◌∙◌, arith, ne_eqb}
 use Rattle.std.specs.Prelude.{nat_le, nat_lt}
-use Rattle.std.specs.List.{AllByRecursion}
 use Rattle.std.specs.Int.{IsInRange}
 use Rattle.std.specs.Fmt.{decimal}
 use Rattle.std.proofs.lemmas.Bool.{eqb-true}
@@ -17,9 +16,9 @@ use Rattle.bc_text.specs.Printed.{printed, IsItem}
 use Rattle.bc_lines.specs.Fields.{small, is_digit, cut, Cut}
 use Rattle.bc_lines.specs.Items.{label_of, plain_data_of, data_label_of, data_of, byte_of, global_with, global_at, global_of, function_of, numbered_of, addressed_of, operation_of, function_item, item}
 use Rattle.bc_verdict.specs.Entries.{IsSmall}
-use Rattle.bc_verdict.proofs.Numbers.{got, chosen, passed, kept, Digits, digit_is, is_digit_of, decimal_digits, small_read, small_back}
-use Rattle.bc_verdict.proofs.Fields.{Without, Above, each, each_of_two, without, cut_read, cut_back}
-use Rattle.bc_verdict.proofs.Forms.{at_same, letter_is, number_above}
+use Rattle.bc_verdict.proofs.Numbers.{chosen, passed, Digits, is_digit_of, decimal_digits, small_read, small_back}
+use Rattle.bc_verdict.proofs.Fields.{Without, Above, each, each_of_two, cut_read, cut_back}
+use Rattle.bc_verdict.proofs.Forms.{at_same, number_above}
 
 -- the text says the item
 abbrev Says : List ℕ → Item → Type 0

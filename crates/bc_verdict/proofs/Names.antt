@@ -1,7 +1,6 @@
 -- The rules of a node line, as a field.
-use Rattle.std.proofs.Common.{◌≡◌, ◌⊎◌, inl, inr, ⊎_elim, ℕ, ◌+◌, ◌^◌, ◌<◌, ◌≤◌, ◌==◌, ◌||◌, Bool, true, false, cond, List, [], ◌∷◌, ◌++◌, map, Option, Some, None, refl, ap, ap₂, sym, subst, ◌∙◌, arith, ne_eqb, append-nil}
+use Rattle.std.proofs.Common.{◌≡◌, ◌⊎◌, inl, inr, ⊎_elim, ℕ, ◌<◌, ◌==◌, ◌||◌, true, List, [], ◌∷◌, ◌++◌, map, Option, Some, None, refl, ap, ap₂, sym, subst, ◌∙◌, arith, ne_eqb, append-nil}
 use Rattle.std.specs.List.{AllByRecursion}
-use Rattle.std.specs.Fmt.{decimal}
 use Rattle.std.proofs.lemmas.Bool.{eqb-true}
 use Rattle.std.proofs.lemmas.Bool.Decides.{nat_tests}
 use Rattle.bc_derive.specs.declared.rule.Rule.{Rule}
@@ -9,7 +8,7 @@ use Rattle.bc_lines.specs.declared.chain.Rules.{Rules}
 use Rattle.bc_lines.specs.declared.chain.Rules.TheVariants.{Taken}
 use Rattle.bc_lines.specs.declared.chain.Names.{Names}
 use Rattle.bc_lines.specs.declared.chain.Names.TheVariants.{Nothing}
-use Rattle.bc_lines.specs.Fields.{◌>>=◌, small, fields}
+use Rattle.bc_lines.specs.Fields.{small, fields}
 use Rattle.bc_lines.specs.Chains.{rule_named, with_number, rule_name, longer, ended, names_from, names, rules}
 use Rattle.bc_verdict.specs.Entries.{IsSmall}
 use Rattle.bc_verdict.specs.Faults.{Name, IsName, v, j, a, name_text, further_names, names_field}
@@ -125,8 +124,7 @@ pub rules_back : (xs : List Name) → AllByRecursion IsName xs → (rs : Rules) 
 rules_back [] h = (Taken, refl, no_name)
 rules_back (x ∷ xs) h =
     let w = all_without (x ∷ xs) h in
-    let cut = ap (fields 46) (names_joined x xs) ∙ fields_back 46 (name_text x) (map name_text xs) w.0 w.1 in
-    (
+    let cut = ap (fields 46) (names_joined x xs) ∙ fields_back 46 (name_text x) (map name_text xs) w.0 w.1 in (
       ended (run Nothing (x ∷ xs)),
       rules_names x.letter _ (name_above x h.0).0 ∙ ap (names_from Nothing) cut ∙ names_back Nothing (x ∷ xs) h,
       names_said (x ∷ xs) (λ z. cc),

@@ -1,13 +1,11 @@
 -- The pieces of a code line.
-use Rattle.std.proofs.Common.{◌≡◌, ◌⊎◌, ⊎_elim, ℕ, ◌<◌, ◌==◌, Bool, true, false, cond, List, [], ◌∷◌, ◌++◌, map, Option, Some, None, refl, ap, ap₂, sym, subst, ◌∙◌, arith, append_assoc, append-nil}
+use Rattle.std.proofs.Common.{◌≡◌, ⊎_elim, ℕ, ◌==◌, Bool, true, false, cond, List, [], ◌∷◌, ◌++◌, map, Option, Some, None, refl, ap, ap₂, sym, subst, ◌∙◌, arith, append_assoc, append-nil}
 use Rattle.std.specs.List.{AllByRecursion}
-use Rattle.std.specs.Fmt.{decimal}
 use Rattle.std.proofs.lemmas.Bool.{eqb-true}
 use Rattle.bc_item.specs.declared.item.Item.{Item}
 use Rattle.bc_derive.specs.declared.piece.Piece.{Piece}
 use Rattle.bc_derive.specs.declared.piece.Piece.TheVariants as pieces
 use Rattle.bc_text.specs.Printed.{printed}
-use Rattle.bc_entries.specs.Lines.{line}
 use Rattle.bc_lines.specs.Fields.{◌>>=◌, number, fields, behind}
 use Rattle.bc_lines.specs.Items.{item}
 use Rattle.bc_lines.specs.Lines.{body_of, item_piece, piece, pieces_behind, code_of_line}
@@ -108,5 +106,5 @@ joined_back (p ∷ ps) h =
 pub code_back : (l : List ℕ) (ps : List Piece) → AllByRecursion PieceHasRoom ps → l ++ 10 ∷ [] ≡ pieces_line ps → code_of_line l ≡ Some ps
 code_back l ps h e = ap code_of_line (line_to l (67 ∷ []) (map piece_field ps) e) ∙ joined_back ps h
 
-pub pieces_end : (ps : List Piece) → AllByRecursion PieceHasRoom ps → IsOneLine (pieces_line ps)
-pieces_end ps h = line_ends (67 ∷ []) (map piece_field ps) ((omega arith, tt), each (Above 32) (Above 10) lower (map piece_field ps) (all_above ps h))
+pub pieces_ends : (ps : List Piece) → AllByRecursion PieceHasRoom ps → IsOneLine (pieces_line ps)
+pieces_ends ps h = line_ends (67 ∷ []) (map piece_field ps) ((omega arith, tt), each (Above 32) (Above 10) lower (map piece_field ps) (all_above ps h))

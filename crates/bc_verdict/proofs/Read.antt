@@ -1,35 +1,31 @@
 -- What a line is read as, and what it is read from.
-use Rattle.std.proofs.Common.{◌≡◌, ◌⊎◌, ⊎_elim, ℕ, ◌+◌, ◌^◌, ◌<◌, ◌≤◌, ◌==◌, ◌&&◌, Bool, true, false, cond, List, [], ◌∷◌, ◌++◌, map, length, get_or, Option, Some, None, IfSome, refl, ap, ap₂, sym, subst, ◌∙◌, arith, append_assoc}
+use Rattle.std.proofs.Common.{◌≡◌, ⊎_elim, ℕ, ◌<◌, ◌==◌, List, [], ◌∷◌, ◌++◌, length, get_or, Option, Some, None, IfSome, refl, ap, ap₂, sym, ◌∙◌, arith}
 use Rattle.std.specs.List.{AllByRecursion}
-use Rattle.std.specs.Int.{IsInRange}
 use Rattle.std.specs.Fmt.{decimal}
-use Rattle.std.proofs.lemmas.Bool.{eqb-true, and_parts}
-use Rattle.std.proofs.lemmas.Fmt.{decimal_digit, decimal_nonempty}
+use Rattle.std.proofs.lemmas.Bool.{eqb-true}
+use Rattle.std.proofs.lemmas.Fmt.{decimal_nonempty}
 use Rattle.std.proofs.lemmas.List.{append_cancel_right}
 use Rattle.bc_derive.specs.declared.rule.Table.{Table}
 use Rattle.bc_derive.specs.declared.rule.Table.TheVariants.{One, Two}
-use Rattle.bc_derive.specs.declared.rule.Rule.{Rule}
-use Rattle.bc_derive.specs.declared.rule.Rule.TheVariants.{A1, A2, A3}
 use Rattle.bc_certificate.specs.Text.{header_line, end_line as end_text}
-use Rattle.bc_entries.specs.Lines.{line, rule_name, sense_field, words_field}
+use Rattle.bc_entries.specs.Lines.{line, words_field}
 use Rattle.bc_recipe.specs.declared.costs.Costs.{Costs}
 use Rattle.bc_recipe.specs.declared.form.Form.{Form}
 use Rattle.bc_lines.specs.declared.lines.Head.{Head}
 use Rattle.bc_lines.specs.declared.lines.NodeLine.{NodeLine}
 use Rattle.bc_lines.specs.declared.lines.RootLine.{RootLine}
-use Rattle.bc_lines.specs.declared.lines.RootLine.TheVariants as roots
 use Rattle.bc_lines.specs.Fields.{◌>>=◌, field, behind, number, small, level, number_or_none}
 use Rattle.bc_lines.specs.Chains.{rules}
-use Rattle.bc_lines.specs.Lines.{table_of, behind_byte, behind_bytes, header, entry_line, end_line, form, node_line, assigned, root_of, root_line}
-use Rattle.bc_verdict.specs.Entries.{IsNumber, IsSmall, IsLevel}
-use Rattle.bc_verdict.specs.Faults.{HeadHasRoom, head_line, Name, IsName, names_field, CostsHaveRoom, IsAssignment, first, second, third}
-use Rattle.bc_verdict.specs.Standing.{AreNamed, form_text, FormIsSmall, root_text, RootLineIsSmall}
+use Rattle.bc_lines.specs.Lines.{table_of, behind_byte, behind_bytes, header, entry_line, end_line, form, node_line}
+use Rattle.bc_verdict.specs.Entries.{IsNumber, IsLevel}
+use Rattle.bc_verdict.specs.Faults.{HeadHasRoom, head_line, Name, IsName, names_field, CostsHaveRoom}
+use Rattle.bc_verdict.specs.Standing.{AreNamed, form_text, FormIsSmall, root_text}
 use Rattle.bc_verdict.proofs.Numbers.{got, chosen, passed, number_read, number_back, small_read, small_back, level_read, level_back, words_read, words_back, decimal_digits, Digits}
-use Rattle.bc_verdict.proofs.Fields.{Without, Above, each, lower, without, joined, field_read, field_back, behind_read, behind_back, line_from, line_to, IsOneLine, line_ends}
-use Rattle.bc_verdict.proofs.Forms.{at_same, letter_is, form_read, form_back, form_above, number_above}
+use Rattle.bc_verdict.proofs.Fields.{Without, Above, lower, without, field_read, field_back, behind_read, line_from, line_to, IsOneLine, line_ends}
+use Rattle.bc_verdict.proofs.Forms.{at_same, form_read, form_back, form_above, number_above}
 use Rattle.bc_verdict.proofs.Names.{rules_read, rules_back, names_above}
 use Rattle.bc_verdict.proofs.Roots.{root_begins}
-pub use Rattle.bc_verdict.proofs.Pieces.{code_read, code_back, pieces_end}
+pub use Rattle.bc_verdict.proofs.Pieces.{code_read, code_back, pieces_ends}
 pub use Rattle.bc_verdict.proofs.Roots.{root_read, root_back, root_ends}
 
 -- the header
@@ -107,12 +103,11 @@ entry_read l h k =
     let r4 = small_read first first_field.0 n4 in
     let r5 = number_read words first_field.1 n5 in
     let fields =
-        next text segment_field (decimal segment) _ is1 r1.0
-        (next segment_field.1 item_field (decimal item) _ is2 r2.0
-        (next item_field.1 target_field (decimal target) _ is3 r3.0
-        (next target_field.1 first_field (decimal first) (decimal words) is4 r4.0 r5.0))) in
-    at_same (λ x. (l ++ 10 ∷ [] ≡ head_line x) × HeadHasRoom x) (record { segment = segment; item = item; target = target; first = first; words = words }) h k
-    (
+    next text segment_field (decimal segment) _ is1 r1.0
+    (next segment_field.1 item_field (decimal item) _ is2 r2.0
+    (next item_field.1 target_field (decimal target) _ is3 r3.0
+    (next target_field.1 first_field (decimal first) (decimal words) is4 r4.0 r5.0))) in
+    at_same (λ x. (l ++ 10 ∷ [] ≡ head_line x) × HeadHasRoom x) (record { segment = segment; item = item; target = target; first = first; words = words }) h k (
       line_from l (69 ∷ []) (decimal segment ∷ decimal item ∷ decimal target ∷ decimal first ∷ decimal words ∷ []) (behind_read 69 l text is ∙ ap (λ t. 69 ∷ 32 ∷ t) fields),
       record { segment = r1.1; item = r2.1; target = r3.1; first = r4.1; words = r5.1 },
     )))))))))))
@@ -132,8 +127,7 @@ entry_back l h r e =
 
 pub head_ends : (h : Head) → HeadHasRoom h → IsOneLine (head_line h)
 head_ends h r =
-    line_ends (69 ∷ []) (head_fields h)
-    (
+    line_ends (69 ∷ []) (head_fields h) (
       (omega arith, tt),
       (number_bytes h.segment r.segment, (number_bytes h.item r.item, (number_bytes h.target (omega (arith, r.target)), (number_bytes h.first (omega (arith, r.first)), (number_bytes h.words r.words, tt))))),
     )
@@ -152,7 +146,7 @@ pub last_ends : (n : ℕ) → IsNumber n → IsOneLine (end_text n)
 last_ends n h = line_ends (90 ∷ []) (decimal n ∷ []) ((omega arith, tt), (number_bytes n h, tt))
 
 -- a node line
-abbrev pub node_fields : Form → Costs → List Name → List (List ℕ)
+abbrev node_fields : Form → Costs → List Name → List (List ℕ)
 node_fields f c names = form_text f ∷ decimal c.any ∷ words_field c.push ∷ decimal c.on_false ∷ decimal c.on_true ∷ names_field names ∷ []
 
 pub record NodeRead (n : NodeLine) (l : List ℕ) : Type 0 where
@@ -188,12 +182,12 @@ node_read l n k =
     let r7 = rules_read true_field.1 rs n7 in
     let c : Costs = record { any = any; push = push; on_false = on_false; on_true = on_true } in
     let fields =
-        next l level_field (decimal s) _ is1 r1.0
-        (next level_field.1 form_field (form_text f) _ is2 r2.0
-        (next form_field.1 any_field (decimal any) _ is3 r3.0
-        (next any_field.1 push_field (words_field push) _ is4 r4.0
-        (next push_field.1 false_field (decimal on_false) _ is5 r5.0
-        (next false_field.1 true_field (decimal on_true) (names_field r7.names) is6 r6.0 r7.is))))) in
+    next l level_field (decimal s) _ is1 r1.0
+    (next level_field.1 form_field (form_text f) _ is2 r2.0
+    (next form_field.1 any_field (decimal any) _ is3 r3.0
+    (next any_field.1 push_field (words_field push) _ is4 r4.0
+    (next push_field.1 false_field (decimal on_false) _ is5 r5.0
+    (next false_field.1 true_field (decimal on_true) (names_field r7.names) is6 r6.0 r7.is))))) in
     at_same (λ x. NodeRead x l) (record { level = s; form = f; costs = c; rules = rs }) n k
     (record {
       names = r7.names;
@@ -247,15 +241,24 @@ node_back l s f c names h i r k e =
 pub node_ends : (s : ℕ) (f : Form) (c : Costs) (names : List Name) → IsLevel s → FormIsSmall f → CostsHaveRoom c → AllByRecursion IsName names
     → IsOneLine (line (decimal s) (form_text f ∷ decimal c.any ∷ words_field c.push ∷ decimal c.on_false ∷ decimal c.on_true ∷ names_field names ∷ []))
 node_ends s f c names h i r k =
-    line_ends (decimal s) (node_fields f c names)
-    (
+    line_ends (decimal s) (node_fields f c names) (
       number_bytes s (omega arith),
-      (lower (form_text f) (form_above f i),
-      (number_bytes c.any r.any,
-      (lower (words_field c.push) (words_above c.push r.push),
-      (number_bytes c.on_false r.on_false,
-      (number_bytes c.on_true r.on_true,
-      (lower (names_field names) (names_above names k), tt)))))),
+      (
+        lower (form_text f) (form_above f i),
+        (
+          number_bytes c.any r.any,
+          (
+            lower (words_field c.push) (words_above c.push r.push),
+            (
+              number_bytes c.on_false r.on_false,
+              (
+                number_bytes c.on_true r.on_true,
+                (lower (names_field names) (names_above names k), tt),
+              ),
+            ),
+          ),
+        ),
+      ),
     )
 
 -- lines of different kinds

@@ -1,5 +1,5 @@
 -- Root lines.
-use Rattle.std.proofs.Common.{◌≡◌, ◌⊎◌, ⊎_elim, ℕ, ◌+◌, ◌<◌, ◌≤◌, ◌==◌, ◌&&◌, Bool, true, false, cond, List, [], ◌∷◌, ◌++◌, Option, Some, None, refl, ap, ap₂, sym, subst, ◌∙◌, arith}
+use Rattle.std.proofs.Common.{◌≡◌, ⊎_elim, ℕ, ◌+◌, ◌<◌, ◌==◌, ◌&&◌, true, false, List, [], ◌∷◌, ◌++◌, Some, refl, ap, ap₂, sym, subst, ◌∙◌, arith}
 use Rattle.std.specs.List.{AllByRecursion}
 use Rattle.std.specs.Fmt.{decimal}
 use Rattle.std.proofs.lemmas.Bool.{eqb-true, and_parts}
@@ -10,14 +10,14 @@ use Rattle.bc_least.specs.Least.{rule_number}
 use Rattle.bc_entries.specs.Lines.{line, rule_letter, rule_name, sense_field}
 use Rattle.bc_lines.specs.declared.lines.RootLine.{RootLine}
 use Rattle.bc_lines.specs.declared.lines.RootLine.TheVariants.{Value, Test, Assign}
-use Rattle.bc_lines.specs.Fields.{◌>>=◌, behind, level}
+use Rattle.bc_lines.specs.Fields.{behind, level}
 use Rattle.bc_lines.specs.Lines.{assigned, root_of, root_line}
 use Rattle.bc_verdict.specs.Entries.{IsLevel}
 use Rattle.bc_verdict.specs.Faults.{IsAssignment, first, second, third}
 use Rattle.bc_verdict.specs.Standing.{root_text, RootLineIsSmall}
 use Rattle.bc_verdict.proofs.Numbers.{got, chosen, passed, level_read, level_back}
 use Rattle.bc_verdict.proofs.Fields.{Above, joined, behind_read, line_from, line_to, IsOneLine, line_ends}
-use Rattle.bc_verdict.proofs.Forms.{at_same, letter_is, number_above}
+use Rattle.bc_verdict.proofs.Forms.{at_same, number_above}
 
 -- the fields behind the first one
 abbrev root_fields : RootLine → List (List ℕ)
