@@ -1,5 +1,5 @@
 -- Forms as fields: a letter or sign, and a number behind a letter.
-use Rattle.std.proofs.Common.{◌≡◌, ⊎_elim, ℕ, ◌^◌, ◌<◌, ◌≤◌, ◌==◌, true, cond, List, [], ◌∷◌, Option, Some, None, refl, ap, sym, subst, ◌∙◌, arith}
+use Rattle.std.proofs.Common.{◌≡◌, ⊎_elim, ℕ, ◌^◌, ◌<◌, ◌≤◌, ◌==◌, true, cond, List, [], ◌∷◌, Option, Some, None, IfSome, refl, ap, sym, subst, ◌∙◌, arith}
 use Rattle.std.specs.List.{AllByRecursion}
 use Rattle.std.specs.Int.{IsInRange}
 use Rattle.std.specs.Fmt.{decimal}
@@ -7,11 +7,12 @@ use Rattle.std.proofs.lemmas.Bool.{eqb-true}
 use Rattle.bc_word.specs.declared.operator.Op.{Op}
 use Rattle.bc_word.specs.declared.operator.Op.TheVariants.{Multiply}
 use Rattle.bc_word.specs.Words.{number_of}
+use Rattle.bc_entries.specs.Lines.{words_field}
 use Rattle.bc_recipe.specs.declared.form.Form.{Form}
 use Rattle.bc_recipe.specs.declared.form.Form.TheVariants as forms
 use Rattle.bc_lines.specs.Fields.{small}
 use Rattle.bc_lines.specs.Lines.{operators, op_among, op_numbered, operator_form, sign, lettered, form}
-use Rattle.bc_verdict.specs.Entries.{IsSmall}
+use Rattle.bc_verdict.specs.Entries.{IsNumber, IsSmall}
 use Rattle.bc_verdict.specs.Standing.{form_text, FormIsSmall}
 use Rattle.bc_verdict.proofs.Numbers.{got, chosen, passed, decimal_digits, small_read, small_back}
 use Rattle.bc_verdict.proofs.Fields.{Above, each}
@@ -45,7 +46,7 @@ op_back : (op : Op) → op_numbered (number_of op) ≡ Some op
 op_back Multiply = refl
 op_back _ = refl
 
-op_small : (op : Op) → IsSmall (number_of op)
+pub op_small : (op : Op) → IsSmall (number_of op)
 op_small Multiply = omega arith
 op_small _ = omega arith
 
@@ -104,6 +105,13 @@ form_back (forms.Call n) h = with_number 75 n h
 -- the bytes of numbers and forms
 pub number_above : (bound n : ℕ) → bound ≤ 47 → n < 2 ^ 64 → Above bound (decimal n)
 number_above bound n h k = each (IsInRange 48 57) (λ b. bound < b) (λ b i. omega arith) (decimal n) (decimal_digits n k)
+
+pub number_bytes : (n : ℕ) → n < 2 ^ 64 → Above 10 (decimal n)
+number_bytes n h = number_above 10 n (omega arith) h
+
+pub words_above : (o : Option ℕ) → IfSome o IsNumber → Above 32 (words_field o)
+words_above None h = (omega arith, tt)
+words_above (Some n) h = number_above 32 n (omega arith) h
 
 pub form_above : (f : Form) → FormIsSmall f → Above 32 (form_text f)
 form_above (forms.Num n) h = (omega arith, number_above 32 n (omega arith) (omega arith))

@@ -6,4 +6,5 @@ mod Names
 mod Items
 mod Pieces
 mod Roots
+mod Written
 mod Read

@@ -106,5 +106,5 @@ joined_back (p ∷ ps) h =
 pub code_back : (l : List ℕ) (ps : List Piece) → AllByRecursion PieceHasRoom ps → l ++ 10 ∷ [] ≡ pieces_line ps → code_of_line l ≡ Some ps
 code_back l ps h e = ap code_of_line (line_to l (67 ∷ []) (map piece_field ps) e) ∙ joined_back ps h
 
-pub pieces_ends : (ps : List Piece) → AllByRecursion PieceHasRoom ps → IsOneLine (pieces_line ps)
-pieces_ends ps h = line_ends (67 ∷ []) (map piece_field ps) ((omega arith, tt), each (Above 32) (Above 10) lower (map piece_field ps) (all_above ps h))
+pub code_ends : (ps : List Piece) → AllByRecursion PieceHasRoom ps → IsOneLine (pieces_line ps)
+code_ends ps h = line_ends (67 ∷ []) (map piece_field ps) ((omega arith, tt), each (Above 32) (Above 10) lower (map piece_field ps) (all_above ps h))

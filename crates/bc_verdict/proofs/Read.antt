@@ -1,5 +1,5 @@
 -- What a line is read as, and what it is read from.
-use Rattle.std.proofs.Common.{◌≡◌, ⊎_elim, ℕ, ◌<◌, ◌==◌, List, [], ◌∷◌, ◌++◌, length, get_or, Option, Some, None, IfSome, refl, ap, ap₂, sym, ◌∙◌, arith}
+use Rattle.std.proofs.Common.{◌≡◌, ⊎_elim, ℕ, ◌<◌, ◌==◌, List, [], ◌∷◌, ◌++◌, length, get_or, Option, Some, None, refl, ap, ap₂, sym, ◌∙◌, arith}
 use Rattle.std.specs.List.{AllByRecursion}
 use Rattle.std.specs.Fmt.{decimal}
 use Rattle.std.proofs.lemmas.Bool.{eqb-true}
@@ -21,12 +21,13 @@ use Rattle.bc_verdict.specs.Entries.{IsNumber, IsLevel}
 use Rattle.bc_verdict.specs.Faults.{HeadHasRoom, head_line, Name, IsName, names_field, CostsHaveRoom}
 use Rattle.bc_verdict.specs.Standing.{AreNamed, form_text, FormIsSmall, root_text}
 use Rattle.bc_verdict.proofs.Numbers.{got, chosen, passed, number_read, number_back, small_read, small_back, level_read, level_back, words_read, words_back, decimal_digits, Digits}
-use Rattle.bc_verdict.proofs.Fields.{Without, Above, lower, without, field_read, field_back, behind_read, line_from, line_to, IsOneLine, line_ends}
-use Rattle.bc_verdict.proofs.Forms.{at_same, form_read, form_back, form_above, number_above}
-use Rattle.bc_verdict.proofs.Names.{rules_read, rules_back, names_above}
+use Rattle.bc_verdict.proofs.Fields.{Without, without, field_read, field_back, behind_read, line_from, line_to, IsOneLine, line_ends}
+use Rattle.bc_verdict.proofs.Forms.{at_same, form_read, form_back, form_above, number_above, number_bytes, words_above}
+use Rattle.bc_verdict.proofs.Names.{rules_read, rules_back}
 use Rattle.bc_verdict.proofs.Roots.{root_begins}
-pub use Rattle.bc_verdict.proofs.Pieces.{code_read, code_back, pieces_ends}
+pub use Rattle.bc_verdict.proofs.Pieces.{code_read, code_back, code_ends}
 pub use Rattle.bc_verdict.proofs.Roots.{root_read, root_back, root_ends}
+pub use Rattle.bc_verdict.proofs.Written.{rule_is_name, rules_are_names, rules_field_is, node_ends}
 
 -- the header
 behind_byte_read : (b : ℕ) (text rest : List ℕ) → behind_byte b text ≡ Some rest → text ≡ b ∷ rest
@@ -78,9 +79,6 @@ behind_step o f b h k = let p = got o f b h in k p.0 p.1 p.2
 number_without : (n : ℕ) → IsNumber n → Without 32 (decimal n)
 number_without n h = without 32 32 (omega arith) (decimal n) (number_above 32 n (omega arith) h)
 
-number_bytes : (n : ℕ) → IsNumber n → Above 10 (decimal n)
-number_bytes n h = number_above 10 n (omega arith) h
-
 -- an entry's first line
 abbrev head_fields : Head → List (List ℕ)
 head_fields h = decimal h.segment ∷ decimal h.item ∷ decimal h.target ∷ decimal h.first ∷ decimal h.words ∷ []
@@ -125,8 +123,8 @@ entry_back l h r e =
     (then _ (small_back h.first r.first)
     (then _ (number_back h.words r.words) refl))))))))
 
-pub head_ends : (h : Head) → HeadHasRoom h → IsOneLine (head_line h)
-head_ends h r =
+pub entry_ends : (h : Head) → HeadHasRoom h → IsOneLine (head_line h)
+entry_ends h r =
     line_ends (69 ∷ []) (head_fields h) (
       (omega arith, tt),
       (number_bytes h.segment r.segment, (number_bytes h.item r.item, (number_bytes h.target (omega (arith, r.target)), (number_bytes h.first (omega (arith, r.first)), (number_bytes h.words r.words, tt))))),
@@ -142,8 +140,8 @@ end_read l n h =
 pub end_back : (l : List ℕ) (n : ℕ) → IsNumber n → l ++ 10 ∷ [] ≡ end_text n → end_line l ≡ Some n
 end_back l n r e = ap end_line (line_to l (90 ∷ []) (decimal n ∷ []) e) ∙ number_back n r
 
-pub last_ends : (n : ℕ) → IsNumber n → IsOneLine (end_text n)
-last_ends n h = line_ends (90 ∷ []) (decimal n ∷ []) ((omega arith, tt), (number_bytes n h, tt))
+pub end_ends : (n : ℕ) → IsNumber n → IsOneLine (end_text n)
+end_ends n h = line_ends (90 ∷ []) (decimal n ∷ []) ((omega arith, tt), (number_bytes n h, tt))
 
 -- a node line
 abbrev node_fields : Form → Costs → List Name → List (List ℕ)
@@ -208,10 +206,6 @@ pub record NodeBack (l : List ℕ) (s : ℕ) (f : Form) (c : Costs) (names : Lis
   pub costs : node.costs ≡ c
   pub rules : AreNamed names node.rules
 
-words_above : (o : Option ℕ) → IfSome o IsNumber → Above 32 (words_field o)
-words_above None h = (omega arith, tt)
-words_above (Some n) h = number_above 32 n (omega arith) h
-
 pub node_back : (l : List ℕ) (s : ℕ) (f : Form) (c : Costs) (names : List Name) → IsLevel s → FormIsSmall f → CostsHaveRoom c → AllByRecursion IsName names
     → l ++ 10 ∷ [] ≡ line (decimal s) (form_text f ∷ decimal c.any ∷ words_field c.push ∷ decimal c.on_false ∷ decimal c.on_true ∷ names_field names ∷ []) → NodeBack l s f c names
 node_back l s f c names h i r k e =
@@ -237,29 +231,6 @@ node_back l s f c names h i r k e =
       costs = refl;
       rules = rs.2;
     }
-
-pub node_ends : (s : ℕ) (f : Form) (c : Costs) (names : List Name) → IsLevel s → FormIsSmall f → CostsHaveRoom c → AllByRecursion IsName names
-    → IsOneLine (line (decimal s) (form_text f ∷ decimal c.any ∷ words_field c.push ∷ decimal c.on_false ∷ decimal c.on_true ∷ names_field names ∷ []))
-node_ends s f c names h i r k =
-    line_ends (decimal s) (node_fields f c names) (
-      number_bytes s (omega arith),
-      (
-        lower (form_text f) (form_above f i),
-        (
-          number_bytes c.any r.any,
-          (
-            lower (words_field c.push) (words_above c.push r.push),
-            (
-              number_bytes c.on_false r.on_false,
-              (
-                number_bytes c.on_true r.on_true,
-                (lower (names_field names) (names_above names k), tt),
-              ),
-            ),
-          ),
-        ),
-      ),
-    )
 
 -- lines of different kinds
 none_of : {A : Type 0} (o : Option A) → ((a : A) → ¬ (o ≡ Some a)) → o ≡ None

@@ -4,6 +4,7 @@ use Rattle.std.specs.List.{AllByRecursion}
 use Rattle.std.specs.Fmt.{decimal}
 use Rattle.std.proofs.lemmas.Bool.{eqb-true, and_parts}
 use Rattle.std.proofs.lemmas.Fmt.{decimal_digit}
+use Rattle.bc_core.specs.Tree.{Root}
 use Rattle.bc_derive.specs.declared.rule.Rule.{Rule}
 use Rattle.bc_derive.specs.declared.rule.Rule.TheVariants.{A1, A2, A3}
 use Rattle.bc_least.specs.Least.{rule_number}
@@ -13,7 +14,7 @@ use Rattle.bc_lines.specs.declared.lines.RootLine.TheVariants.{Value, Test, Assi
 use Rattle.bc_lines.specs.Fields.{behind, level}
 use Rattle.bc_lines.specs.Lines.{assigned, root_of, root_line}
 use Rattle.bc_verdict.specs.Entries.{IsLevel}
-use Rattle.bc_verdict.specs.Faults.{IsAssignment, first, second, third}
+use Rattle.bc_verdict.specs.Faults.{Grown, IsAssignment, first, second, third, RootOver, value, test, assign}
 use Rattle.bc_verdict.specs.Standing.{root_text, RootLineIsSmall}
 use Rattle.bc_verdict.proofs.Numbers.{got, chosen, passed, level_read, level_back}
 use Rattle.bc_verdict.proofs.Fields.{Above, joined, behind_read, line_from, line_to, IsOneLine, line_ends}
@@ -107,8 +108,13 @@ fields_above (Test true) h = ((omega arith, tt), tt)
 fields_above (Test false) h = ((omega arith, tt), tt)
 fields_above (Assign r s) h = (name_above r h.0, (number_above 10 s (omega arith) (omega (arith, h.1)), tt))
 
-pub root_ends : (r : RootLine) → RootLineIsSmall r → IsOneLine (root_text r)
-root_ends r h = subst IsOneLine (sym (root_fields_are r)) (line_ends (82 ∷ []) (root_fields r) ((omega arith, tt), fields_above r h))
+text_ends : (r : RootLine) → RootLineIsSmall r → IsOneLine (root_text r)
+text_ends r h = subst IsOneLine (sym (root_fields_are r)) (line_ends (82 ∷ []) (root_fields r) ((omega arith, tt), fields_above r h))
+
+pub root_ends : (ts : List Grown) (r : Root) (l : List ℕ) → RootOver ts r l → IsOneLine l
+root_ends ts r l value = text_ends Value tt
+root_ends ts r l (test {sense = sense}) = text_ends (Test sense) tt
+root_ends ts r l (assign {s = s} {r = rule} h i j k) = text_ends (Assign rule s) (h, i)
 
 pub root_begins : (r : RootLine) → (rest : List ℕ) × (root_text r ≡ 82 ∷ rest)
 root_begins Value = (_, refl)
