@@ -1,6 +1,16 @@
-pub mod Over
-pub mod Kept
-pub mod Parts
-pub mod Others
-pub mod TwoParts
-pub mod Pairs
+mod Over
+mod Kept
+mod Parts
+mod Others
+mod TwoParts
+mod Pairs
+mod Numbers
+mod Fields
+mod Forms
+mod Chains
+mod Names
+mod Items
+mod Pieces
+mod Roots
+mod Written
+mod Read
