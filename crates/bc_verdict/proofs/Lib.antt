@@ -1,8 +1,24 @@
-pub mod Results
-pub mod CodeSteps
-pub mod Keeping
-pub mod Sides
-pub mod RootSteps
-pub mod NodeParts
-pub mod NodeCosts
-pub mod NodeSteps
+mod Over
+mod Kept
+mod Parts
+mod Others
+mod TwoParts
+mod Pairs
+mod Numbers
+mod Fields
+mod Forms
+mod Chains
+mod Names
+mod Items
+mod Pieces
+mod Roots
+mod Written
+mod Read
+mod Results
+mod CodeSteps
+mod Keeping
+mod Sides
+mod RootSteps
+mod NodeParts
+mod NodeCosts
+mod NodeSteps
