@@ -34,16 +34,12 @@ use Rattle.bc_stack.specs.Stacks.{◌>>=◌, with_whole, Rooted}
 use Rattle.bc_verdict.specs.Entries.{PieceHasRoom, pieces_line, SamePiece}
 use Rattle.bc_verdict.specs.Faults.{Stage, code, judged, IsCode, LineFault, no_pieces, wrong_code, wrong_words}
 use Rattle.bc_verdict.specs.Judging.{State, between, same_item, same_piece, same_code, judged_with, code_against, against_right, right_of, code_fits, code_step}
+use Rattle.bc_verdict.proofs.Read.{code_read, code_back}
 use Rattle.bc_verdict.proofs.Results.{StandsBehind, ok_same, err_same, both_true, equal_true, equal_false, not_equal, at_most_true, at_most, not_at_most, at_most_false}
 
 -- what the checker keeps of a root, by its derivation
 abbrev pub rooted_by : {T : Table} {r : Root} → RootDerives T r → Rooted
 rooted_by {r = r} d = record { root = r; derivation = root_shape d; words = root_cost d }
-
--- the reader of code lines gives just what their texts say
-pub record ReadsCode : Type 0 where
-  pub read : (l : List ℕ) (ps : List Piece) → code_of_line l ≡ Some ps → AllByRecursion PieceHasRoom ps × (l ++ 10 ∷ [] ≡ pieces_line ps)
-  pub back : (l : List ℕ) (ps : List Piece) → AllByRecursion PieceHasRoom ps → l ++ 10 ∷ [] ≡ pieces_line ps → code_of_line l ≡ Some ps
 
 -- pieces that are the same
 number_itself : (n : ℕ) → nat_eq n n ≡ true
@@ -196,11 +192,11 @@ taken_so st next d h l p ps true true false room text i j k g = cc
 taken_so st next d h l p ps true false sums room text i j k g = cc
 taken_so st next d h l p ps false same sums room text i j k g = cc
 
-pub code_taken : ReadsCode → {T : Table} {r : Root} (st next : State) (d : RootDerives T r) (h : Head) (l : List ℕ) (p : Place) → st.table ≡ T → code_step h (rooted_by d) l p st ≡ Ok next → CodeTaken d h l st next
-code_taken reads st next d h l p t g = at (code_of_line l) refl where
+pub code_taken : {T : Table} {r : Root} (st next : State) (d : RootDerives T r) (h : Head) (l : List ℕ) (p : Place) → st.table ≡ T → code_step h (rooted_by d) l p st ≡ Ok next → CodeTaken d h l st next
+code_taken st next d h l p t g = at (code_of_line l) refl where
   at : (o : Option (List Piece)) → code_of_line l ≡ o → CodeTaken d h l st next
   at None k = let bad : ◌≡◌ {A = Result State CheckFault} (Err (faults.Line p.line)) (Ok next) = sym (unread st d h l p k) ∙ g in cc
-  at (Some ps) k = let text = reads.read l ps k in taken_so st next d h l p ps _ _ _ text.0 text.1 refl refl refl (sym (code_step_is st d h l p ps t k) ∙ g)
+  at (Some ps) k = let read = code_read l ps k in taken_so st next d h l p ps _ _ _ read.1 read.0 refl refl refl (sym (code_step_is st d h l p ps t k) ∙ g)
 
 -- and where it was not
 fault_so : {T : Table} {r : Root} (text : List ℕ) (js : List Judged) (st : State) (d : RootDerives T r) (h : Head) (l : List ℕ) (p : Place) (f : CheckFault) (ps : List Piece) (labels same sums : Bool) → p.entry ≡ length js → AllByRecursion PieceHasRoom ps
@@ -216,22 +212,22 @@ fault_so {T = T} {r = r} text js st d h l p f ps false same sums e room i j k g 
     subst (LineFault text (code T js h r d) (pieces_line ps)) (ap faults.WrongCode (sym e) ∙ err_same g)
     (wrong_code room (λ c. not_at_most _ _ i c.labels))
 
-pub code_fault : ReadsCode → {T : Table} {r : Root} (text : List ℕ) (js : List Judged) (n : ℕ) (st : State) (d : RootDerives T r) (h : Head) (l : List ℕ) (p : Place) (f : CheckFault) → StandsBehind text js n p → st.table ≡ T
+pub code_fault : {T : Table} {r : Root} (text : List ℕ) (js : List Judged) (n : ℕ) (st : State) (d : RootDerives T r) (h : Head) (l : List ℕ) (p : Place) (f : CheckFault) → StandsBehind text js n p → st.table ≡ T
     → code_step h (rooted_by d) l p st ≡ Err f → LineFault text (code T js h r d) (l ++ 10 ∷ []) f
-code_fault reads {T = T} {r = r} text js n st d h l p f stands t g = at (code_of_line l) refl where
+code_fault {T = T} {r = r} text js n st d h l p f stands t g = at (code_of_line l) refl where
   at : (o : Option (List Piece)) → code_of_line l ≡ o → LineFault text (code T js h r d) (l ++ 10 ∷ []) f
   at None k =
       subst (LineFault text (code T js h r d) (l ++ 10 ∷ [])) (ap faults.Line (sym stands.line) ∙ err_same (sym (unread st d h l p k) ∙ g))
-      (no_pieces (λ ps room i. let bad : ◌≡◌ {A = Option (List Piece)} None (Some ps) = sym k ∙ reads.back l ps room i in cc))
+      (no_pieces (λ ps room i. let bad : ◌≡◌ {A = Option (List Piece)} None (Some ps) = sym k ∙ code_back l ps room i in cc))
   at (Some ps) k =
-      let read = reads.read l ps k in
-      subst (λ m. LineFault text (code T js h r d) m f) (sym read.1) (fault_so text js st d h l p f ps _ _ _ stands.entry read.0 refl refl refl (sym (code_step_is st d h l p ps t k) ∙ g))
+      let read = code_read l ps k in
+      subst (λ m. LineFault text (code T js h r d) m f) (sym read.0) (fault_so text js st d h l p f ps _ _ _ stands.entry read.1 refl refl refl (sym (code_step_is st d h l p ps t k) ∙ g))
 
 -- a code line is taken where it is right
-pub code_made : ReadsCode → {T : Table} {r : Root} (st : State) (d : RootDerives T r) (h : Head) (l : List ℕ) (p : Place) (ps : List Piece) → st.table ≡ T → AllByRecursion PieceHasRoom ps → IsCode d h ps → root_cost d ≡ h.words
+pub code_made : {T : Table} {r : Root} (st : State) (d : RootDerives T r) (h : Head) (l : List ℕ) (p : Place) (ps : List Piece) → st.table ≡ T → AllByRecursion PieceHasRoom ps → IsCode d h ps → root_cost d ≡ h.words
     → l ++ 10 ∷ [] ≡ pieces_line ps → code_step h (rooted_by d) l p st ≡ Ok (next_of h d st ps)
-code_made reads st d h l p ps t room c w text =
-    code_step_is st d h l p ps t (reads.back l ps room text)
+code_made st d h l p ps t room c w text =
+    code_step_is st d h l p ps t (code_back l ps room text)
     ∙ all_true _ _ _ (at_most_true _ _ c.labels) (pieces_true ps (root_code d h.target h.first) c.same) (equal_true _ _ w) where
       all_true : (x y z : Bool) → x ≡ true → y ≡ true → z ≡ true → decided x y z p (next_of h d st ps) ≡ Ok (next_of h d st ps)
       all_true true true true i j k = refl
@@ -252,16 +248,16 @@ no_words_so true true true p st i j k = cc
 no_words_so true false sums p st i j k = cc
 no_words_so false same sums p st i j k = cc
 
-pub code_fails : ReadsCode → {T : Table} {r : Root} (text : List ℕ) (js : List Judged) (n : ℕ) (st : State) (d : RootDerives T r) (h : Head) (l m : List ℕ) (p : Place) (f : CheckFault) → StandsBehind text js n p → st.table ≡ T
+pub code_fails : {T : Table} {r : Root} (text : List ℕ) (js : List Judged) (n : ℕ) (st : State) (d : RootDerives T r) (h : Head) (l m : List ℕ) (p : Place) (f : CheckFault) → StandsBehind text js n p → st.table ≡ T
     → m ≡ l ++ 10 ∷ [] → LineFault text (code T js h r d) m f → code_step h (rooted_by d) l p st ≡ Err f
-code_fails reads text js n st d h l m p f stands t e (no_pieces none) =
+code_fails text js n st d h l m p f stands t e (no_pieces none) =
     unread st d h l p (at (code_of_line l) refl) ∙ ap (λ k. Err (faults.Line k)) stands.line where
       at : (o : Option (List Piece)) → code_of_line l ≡ o → code_of_line l ≡ None
       at None k = k
-      at (Some ps) k = let read = reads.read l ps k in absurd (none ps read.0 (e ∙ read.1))
-code_fails reads text js n st d h l m p f stands t e (wrong_code {ps = ps} room not_code) =
-    code_step_is st d h l p ps t (reads.back l ps room (sym e)) ∙ no_code_so d h p st ps _ _ _ refl refl not_code ∙ ap (λ k. Err (faults.WrongCode k)) stands.entry
-code_fails reads text js n st d h l m p f stands t e (wrong_words {ps = ps} room is not_words) =
-    code_step_is st d h l p ps t (reads.back l ps room (sym e))
+      at (Some ps) k = let read = code_read l ps k in absurd (none ps read.1 (e ∙ read.0))
+code_fails text js n st d h l m p f stands t e (wrong_code {ps = ps} room not_code) =
+    code_step_is st d h l p ps t (code_back l ps room (sym e)) ∙ no_code_so d h p st ps _ _ _ refl refl not_code ∙ ap (λ k. Err (faults.WrongCode k)) stands.entry
+code_fails text js n st d h l m p f stands t e (wrong_words {ps = ps} room is not_words) =
+    code_step_is st d h l p ps t (code_back l ps room (sym e))
     ∙ no_words_so _ _ _ p _ (at_most_true _ _ is.labels) (pieces_true ps (root_code d h.target h.first) is.same) (equal_false _ _ not_words)
     ∙ ap (λ k. Err (faults.WrongWords k)) stands.entry
