@@ -22,3 +22,4 @@ mod RootSteps
 mod NodeParts
 mod NodeCosts
 mod NodeSteps
+mod WithinSteps
