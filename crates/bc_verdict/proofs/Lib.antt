@@ -2,3 +2,8 @@ pub mod Over
 pub mod Kept
 pub mod Parts
 pub mod Others
+pub mod Taking
+pub mod TwoParts
+pub mod Pairs
+pub mod Begun
+pub mod Chained
