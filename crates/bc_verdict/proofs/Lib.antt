@@ -7,3 +7,4 @@ pub mod TwoParts
 pub mod Pairs
 pub mod Begun
 pub mod Chained
+pub mod Node

@@ -141,7 +141,7 @@ call_over T s ns ms ps es xs e (some {ns = us} {os = vs} {m = m} {ms = ns'} {p =
     let last : c.routine ≡ w.routine = cc in
     record { arguments = argument a c.arguments; routine = c.routine; is = ap (λ u. Call (argument a u) c.routine) args ∙ ap (λ u. Call (argument a w.arguments) u) last ∙ w.is; parts = next h c.parts }
 
-over_levelled : (T : Table) (s : ℕ) (form : Form) (ts : List Grown) (ms : List Mark) (ps : List Facts) (es : List Exp) (xs : List Tree) (e : Exp) → AllStand T ts ms ps es xs → levels_fit s form ms ≡ true → whole form es ≡ Some e → Over T s form (all_shown ts) ms ps xs e
+pub over_levelled : (T : Table) (s : ℕ) (form : Form) (ts : List Grown) (ms : List Mark) (ps : List Facts) (es : List Exp) (xs : List Tree) (e : Exp) → AllStand T ts ms ps es xs → levels_fit s form ms ≡ true → whole form es ≡ Some e → Over T s form (all_shown ts) ms ps xs e
 over_levelled T s (forms.Num n) ts ms ps es xs e h l k = leaf_over T s 0 (s + 0) _ _ ms ps es xs (Num n) e (levelled T 0 (s + 0) ts ms ps es xs h l) k num
 over_levelled T s (forms.Frame n) ts ms ps es xs e h l k = leaf_over T s 0 (s + 0) _ _ ms ps es xs (Frame n) e (levelled T 0 (s + 0) ts ms ps es xs h l) k frame
 over_levelled T s (forms.Glob n) ts ms ps es xs e h l k = leaf_over T s 0 (s + 0) _ _ ms ps es xs (Glob n) e (levelled T 0 (s + 0) ts ms ps es xs h l) k glob
