@@ -1,10 +1,10 @@
 -- The rules at a node, of any form: what the checker finds they make, and the derivations that begin with them.
-use Rattle.std.proofs.Common.{◌≡◌, ℕ, Bool, true, false, Option, Some, None, List, [], ◌∷◌, inl, inr, ◌⊎◌, refl, ap, sym, subst, ◌∙◌}
+use Rattle.std.proofs.Common.{◌≡◌, ℕ, true, Some, List, inl, inr, ◌⊎◌, refl, ap, sym, subst, ◌∙◌}
 use Rattle.bc_core.specs.Tree.{Exp, Frame, Glob, Place}
 use Rattle.bc_derive.specs.declared.rule.Table.{Table}
 use Rattle.bc_derive.specs.declared.rule.Aim.{Aim}
 use Rattle.bc_derive.specs.declared.rule.Rule.{Rule}
-use Rattle.bc_derive.specs.declared.rule.Rule.TheVariants.{V0, V1}
+use Rattle.bc_derive.specs.declared.rule.Rule.TheVariants.{V1}
 use Rattle.bc_derive.specs.Rules.{Derives, v0, v1, j6, Tree, shape}
 use Rattle.bc_derive.specs.Code.{cost}
 use Rattle.bc_least.specs.Least.{first_rule}

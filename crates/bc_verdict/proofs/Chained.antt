@@ -10,7 +10,7 @@ use Rattle.bc_derive.specs.declared.rule.Aim.TheVariants.{Gets, Jumps}
 use Rattle.bc_derive.specs.declared.rule.Rule.{Rule}
 use Rattle.bc_derive.specs.declared.rule.Rule.TheVariants.{V0, J1, J2, J3, J4, J5, J6, J7, J8, J9}
 use Rattle.bc_derive.specs.Free as free
-use Rattle.bc_derive.specs.Rules.{Derives, v0, v1, v2, v3, v4, v6, v7, v8, v9, v10, v11, v12, v13, v14, v15, v16, v17, v18, v19, v20, v21, v22, v22_valof, j1, j2, j3, j4, j5, j6, j7, j8, j9, Tree, by, one, shape}
+use Rattle.bc_derive.specs.Rules.{Derives, v0, v1, v2, v3, v4, v6, v7, v8, v9, v10, v11, j6, Tree, by, one, shape}
 use Rattle.bc_derive.specs.Code.{cost}
 use Rattle.bc_least.specs.Least.{rule_number, first_rule}
 use Rattle.bc_recipe.specs.declared.costs.Costs.{Costs}
@@ -28,11 +28,11 @@ use Rattle.bc_stack.specs.declared.mark.Mark.{Mark}
 use Rattle.bc_stack.specs.declared.mark.Shown as marks
 use Rattle.bc_stack.specs.Marks.{has_aim}
 use Rattle.bc_stack.specs.Derived.{derived, over_if as made_over}
-use Rattle.bc_stack.specs.Showing.{has_words, makes_by, makes, is_test, tested, tests, same_value, is_value, any_by, behind_value, shown_by}
+use Rattle.bc_stack.specs.Showing.{has_words, makes_by, makes, is_test, tested, tests, same_value, any_by, behind_value, shown_by}
 use Rattle.bc_stack.specs.Stacks.{second_zero}
 use Rattle.bc_entries.specs.Shown.{Shown, rules_of_value, rules_at, below, shown}
 use Rattle.bc_verdict.specs.Faults.{Grown, node}
-use Rattle.bc_verdict.specs.Standing.{over_if, chain_rules, IsChain, IsFewest, Shows, Begins, begun}
+use Rattle.bc_verdict.specs.Standing.{over_if, chain_rules, IsChain, IsFewest, Shows, begun}
 use Rattle.bc_verdict.proofs.Over.{Over}
 use Rattle.bc_verdict.proofs.Kept.{plain_of, last_is}
 use Rattle.bc_verdict.proofs.Parts.{some_same, counted_of, fewest_of}
@@ -308,10 +308,9 @@ module _ {T : Table} {s : ℕ} {form : Form} {ns : List Shown} {ms : List Mark} 
       let r = first_rule d in
       let g = begins_from o d (push_rules d) b f in
       let words : c.push ≡ Some (cost d s) = counted_of h d f in
-      let found : makes (node_at T s form e ps) ms r (Gets Push) c.push ≡ true = ap (λ x. makes (node_at T s form e ps) ms r (Gets Push) x) words ∙ g.0 in
-      (
+      let found : makes (node_at T s form e ps) ms r (Gets Push) c.push ≡ true = ap (λ x. makes (node_at T s form e ps) ms r (Gets Push) x) words ∙ g.0 in (
         ap (λ b. has_aim (cond b (tests (node_at T s form e ps) ms c r) (behind_value (node_at T s form e ps) c (any_by (node_at T s form e ps) ms c r false) (makes (node_at T s form e ps) ms r (Gets Push) c.push) false false)) (Gets Push)) (own_value r (push_own d))
-        ∙ and_from _ _ found refl,
+            ∙ and_from _ _ found refl,
         g.1,
       )
 
@@ -332,8 +331,7 @@ module _ {T : Table} {s : ℕ} {form : Form} {ns : List Shown} {ms : List Mark} 
       let g = begins_from o q (push_rules q) b low in
       let push : c.push ≡ Some (cost q s) = counted_of h q low in
       let any : Some c.any ≡ Some (cost q s) = counted_of h (v0 q) f in
-      let same : cost q s ≡ c.any = sym (some_same any) in
-      (
+      let same : cost q s ≡ c.any = sym (some_same any) in (
         and_from _ _ (ap (λ x. makes (node_at T s form e ps) ms (first_rule q) (Gets Push) x) push ∙ g.0) (ap (λ x. same_value x c.any) push ∙ eq-eqb (cost q s) c.any same),
         ap (λ t. by V0 (one t)) g.1,
       )
@@ -343,10 +341,9 @@ module _ {T : Table} {s : ℕ} {form : Form} {ns : List Shown} {ms : List Mark} 
   unfolding IsValued
   any_found d b f =
       let r = (value_chain d).rule in
-      let v = any_valued d (value_begins d) b f in
-      (
+      let v = any_valued d (value_begins d) b f in (
         ap (λ b. has_aim (cond b (tests (node_at T s form e ps) ms c r) (behind_value (node_at T s form e ps) c (any_by (node_at T s form e ps) ms c r (value_chain d).is_freed) (makes (node_at T s form e ps) ms r (Gets Push) c.push) false (value_chain d).is_freed)) (Gets Any)) (own_value r (any_own d))
-        ∙ v.0,
+            ∙ v.0,
         v.1,
       )
 
@@ -367,10 +364,9 @@ module _ {T : Table} {s : ℕ} {form : Form} {ns : List Shown} {ms : List Mark} 
       let v = any_valued d (value_begins d) b low in
       let any : Some c.any ≡ Some (cost d s) = counted_of h d low in
       let same : c.any + 2 ≡ cost d s + 2 = ap (λ n. n + 2) (some_same any) in
-      let words : cost_of (Jumps sense) c ≡ Some (cost d s + 2) = counted_of h (j6 {sense = sense} p d) f in
-      (
+      let words : cost_of (Jumps sense) c ≡ Some (cost d s + 2) = counted_of h (j6 {sense = sense} p d) f in (
         ap (λ b. has_aim (tested_aims r freed b) (Jumps sense)) (own_value r (any_own d))
-        ∙ tested_has r freed sense (cost d s + 2) words (and_from _ _ (and_from _ _ v.0 (plain_of o ∙ p)) (eq-eqb (c.any + 2) (cost d s + 2) same)),
+            ∙ tested_has r freed sense (cost d s + 2) words (and_from _ _ (and_from _ _ v.0 (plain_of o ∙ p)) (eq-eqb (c.any + 2) (cost d s + 2) same)),
         ap (λ t. by J6 (one t)) v.1,
       )
 
@@ -383,10 +379,9 @@ module _ {T : Table} {s : ℕ} {form : Form} {ns : List Shown} {ms : List Mark} 
   jump_alone {sense = sense} d i t b f =
       let r = first_rule d in
       let g = begins_from o d i b f in
-      let words : cost_of (Jumps sense) c ≡ Some (cost d s) = counted_of h d f in
-      (
+      let words : cost_of (Jumps sense) c ≡ Some (cost d s) = counted_of h d f in (
         ap (λ b. has_aim (cond b (tests (node_at T s form e ps) ms c r) (behind_value (node_at T s form e ps) c (any_by (node_at T s form e ps) ms c r false) (makes (node_at T s form e ps) ms r (Gets Push) c.push) false false)) (Jumps sense)) t
-        ∙ test_has r sense (ap (λ x. makes (node_at T s form e ps) ms r (Jumps sense) x) words ∙ g.0),
+            ∙ test_has r sense (ap (λ x. makes (node_at T s form e ps) ms r (Jumps sense) x) words ∙ g.0),
         g.1,
       )
 

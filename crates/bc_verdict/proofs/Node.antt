@@ -1,7 +1,7 @@
 -- A node line over the trees of its parts: the tree that it makes stands, or its rules are those of no derivation.
-use Rattle.std.proofs.Common.{◌≡◌, ℕ, Bool, true, false, cond, Option, Some, None, Result, Ok, Err, List, [], ◌∷◌, ◌++◌, map, inl, inr, refl, ap, sym, subst, ◌∙◌}
+use Rattle.std.proofs.Common.{◌≡◌, ℕ, Bool, true, false, cond, Option, Some, Result, Ok, Err, List, [], ◌∷◌, ◌++◌, map, inl, inr, refl, ap, sym, subst, ◌∙◌}
 use Rattle.std.specs.Prelude.{◌&&◌, ◌||◌}
-use Rattle.std.proofs.lemmas.Bool.{and_parts, and_from, or_cases, or_left, or_right}
+use Rattle.std.proofs.lemmas.Bool.{and_from, or_cases, or_left, or_right}
 use Rattle.bc_core.specs.Tree.{Exp}
 use Rattle.bc_certificate.specs.declared.check_fault.CheckFault.{CheckFault}
 use Rattle.bc_certificate.specs.declared.check_fault.CheckFault.TheVariants.{WrongRule}
@@ -19,7 +19,7 @@ use Rattle.bc_recipe.specs.Recipe.{facts_of}
 use Rattle.bc_recipe.specs.Parts.{AreLeast}
 use Rattle.bc_lines.specs.declared.chain.Chain.{Chain}
 use Rattle.bc_lines.specs.declared.chain.Rules.{Rules}
-use Rattle.bc_lines.specs.declared.chain.Rules.TheVariants.{Taken, Named, Wrong}
+use Rattle.bc_lines.specs.declared.chain.Rules.TheVariants.{Taken, Named}
 use Rattle.bc_lines.specs.declared.lines.NodeLine.{NodeLine}
 use Rattle.bc_lines.specs.Chains.{rule_named}
 use Rattle.bc_stack.specs.declared.mark.Mark.{Mark}
@@ -184,8 +184,7 @@ module _ {T : Table} {s : ℕ} {form : Form} {ns : List Shown} {ms : List Mark} 
       let none : [] ≡ rules = same_rules [] rules k in
       (subst (ShowsRules Taken) none no_rule, (nothing_shown, refl))
   accepted rs names rules k (named {c = ch} i) w p =
-      let sh = shown_by (node_at T s form e ps) ms c ch in
-      (
+      let sh = shown_by (node_at T s form e ps) ms c ch in (
         subst (ShowsRules (Named ch)) (same_rules (chain_rules ch) rules k) (by_chain i),
         (sh, ap (λ b. cond b (Ok sh) (Err (WrongRule p.entry p.node))) (named_stand ch rules k w)),
       )

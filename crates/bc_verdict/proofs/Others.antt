@@ -4,13 +4,13 @@ use Rattle.std.specs.Prelude.{◌&&◌, not}
 use Rattle.std.proofs.lemmas.Bool.{and_parts, and_from}
 use Rattle.bc_core.specs.declared.operands.Operand.{Operand}
 use Rattle.bc_core.specs.Operand.{operand_of}
-use Rattle.bc_core.specs.Tree.{Exp, Num, Load, Neg, Not, Cond, Call, Valof, Args, no_argument, argument, count}
+use Rattle.bc_core.specs.Tree.{Exp, Num, Load, Neg, Not, Cond, Call, Valof, Args, count}
 use Rattle.bc_derive.specs.declared.rule.Table.{Table}
 use Rattle.bc_derive.specs.declared.rule.Mode.TheVariants.{Any, Push}
 use Rattle.bc_derive.specs.declared.rule.Aim.{Aim}
 use Rattle.bc_derive.specs.declared.rule.Aim.TheVariants.{Gets, Jumps}
 use Rattle.bc_derive.specs.declared.rule.Rule.{Rule}
-use Rattle.bc_derive.specs.declared.rule.Rule.TheVariants.{V0, V1, V2, V3, V4, V20, V21, V22, J1, J6, J7}
+use Rattle.bc_derive.specs.declared.rule.Rule.TheVariants.{V1, V2, V3, V4, V20, V21, V22, J1, J6, J7}
 use Rattle.bc_derive.specs.Free.{jumps_at}
 use Rattle.bc_derive.specs.Piece.{w, operand_words}
 use Rattle.bc_derive.specs.Rules.{Derives, v0, v1, v2, v3, v4, v20, v21, v22, v22_valof, j1, j6, j7, DerivesAll, no_more, one_more, Tree, Trees, by, no_part, part, one, end_with, shape, shapes}
@@ -23,16 +23,16 @@ use Rattle.bc_recipe.specs.declared.form.Form.TheVariants as forms
 use Rattle.bc_recipe.specs.declared.recipe.Takes.TheVariants as takes
 use Rattle.bc_recipe.specs.Costs.{cost_of}
 use Rattle.bc_recipe.specs.Node.{Node, more_words, words_from, no_parts}
-use Rattle.bc_recipe.specs.Recipe.{words_of_operand, words_of_operand_of, of_operand, of_form, of_number, of_load, of_neg, of_not, of_cond, of_call, of_valof}
+use Rattle.bc_recipe.specs.Recipe.{words_of_operand, words_of_operand_of, of_operand, of_number, of_load, of_neg, of_not, of_cond, of_call, of_valof}
 use Rattle.bc_stack.specs.declared.mark.Mark.{Mark}
-use Rattle.bc_stack.specs.Marks.{has_aim, all_bare}
+use Rattle.bc_stack.specs.Marks.{all_bare}
 use Rattle.bc_stack.specs.Showing.{has_words, agree, makes_by, makes}
 use Rattle.bc_stack.specs.Derived.{trees}
 use Rattle.bc_entries.specs.Shown.{Shown, below_bare, rules_of_value, rules_at, below, all_shown, shown}
 use Rattle.bc_verdict.specs.Standing.{IsFewest, Begins, begun}
-use Rattle.bc_verdict.proofs.Over.{StandsAt, AreArguments, routine, next, Over, num, frame, glob, place, valof, load, neg, not as not_over, bin, choice, call}
+use Rattle.bc_verdict.proofs.Over.{StandsAt, AreArguments, routine, next, Over, num, valof, load, neg, not as not_over, choice, call}
 use Rattle.bc_verdict.proofs.Kept.{bare_to, bare_from, cut}
-use Rattle.bc_verdict.proofs.Parts.{shown_order, Part, part_to, Has, part_from, some_same, words_are, are_words}
+use Rattle.bc_verdict.proofs.Parts.{shown_order, part_to, part_from, some_same, words_are, are_words}
 
 abbrev pub node_at : Table → ℕ → Form → Exp → List Facts → Node
 node_at T s form e ps = record { table = T; level = s; form = form; operand = words_of_operand_of e; parts = ps }
@@ -79,10 +79,9 @@ operand_begins i (Jumps sense) k o g h = cc
 pub operand_makes : {T : Table} {s : ℕ} {form : Form} {ns : List Shown} {ms : List Mark} {ps : List Facts} {xs : List Tree} {e : Exp} {o : Operand} → Over T s form ns ms ps xs e → operand_of e ≡ Some o → below_bare e s ≡ ns
     → (makes (node_at T s form e ps) ms V1 (Gets Push) (Some (operand_words o)) ≡ true) × (by V1 no_part ≡ begun V1 ps xs)
 operand_makes {T = T} {s = s} {form = form} {ms = ms} {ps = ps} {e = e} {o = o} i g b =
-    let same : operand_words o + 0 ≡ operand_words o = omega arith in
-    (
+    let same : operand_words o + 0 ≡ operand_words o = omega arith in (
       ap (λ x. makes_by (node_at T s form e ps) ms (Some (operand_words o)) (of_operand (Gets Push) (words_of_operand x))) g
-      ∙ and_from _ _ (are_words _ _ (nothing_more s (operand_words o + 0) 0 ps ∙ ap Some same)) (agree_bare 0 ms ∙ bare_from i (sym b)),
+          ∙ and_from _ _ (are_words _ _ (nothing_more s (operand_words o + 0) 0 ps ∙ ap Some same)) (agree_bare 0 ms ∙ bare_from i (sym b)),
       refl,
     )
 
@@ -280,14 +279,14 @@ all_to {f = f} {l = l} (next {es = es} {ns = ns} {os = os} {p = p} {ps = ps} h i
       arguments = one_more d.derivation ds.arguments;
       routine = ds.routine;
       parts =
-        append_assoc (shown d.derivation l) (all_shown ds.arguments (l + 1)) (shown ds.routine (l + (1 + count es)))
-        ∙ both _ _ ns os d.shown (ap (λ n. all_shown ds.arguments (l + 1) ++ shown ds.routine n) (sym level) ∙ ds.parts);
+          append_assoc (shown d.derivation l) (all_shown ds.arguments (l + 1)) (shown ds.routine (l + (1 + count es)))
+          ∙ both _ _ ns os d.shown (ap (λ n. all_shown ds.arguments (l + 1) ++ shown ds.routine n) (sym level) ∙ ds.parts);
       words = λ k.
-        argument_words s at k _ p ps d.counted (some_parts i)
-        ∙ ds.words (k + (cost d.derivation l + w (s + 2 + at)))
-        ∙ ap (λ n. Some (all_cost ds.arguments (l + 1) + cost ds.routine n + (k + (cost d.derivation l + w (s + 2 + at))))) level
-        ∙ ap (λ n. Some (all_cost ds.arguments (l + 1) + cost ds.routine (l + (1 + count es)) + (k + (cost d.derivation l + n)))) held
-        ∙ ap Some (omega arith);
+          argument_words s at k _ p ps d.counted (some_parts i)
+          ∙ ds.words (k + (cost d.derivation l + w (s + 2 + at)))
+          ∙ ap (λ n. Some (all_cost ds.arguments (l + 1) + cost ds.routine n + (k + (cost d.derivation l + w (s + 2 + at))))) level
+          ∙ ap (λ n. Some (all_cost ds.arguments (l + 1) + cost ds.routine (l + (1 + count es)) + (k + (cost d.derivation l + n)))) held
+          ∙ ap Some (omega arith);
     }
 
 pub call_to : (n : ℕ) {T : Table} {es : Args} {f : Exp} {s : ℕ} {ns : List Shown} {ms : List Mark} {ps : List Facts} {xs : List Tree} → AreArguments T es f (s + 2) ns ms ps xs → (r : Rule) (aim : Aim) (k : ℕ)
@@ -324,11 +323,11 @@ all_from {T = T} {f = f} {l = l} (next {es = es} {ns = ns} {os = os} {p = p} {ps
     record {
       agrees = true_two _ _ o.agrees rest.agrees;
       counted = λ k.
-        argument_words s at k _ p ps o.counted (some_parts i)
-        ∙ rest.counted (k + (cost d l + w (s + 2 + at)))
-        ∙ ap (λ n. Some (all_cost ds (l + 1) + cost r n + (k + (cost d l + w (s + 2 + at))))) level
-        ∙ ap (λ n. Some (all_cost ds (l + 1) + cost r (l + (1 + count es)) + (k + (cost d l + n)))) held
-        ∙ ap Some (omega arith);
+          argument_words s at k _ p ps o.counted (some_parts i)
+          ∙ rest.counted (k + (cost d l + w (s + 2 + at)))
+          ∙ ap (λ n. Some (all_cost ds (l + 1) + cost r n + (k + (cost d l + w (s + 2 + at))))) level
+          ∙ ap (λ n. Some (all_cost ds (l + 1) + cost r (l + (1 + count es)) + (k + (cost d l + n)))) held
+          ∙ ap Some (omega arith);
       shapes = ap (λ t. part t (end_with (shapes ds) (shape r))) o.shape ∙ ap (λ ts. part x ts) rest.shapes;
     }
 
@@ -340,4 +339,3 @@ call_from n {s = s} h (v22 ds r) g b f =
     let o = all_from h s 0 (omega arith) ds r b (λ others other. let k = f (v22 others other) in omega arith) in
     (and_from _ _ (are_words _ _ (o.counted (w s))) o.agrees, ap (by V22) o.shapes)
 call_from n h (j6 k d) g b f = absurd (not_tested d g)
-

@@ -1,28 +1,19 @@
 -- A node over the trees of its parts, taken apart by its form.
-use Rattle.std.proofs.Common.{◌≡◌, ℕ, ◌+◌, ◌==◌, max, Bool, true, false, cond, Option, Some, None, List, [], ◌∷◌, ◌++◌, map, flat_map, refl, ap, sym, subst, ◌∙◌, arith, append-nil, append_assoc}
-use Rattle.std.specs.Prelude.{◌||◌}
+use Rattle.std.proofs.Common.{◌≡◌, ℕ, ◌+◌, ◌==◌, Bool, true, false, cond, Option, Some, None, List, [], ◌∷◌, ◌++◌, refl, ap, sym, subst, ◌∙◌, arith, append-nil, append_assoc}
 use Rattle.std.proofs.lemmas.Bool.{eqb-true}
 use Rattle.bc_word.specs.declared.operator.Op.{Op}
-use Rattle.bc_core.specs.Tree.{Exp, Num, Frame, Glob, Place, Load, Neg, Not, Bin, Cond, Call, Valof, Args, no_argument, argument, count}
-use Rattle.bc_core.specs.Value.{has_call}
+use Rattle.bc_core.specs.Tree.{Exp, Num, Frame, Glob, Place, Load, Neg, Not, Bin, Cond, Call, Valof, Args, no_argument, argument}
 use Rattle.bc_derive.specs.declared.rule.Table.{Table}
-use Rattle.bc_derive.specs.declared.rule.Rule.{Rule}
-use Rattle.bc_derive.specs.Free as free
 use Rattle.bc_derive.specs.Rules.{Tree}
-use Rattle.bc_least.specs.Nodes.{in_order, all_in_order}
 use Rattle.bc_recipe.specs.declared.facts.Facts.{Facts}
 use Rattle.bc_recipe.specs.declared.form.Form.{Form}
 use Rattle.bc_recipe.specs.declared.form.Form.TheVariants as forms
-use Rattle.bc_recipe.specs.Form.{calls_itself, is_plain}
 use Rattle.bc_lines.specs.declared.lines.NodeLine.{NodeLine}
 use Rattle.bc_stack.specs.declared.mark.Mark.{Mark}
-use Rattle.bc_stack.specs.Marks.{levels_from, levels_fit, depth_from, depth_over, all_bare}
-use Rattle.bc_stack.specs.Stacks.{any_calls}
+use Rattle.bc_stack.specs.Marks.{levels_from, levels_fit}
 use Rattle.bc_stack.specs.Wholes.{leaf, one_of, with_one, two_of, three_of, with_argument, called_of, whole}
-use Rattle.bc_entries.specs.Shown as shown
-use Rattle.bc_entries.specs.Shown.{Shown, ended, below_bare, bare}
-use Rattle.bc_verdict.specs.Entries.{nested, all_nested}
-use Rattle.bc_verdict.specs.Faults.{Grown, all_shown, node}
+use Rattle.bc_entries.specs.Shown.{Shown}
+use Rattle.bc_verdict.specs.Faults.{Grown, all_shown}
 use Rattle.bc_verdict.specs.Standing.{Stands, AllStand, IsOver}
 
 -- a tree with these lines stands
