@@ -2,7 +2,6 @@ pub mod Over
 pub mod Kept
 pub mod Parts
 pub mod Others
-pub mod Taking
 pub mod TwoParts
 pub mod Pairs
 pub mod Begun

@@ -1,10 +1,11 @@
 -- The rules of an operator, by what the lines of its two parts show.
-use Rattle.std.proofs.Common.{◌≡◌, ℕ, ◌+◌, ◌*◌, ◌≤◌, Bool, true, false, not, cond, Option, Some, None, List, [], ◌∷◌, ◌++◌, is_some, refl, ap, sym, subst, ◌∙◌, arith}
+use Rattle.std.proofs.Common.{◌≡◌, ℕ, ◌+◌, ◌*◌, Bool, true, false, cond, Option, Some, None, List, [], ◌∷◌, ◌++◌, is_some, refl, ap, sym, subst, ◌∙◌, arith}
 use Rattle.bc_word.specs.declared.operator.Op.{Op}
 use Rattle.bc_word.specs.declared.operator.Op.TheVariants.{Add, Subtract, Equal, NotEqual, And, Or}
 use Rattle.bc_word.specs.Words.{negated}
 use Rattle.bc_word.specs.Mirror.{mirror_of}
 use Rattle.bc_core.specs.Tree.{Exp, Num, Bin}
+use Rattle.bc_core.specs.Value.{has_call}
 use Rattle.bc_core.specs.Operand.{operand_of, constant_of}
 use Rattle.bc_derive.specs.declared.rule.Table.{Table}
 use Rattle.bc_derive.specs.declared.rule.Table.TheVariants.{One, Two}
@@ -23,17 +24,16 @@ use Rattle.bc_least.specs.Choices.{zero_number, has_tests_of_zero}
 use Rattle.bc_least.specs.Lower.{is_zero_is}
 use Rattle.bc_recipe.specs.declared.facts.Facts.{Facts}
 use Rattle.bc_recipe.specs.declared.form.Form.TheVariants as forms
-use Rattle.bc_recipe.specs.declared.recipe.Takes.TheVariants.{First, Second, InOrder, Turned}
+use Rattle.bc_recipe.specs.declared.recipe.Takes.TheVariants.{First, Second}
 use Rattle.bc_recipe.specs.declared.recipe.Recipe.{Recipe}
-use Rattle.bc_recipe.specs.Recipe.{recipe, value_of_two, test_of_two, without_zero, less_number, beside_zero, facts_of, only_at, where_so, adding, words_of_operand_of}
+use Rattle.bc_recipe.specs.Recipe.{recipe, value_of_two, test_of_two, without_zero, less_number, beside_zero, facts_of, where_so, words_of_operand_of}
 use Rattle.bc_recipe.specs.Node.{Node}
 use Rattle.bc_recipe.specs.Parts.{IsPart}
 use Rattle.bc_stack.specs.declared.mark.Mark.{Mark}
 use Rattle.bc_stack.specs.Showing.{makes}
 use Rattle.bc_entries.specs.Shown.{Shown, rules_of_value, rules_at, shown, below, bare}
-use Rattle.bc_verdict.specs.Standing.{IsFewest, Stands, Begins, begun}
-use Rattle.bc_verdict.proofs.Taking.{tree, is_tree}
-use Rattle.bc_core.specs.Value.{has_call}
+use Rattle.bc_verdict.specs.Standing.{IsFewest, Begins, begun}
+use Rattle.bc_verdict.proofs.Over.{StandsAt}
 use Rattle.bc_verdict.proofs.TwoParts.{TwoTrees, beside, tree_beside, over, Beside, Makes, never, made_so, made_at, made_with, with_made, so_made, parts_known, both_found, left_found, right_found, beside_found, both_taken, both_turned, left_taken, right_taken, beside_taken}
 
 number_is : (e : Exp) (n : ℕ) → constant_of e ≡ Some n → e ≡ Num n
@@ -53,11 +53,12 @@ second_table One h = never h
 second_table Two h = refl
 
 module _ (T : Table) (a b : Exp) (s : ℕ) (l k : List Shown) (two : TwoTrees T a b s l k) where
-  abbrev f : Facts
-  f = facts_of a (has_call a) two.left_costs
+  -- the facts of the parts
+  abbrev left_facts : Facts
+  left_facts = facts_of a (has_call a) two.left_costs
 
-  abbrev g : Facts
-  g = facts_of b (has_call b) two.right_costs
+  abbrev right_facts : Facts
+  right_facts = facts_of b (has_call b) two.right_costs
 
   abbrev BeginsWith : Op → Aim → Rule → ℕ → Type 0
   BeginsWith op aim r words = Begins T (Bin op a b) aim s r words (l ++ k)
@@ -70,7 +71,7 @@ module _ (T : Table) (a b : Exp) (s : ℕ) (l k : List Shown) (two : TwoTrees T 
   zeros : (z u : Bool) (p : Aim) (j words : ℕ) → z ≡ is_zero b → Beside T a b s (l ++ k) z u p j words → Beside T a b s (l ++ k) (is_zero b) u p j words
   zeros z u p j words e h = subst (λ z. Beside T a b s (l ++ k) z u p j words) e h
 
-  beside_to : (op : Op) (p : Aim) (j words : ℕ) → Makes T a b s l k two op words (beside_zero f g p j) → Beside T a b s (l ++ k) (is_zero b) (is_zero a) p j words
+  beside_to : (op : Op) (p : Aim) (j words : ℕ) → Makes T a b s l k two op words (beside_zero left_facts right_facts p j) → Beside T a b s (l ++ k) (is_zero b) (is_zero a) p j words
   beside_to op p j words h =
       let o = beside_taken T a b s l k two op words (zero_number (constant_of b)) (zero_number (constant_of a)) p j h in
       subst (λ u. Beside T a b s (l ++ k) (is_zero b) u p j words) (is_zero_is a) (zeros _ _ p j words (is_zero_is b) o)
@@ -84,7 +85,7 @@ module _ (T : Table) (a b : Exp) (s : ℕ) (l k : List Shown) (two : TwoTrees T 
       zeros _ false p j words (is_zero_is b)
       (beside_taken T a b s l k two op words (zero_number (constant_of b)) false p j (subst (Makes T a b s l k two op words) (so_is (zero_number (constant_of b)) (recipe (First p) j)) h))
 
-  zero_to : (op : Op) (m : Mode) (words : ℕ) → Makes T a b s l k two op words (without_zero op f g (Gets m)) → BeginsWith op (Gets m) V8 words
+  zero_to : (op : Op) (m : Mode) (words : ℕ) → Makes T a b s l k two op words (without_zero op left_facts right_facts (Gets m)) → BeginsWith op (Gets m) V8 words
   zero_to Add m words h = let q = beside_to Add (Gets m) 0 words h in record { derivation = v8 q.is q.derivation; first = refl; counted = omega (arith, q.counted); parts = q.parts }
   zero_to Subtract m words h = let q = left_to Subtract (Gets m) 0 words h in record { derivation = v8 q.is q.derivation; first = refl; counted = omega (arith, q.counted); parts = q.parts }
   zero_to op m words h = never h
@@ -98,7 +99,7 @@ module _ (T : Table) (a b : Exp) (s : ℕ) (l k : List Shown) (two : TwoTrees T 
       let P : Exp → Type 0 = λ c. Begins T (Bin Subtract a c) (Gets m) s V9 words (l ++ k) in
       subst P (sym is) (record { derivation = v9 {n = n} q.left; first = refl; counted = q.counted; parts = ap (λ c. shown q.left (s + 1) ++ bare c (s + 1)) (sym is) ∙ q.parts })
 
-  value_to : (op : Op) (r : Rule) (m : Mode) (words : ℕ) → Makes T a b s l k two op words (value_of_two r m op s f g) → BeginsWith op (Gets m) r words
+  value_to : (op : Op) (r : Rule) (m : Mode) (words : ℕ) → Makes T a b s l k two op words (value_of_two r m op s left_facts right_facts) → BeginsWith op (Gets m) r words
   value_to op V6 m words h =
       let o = made_at T a b s l k two op words Add _ h in
       let p = made_with T a b s l k two op words (operand_of b) _ _ o.1 in
@@ -159,7 +160,7 @@ module _ (T : Table) (a b : Exp) (s : ℕ) (l k : List Shown) (two : TwoTrees T 
   value_to op r Any words h = never h
   value_to op r Push words h = never h
 
-  test_to : (op : Op) (r : Rule) (sense : Bool) (words : ℕ) → Makes T a b s l k two op words (test_of_two r T sense op f g) → BeginsWith op (Jumps sense) r words
+  test_to : (op : Op) (r : Rule) (sense : Bool) (words : ℕ) → Makes T a b s l k two op words (test_of_two r T sense op left_facts right_facts) → BeginsWith op (Jumps sense) r words
   test_to op J2 false words h =
       let o = made_at T a b s l k two op words And _ h in
       let q = both_taken T a b s l k two op words _ _ _ o.1 in
@@ -203,14 +204,14 @@ module _ (T : Table) (a b : Exp) (s : ℕ) (l k : List Shown) (two : TwoTrees T 
   Dropped op words z r t = Makes T a b s l k two op words r × (one t ≡ tree_beside T a b s l k two op words z)
 
   beside_from : (op : Op) (p : Aim) (j words : ℕ) (e : Exp) → beside_zero_of a b ≡ Some e → (d : Derives T e p) → cond (is_zero b) (shown d (s + 1) ++ bare b (s + 1)) (bare a (s + 1) ++ shown d (s + 1)) ≡ l ++ k
-      → IsFewest d (s + 1) → cost d (s + 1) + j ≡ words → Dropped op words (zero_number (constant_of b)) (beside_zero f g p j) (shape d)
+      → IsFewest d (s + 1) → cost d (s + 1) + j ≡ words → Dropped op words (zero_number (constant_of b)) (beside_zero left_facts right_facts p j) (shape d)
   beside_from op p j words e i d h low c =
       let q = beside_found T a b s l k two op words (is_zero b) (is_zero a) p j e i d h low c in
       let P : Bool → Bool → Type 0 = λ z u. Dropped op words z (beside T a b s l k two op words z u p j) (shape d) in
       subst (λ z. P z (zero_number (constant_of a))) (sym (is_zero_is b)) (subst (λ u. P (is_zero b) u) (sym (is_zero_is a)) q)
 
   zero_from : (op : Op) (m : Mode) (words : ℕ) (e : Exp) → without_zero_of op a b ≡ Some e → (d : Derives T e (Gets m)) → cond (is_zero b) (shown d (s + 1) ++ bare b (s + 1)) (bare a (s + 1) ++ shown d (s + 1)) ≡ l ++ k
-      → IsFewest d (s + 1) → cost d (s + 1) + 0 ≡ words → Dropped op words (zero_number (constant_of b)) (without_zero op f g (Gets m)) (shape d)
+      → IsFewest d (s + 1) → cost d (s + 1) + 0 ≡ words → Dropped op words (zero_number (constant_of b)) (without_zero op left_facts right_facts (Gets m)) (shape d)
   zero_from Add m words e i d h low c = beside_from Add (Gets m) 0 words e i d h low c
   zero_from Subtract m words e i d h low c =
       let q = beside_found T a b s l k two Subtract words (is_zero b) false (Gets m) 0 e i d h low c in
@@ -301,21 +302,30 @@ rule_from {T = T} (j9 {a = a} {b = b} {c = c} {sense = sense} t e d) s l k two a
 both_known : (T : Table) (a b : Exp) (s : ℕ) (p q : Facts) → IsPart T a (s + 1) p → IsPart T b (s + 1) q → facts_of a (has_call a) p.costs ∷ facts_of b (has_call b) q.costs ∷ [] ≡ p ∷ q ∷ []
 both_known T a b s p q h i = ap (λ f. f ∷ facts_of b (has_call b) q.costs ∷ []) (sym h.facts) ∙ ap (λ g. p ∷ g ∷ []) (sym i.facts)
 
-abbrev two_trees : {T : Table} {a b c e : Exp} {s : ℕ} {l k : List Shown} {m n : Mark} {p q : Facts} {x y : Tree} → Stands T (tree a (s + 1) l) m p c x → Stands T (tree b (s + 1) k) n q e y → TwoTrees T a b s l k
-two_trees {m = m} {n = n} {p = p} {q = q} {x = x} {y = y} h i = record { left_mark = m; right_mark = n; left_costs = p.costs; right_costs = q.costs; left_tree = x; right_tree = y; left = is_tree h; right = is_tree i }
+abbrev two_trees : {T : Table} {a b : Exp} {s : ℕ} {l k : List Shown} {m n : Mark} {p q : Facts} {x y : Tree} → StandsAt T a (s + 1) l m p x → StandsAt T b (s + 1) k n q y → TwoTrees T a b s l k
+two_trees {T = T} {a = a} {b = b} {s = s} {l = l} {k = k} {m = m} {n = n} {p = p} {q = q} {x = x} {y = y} h i = record {
+  left_mark = m;
+  right_mark = n;
+  left_costs = p.costs;
+  right_costs = q.costs;
+  left_tree = x;
+  right_tree = y;
+  left = subst (λ f. StandsAt T a (s + 1) l m f x) h.part.facts h;
+  right = subst (λ f. StandsAt T b (s + 1) k n f y) i.part.facts i;
+}
 
 abbrev pub pair_node : Table → Op → Exp → Exp → ℕ → List Facts → Node
 pair_node T op a b s ps = record { table = T; level = s; form = forms.Bin op; operand = words_of_operand_of (Bin op a b); parts = ps }
 
 -- a rule that the checker finds begins a derivation
-pub pair_to : {T : Table} {op : Op} {a b c e : Exp} {s : ℕ} {l k : List Shown} {m n : Mark} {p q : Facts} {x y : Tree} → Stands T (tree a (s + 1) l) m p c x → Stands T (tree b (s + 1) k) n q e y
+pub pair_to : {T : Table} {op : Op} {a b : Exp} {s : ℕ} {l k : List Shown} {m n : Mark} {p q : Facts} {x y : Tree} → StandsAt T a (s + 1) l m p x → StandsAt T b (s + 1) k n q y
     → (r : Rule) (aim : Aim) (words : ℕ) → ¬ (r ≡ V1) → makes (pair_node T op a b s (p ∷ q ∷ [])) (m ∷ n ∷ []) r aim (Some words) ≡ true → Begins T (Bin op a b) aim s r words (l ++ k)
 pair_to {T = T} {op = op} {a = a} {b = b} {s = s} {l = l} {k = k} {m = m} {n = n} {p = p} {q = q} h i r aim words other g =
     let P : List Facts → Type 0 = λ ps. makes (pair_node T op a b s ps) (m ∷ n ∷ []) r aim (Some words) ≡ true in
     rule_to T a b s l k (two_trees h i) op r aim words other (subst P (sym (both_known T a b s p q h.part i.part)) g)
 
 -- and of a derivation of least words that shows the lines of the parts the checker finds the rule
-pub pair_from : {T : Table} {op : Op} {a b c e : Exp} {s : ℕ} {l k : List Shown} {m n : Mark} {p q : Facts} {x y : Tree} {aim : Aim} → Stands T (tree a (s + 1) l) m p c x → Stands T (tree b (s + 1) k) n q e y
+pub pair_from : {T : Table} {op : Op} {a b : Exp} {s : ℕ} {l k : List Shown} {m n : Mark} {p q : Facts} {x y : Tree} {aim : Aim} → StandsAt T a (s + 1) l m p x → StandsAt T b (s + 1) k n q y
     → (d : Derives T (Bin op a b) aim) → rules_at d ≡ first_rule d ∷ [] → ¬ (first_rule d ≡ V1) → below d s ≡ l ++ k → IsFewest d s
     → (makes (pair_node T op a b s (p ∷ q ∷ [])) (m ∷ n ∷ []) (first_rule d) aim (Some (cost d s)) ≡ true) × (shape d ≡ begun (first_rule d) (p ∷ q ∷ []) (x ∷ y ∷ []))
 pair_from {T = T} {op = op} {a = a} {b = b} {s = s} {l = l} {k = k} {m = m} {n = n} {p = p} {q = q} {x = x} {y = y} {aim = aim} h i d alone other g low =

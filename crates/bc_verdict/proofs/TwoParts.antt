@@ -1,5 +1,5 @@
 -- What a rule of an operator takes of its two parts, and what a derivation that shows their lines has.
-use Rattle.std.proofs.Common.{◌≡◌, ℕ, ◌+◌, ◌≤◌, ◌==◌, ◌&&◌, Bool, true, false, cond, Option, Some, None, List, [], ◌∷◌, ◌++◌, refl, ap, sym, subst, ◌∙◌, arith}
+use Rattle.std.proofs.Common.{◌≡◌, ℕ, ◌+◌, ◌==◌, ◌&&◌, Bool, true, false, cond, Option, Some, None, List, [], ◌∷◌, ◌++◌, refl, ap, sym, subst, ◌∙◌, arith}
 use Rattle.std.proofs.lemmas.Bool.{eqb-true, and_parts, eq-eqb}
 use Rattle.bc_word.specs.declared.operator.Op.{Op}
 use Rattle.bc_word.specs.declared.operator.Op.TheVariants as operators
@@ -19,17 +19,17 @@ use Rattle.bc_recipe.specs.declared.form.Form.TheVariants as forms
 use Rattle.bc_recipe.specs.declared.recipe.Takes.{Takes}
 use Rattle.bc_recipe.specs.declared.recipe.Takes.TheVariants.{First, Second, InOrder, Turned}
 use Rattle.bc_recipe.specs.declared.recipe.Recipe.{Recipe}
-use Rattle.bc_recipe.specs.Costs.{cost_of}
 use Rattle.bc_recipe.specs.Recipe.{facts_of, recipe, adding, where_so, only_at, words_of_operand, words_of_operand_of}
 use Rattle.bc_recipe.specs.Node.{Node, more_words}
 use Rattle.bc_lines.specs.Lines.{op_numbered}
 use Rattle.bc_stack.specs.declared.mark.Mark.{Mark}
-use Rattle.bc_stack.specs.Marks.{has_aim}
 use Rattle.bc_stack.specs.Derived.{other_part, taken, trees}
 use Rattle.bc_stack.specs.Showing.{has_words, makes_by}
 use Rattle.bc_entries.specs.Shown.{Shown, shown, bare}
 use Rattle.bc_verdict.specs.Standing.{IsFewest}
-use Rattle.bc_verdict.proofs.Taking.{Part, Kept, IsTree, order_is, cut_front, cut_end}
+use Rattle.bc_verdict.proofs.Over.{StandsAt}
+use Rattle.bc_verdict.proofs.Kept.{bare_order, cut}
+use Rattle.bc_verdict.proofs.Parts.{shown_order, part_to, part_from}
 
 -- operators have numbers of their own
 numbered : (op : Op) → op_numbered (number_of op) ≡ Some op
@@ -99,8 +99,8 @@ pub record TwoTrees (T : Table) (a b : Exp) (s : ℕ) (l k : List Shown) : Type 
   pub right_costs : Costs
   pub left_tree : Tree
   pub right_tree : Tree
-  pub left : IsTree T a (s + 1) l left_mark left_costs left_tree
-  pub right : IsTree T b (s + 1) k right_mark right_costs right_tree
+  pub left : StandsAt T a (s + 1) l left_mark (facts_of a (has_call a) left_costs) left_tree
+  pub right : StandsAt T b (s + 1) k right_mark (facts_of b (has_call b) right_costs) right_tree
 
 -- a rule takes both parts, or one of them and the other as it stands
 pub record Both (T : Table) (a b : Exp) (s : ℕ) (l : List Shown) (p q : Aim) (j words : ℕ) : Type 0 where
@@ -169,9 +169,9 @@ module _ (T : Table) (a b : Exp) (s : ℕ) (l k : List Shown) (two : TwoTrees T 
     both_taken p q j h =
         let w = and_parts _ _ h in
         let fit = both_fit _ _ w.1 in
-        let x = two.left.part p fit.0 in
-        let y = two.right.part q fit.1 in
-        record { left = x.derivation; right = y.derivation; parts = joined _ _ _ _ (sym x.shown) (sym y.shown); counted = stated _ _ words (both_summed _ _ _ _ j x.counted y.counted) w.0 }
+        let x = part_to two.left p fit.0 in
+        let y = part_to two.right q fit.1 in
+        record { left = x.derivation; right = y.derivation; parts = joined _ _ _ _ x.shown y.shown; counted = stated _ _ words (both_summed _ _ _ _ j x.counted y.counted) w.0 }
 
     pub both_turned : (p q : Aim) (j : ℕ) → Makes op words (recipe (Turned p q) j) → Both T a b s (l ++ k) p q j words
     both_turned p q j h = both_taken p q j h
@@ -180,36 +180,36 @@ module _ (T : Table) (a b : Exp) (s : ℕ) (l k : List Shown) (two : TwoTrees T 
     left_taken p j h =
         let w = and_parts _ _ h in
         let fit = both_fit _ _ w.1 in
-        let x = two.left.part p fit.0 in
-        record { left = x.derivation; parts = joined _ _ _ _ (sym x.shown) (sym (two.right.bare_to fit.1)); counted = stated _ _ words (first_summed _ _ j x.counted) w.0 }
+        let x = part_to two.left p fit.0 in
+        record { left = x.derivation; parts = joined _ _ _ _ x.shown (sym (two.right.bare_to fit.1)); counted = stated _ _ words (first_summed _ _ j x.counted) w.0 }
 
     pub right_taken : (p : Aim) (j : ℕ) → Makes op words (recipe (Second p) j) → OnRight T a b s (l ++ k) p j words
     right_taken p j h =
         let w = and_parts _ _ h in
         let fit = both_fit _ _ w.1 in
-        let y = two.right.part p fit.1 in
-        record { right = y.derivation; parts = joined _ _ _ _ (sym (two.left.bare_to fit.0)) (sym y.shown); counted = stated _ _ words (second_summed _ _ j y.counted) w.0 }
+        let y = part_to two.right p fit.1 in
+        record { right = y.derivation; parts = joined _ _ _ _ (sym (two.left.bare_to fit.0)) y.shown; counted = stated _ _ words (second_summed _ _ j y.counted) w.0 }
 
     -- and what is kept of the parts of a derivation that shows their lines
     pub both_found : (p q : Aim) (j : ℕ) (d : Derives T a p) (e : Derives T b q) → shown d (s + 1) ++ shown e (s + 1) ≡ l ++ k → IsFewest d (s + 1) → IsFewest e (s + 1) → cost d (s + 1) + cost e (s + 1) + j ≡ words
         → Makes op words (recipe (InOrder p q) j) × (shape d ≡ two.left_tree) × (shape e ≡ two.right_tree)
     both_found p q j d e h f g w =
-        let at = cut_front _ _ _ _ (order_is p d (s + 1) ∙ sym two.left.order) h in
-        let x = two.left.kept p d at.0 f in
-        let y = two.right.kept q e at.1 g in
-        (fit_both _ _ _ (stating _ _ words (both_summed _ _ _ _ j x.counted y.counted) w) x.has y.has, x.shape, y.shape)
+        let at = cut _ _ _ _ (shown_order p d (s + 1) ∙ sym two.left.order) h in
+        let x = part_from two.left d at.0 f in
+        let y = part_from two.right e at.1 g in
+        (fit_both _ _ _ (stating _ _ words (both_summed _ _ _ _ j x.counted y.counted) w) x.agrees y.agrees, x.shape, y.shape)
 
     pub left_found : (p : Aim) (j : ℕ) (d : Derives T a p) → shown d (s + 1) ++ bare b (s + 1) ≡ l ++ k → IsFewest d (s + 1) → cost d (s + 1) + j ≡ words → Makes op words (recipe (First p) j) × (shape d ≡ two.left_tree)
     left_found p j d h f w =
-        let at = cut_front _ _ _ _ (order_is p d (s + 1) ∙ sym two.left.order) h in
-        let x = two.left.kept p d at.0 f in
-        (fit_both _ _ _ (stating _ _ words (first_summed _ _ j x.counted) w) x.has (two.right.bare_from (sym at.1)), x.shape)
+        let at = cut _ _ _ _ (shown_order p d (s + 1) ∙ sym two.left.order) h in
+        let x = part_from two.left d at.0 f in
+        (fit_both _ _ _ (stating _ _ words (first_summed _ _ j x.counted) w) x.agrees (two.right.bare_from (sym at.1)), x.shape)
 
     pub right_found : (p : Aim) (j : ℕ) (d : Derives T b p) → bare a (s + 1) ++ shown d (s + 1) ≡ l ++ k → IsFewest d (s + 1) → cost d (s + 1) + j ≡ words → Makes op words (recipe (Second p) j) × (shape d ≡ two.right_tree)
     right_found p j d h f w =
-        let at = cut_end _ _ _ _ (order_is p d (s + 1) ∙ sym two.right.order) h in
-        let y = two.right.kept p d at.1 f in
-        (fit_both _ _ _ (stating _ _ words (second_summed _ _ j y.counted) w) (two.left.bare_from (sym at.0)) y.has, y.shape)
+        let at = cut _ _ _ _ (bare_order a (s + 1) ∙ sym two.left.order) h in
+        let y = part_from two.right d at.1 f in
+        (fit_both _ _ _ (stating _ _ words (second_summed _ _ j y.counted) w) (two.left.bare_from (sym at.0)) y.agrees, y.shape)
 
     -- of the part beside a 0
     abbrev pub beside : (z u : Bool) → Aim → ℕ → Option Recipe
