@@ -33,9 +33,10 @@ use Rattle.bc_stack.specs.Stacks.{second_zero}
 use Rattle.bc_entries.specs.Shown.{Shown, rules_of_value, rules_at, below, shown}
 use Rattle.bc_verdict.specs.Faults.{Grown, node}
 use Rattle.bc_verdict.specs.Standing.{over_if, chain_rules, IsChain, IsFewest, Shows, begun}
-use Rattle.bc_verdict.proofs.Over.{Over}
+use Rattle.bc_verdict.proofs.Over.{some_same, Over}
 use Rattle.bc_verdict.proofs.Kept.{plain_of, last_is}
-use Rattle.bc_verdict.proofs.Parts.{some_same, counted_of, fewest_of}
+use Rattle.bc_verdict.proofs.Parts.{counted_of, fewest_of}
+use Rattle.bc_verdict.proofs.TwoParts.{never}
 use Rattle.bc_verdict.proofs.Others.{node_at, Alone}
 use Rattle.bc_verdict.proofs.Begun.{begins_to, begins_from}
 
@@ -60,21 +61,18 @@ any_rules : {T : Table} {e : Exp} (d : Derives T e (Gets Any)) → rules_of_valu
 any_rules (v0 d) = refl
 any_rules d = refl
 
-never : false ≡ true → ⊥
-never h = cc
-
 -- rules of tests have another letter
 test_letter : (r : Rule) → is_test r ≡ true → letter_of r ≡ 86 → ⊥
-test_letter J1 h g = absurd (never (ap (λ n. n == 86) g))
-test_letter J2 h g = absurd (never (ap (λ n. n == 86) g))
-test_letter J3 h g = absurd (never (ap (λ n. n == 86) g))
-test_letter J4 h g = absurd (never (ap (λ n. n == 86) g))
-test_letter J5 h g = absurd (never (ap (λ n. n == 86) g))
-test_letter J6 h g = absurd (never (ap (λ n. n == 86) g))
-test_letter J7 h g = absurd (never (ap (λ n. n == 86) g))
-test_letter J8 h g = absurd (never (ap (λ n. n == 86) g))
-test_letter J9 h g = absurd (never (ap (λ n. n == 86) g))
-test_letter r h g = absurd (never h)
+test_letter J1 h g = never (ap (λ n. n == 86) g)
+test_letter J2 h g = never (ap (λ n. n == 86) g)
+test_letter J3 h g = never (ap (λ n. n == 86) g)
+test_letter J4 h g = never (ap (λ n. n == 86) g)
+test_letter J5 h g = never (ap (λ n. n == 86) g)
+test_letter J6 h g = never (ap (λ n. n == 86) g)
+test_letter J7 h g = never (ap (λ n. n == 86) g)
+test_letter J8 h g = never (ap (λ n. n == 86) g)
+test_letter J9 h g = never (ap (λ n. n == 86) g)
+test_letter r h g = never h
 
 -- no rule makes a derivation where there are no words
 none_has : (x : Option ℕ) → has_words x None ≡ true → ⊥
@@ -127,7 +125,7 @@ unfolding is_own
 own_letter letter n r h = eqb-true _ _ (first_true (letter_of r == letter) (cond (rule_number r == n) false true) h) where
   first_true : (b c : Bool) → cond b c false ≡ true → b ≡ true
   first_true true c h = refl
-  first_true false c h = absurd (never h)
+  first_true false c h = never h
 
 push_own : {T : Table} {e : Exp} (d : Derives T e (Gets Push)) → is_own 86 0 (first_rule d) ≡ true
 unfolding is_own
@@ -141,15 +139,15 @@ any_own d = refl
 
 own_value : (r : Rule) → is_own 86 0 r ≡ true → is_test r ≡ false
 unfolding is_own
-own_value J1 h = absurd (never h)
-own_value J2 h = absurd (never h)
-own_value J3 h = absurd (never h)
-own_value J4 h = absurd (never h)
-own_value J5 h = absurd (never h)
-own_value J6 h = absurd (never h)
-own_value J7 h = absurd (never h)
-own_value J8 h = absurd (never h)
-own_value J9 h = absurd (never h)
+own_value J1 h = never h
+own_value J2 h = never h
+own_value J3 h = never h
+own_value J4 h = never h
+own_value J5 h = never h
+own_value J6 h = never h
+own_value J7 h = never h
+own_value J8 h = never h
+own_value J9 h = never h
 own_value r h = refl
 
 value_is_chain : (is_tested is_freed : Bool) (r : Rule) → is_own 86 0 r ≡ true → IsChain (record { is_tested = is_tested; is_freed = is_freed; rule = r })
@@ -164,8 +162,8 @@ value_is_chain t f r h = record {
 test_is_chain : (r : Rule) → is_own 74 6 r ≡ true → IsChain (alone r)
 unfolding is_own
 test_is_chain r h = record {
-  tested = λ g. absurd (never g);
-  freed = λ g. absurd (never g);
+  tested = λ g. never g;
+  freed = λ g. never g;
   not_freed_again = λ g. never (sym (ap (λ q. is_own 74 6 q) g) ∙ h);
   not_tested_again = λ g. never (sym (ap (λ q. is_own 74 6 q) g) ∙ h);
 }
@@ -243,7 +241,7 @@ module _ {T : Table} {s : ℕ} {form : Form} {ns : List Shown} {ms : List Mark} 
     counted : cost derivation s ≡ c.any
 
   pushed_words : (x : Option ℕ) (r : Rule) → makes (node_at T s form e ps) ms r (Gets Push) x && same_value x c.any ≡ true → makes (node_at T s form e ps) ms r (Gets Push) (Some c.any) ≡ true
-  pushed_words None r g = absurd (never (and_parts _ _ g).1)
+  pushed_words None r g = never (and_parts _ _ g).1
   pushed_words (Some k) r g = let f = and_parts _ _ g in subst (λ n. makes (node_at T s form e ps) ms r (Gets Push) (Some n) ≡ true) (eqb-true k c.any f.1) f.0
 
   valued : (r : Rule) (freed : Bool) → any_by (node_at T s form e ps) ms c r freed ≡ true → Valued r freed
@@ -280,7 +278,7 @@ module _ {T : Table} {s : ℕ} {form : Form} {ns : List Shown} {ms : List Mark} 
   value_shows r false freed (Gets Any) g =
       let v = valued r freed g in
       shows (over_if freed V0 (r ∷ [])) c.any v.derivation (sym (any_rules v.derivation) ∙ v.rules) v.parts v.counted refl
-  value_shows r false true (Gets Push) g = absurd (never (and_parts _ _ g).1)
+  value_shows r false true (Gets Push) g = never (and_parts _ _ g).1
   value_shows r false false (Gets Push) g = pushed_shows c.push r refl (and_parts _ _ g).0
   value_shows r false freed (Jumps false) g = cc
   value_shows r false freed (Jumps true) g = cc

@@ -36,6 +36,7 @@ use Rattle.bc_verdict.specs.Faults.{Grown, all_shown, node, grown, Name, name, S
 use Rattle.bc_verdict.specs.Standing.{over_if, chain_rules, IsChain, AreNamed, no_name, named, wrong, IsFewest, Shows, Stands, AllStand, IsOver, ShowsRules, no_rule, by_chain}
 use Rattle.bc_verdict.proofs.Over.{Over, over_levelled, over_is}
 use Rattle.bc_verdict.proofs.Kept.{order_is, last_is, bare_to, bare_from, depth_of, calls_of}
+use Rattle.bc_verdict.proofs.TwoParts.{never}
 use Rattle.bc_verdict.proofs.Others.{node_at}
 use Rattle.bc_verdict.proofs.Chained.{tree_at, chain_of, chain_is, rules_of_chain, shows_to, shows_from}
 
@@ -67,9 +68,6 @@ some_rule ch h = over_none ch.is_tested ch.is_freed ch.rule h where
   over_none true f r h = cc
   over_none false true r h = cc
   over_none false false r h = cc
-
-never : false ≡ true → ⊥
-never h = cc
 
 -- some aim
 some_aim : (sh : marks.Shown) → is_some sh ≡ true → (aim : Aim) × (has_aim sh aim ≡ true)
@@ -143,7 +141,7 @@ module _ {T : Table} {s : ℕ} {form : Form} {ns : List Shown} {ms : List Mark} 
   -- nodes without rules
   bare_tree : (rs : Rules) (rules : List Rule) → ShowsRules rs rules → is_taken rs && all_bare ms ≡ true → ns ++ node e s rules ∷ [] ≡ bare e s
   bare_tree rs rules no_rule g = ap (λ us. us ++ node e s [] ∷ []) (bare_to o g)
-  bare_tree rs rules (by_chain i) g = absurd (never g)
+  bare_tree rs rules (by_chain i) g = never g
 
   tree_bare : (rs : Rules) (rules : List Rule) → ShowsRules rs rules → ns ++ node e s rules ∷ [] ≡ bare e s → is_taken rs && all_bare ms ≡ true
   tree_bare rs rules no_rule g = and_from _ _ refl (bare_from o (last_is ns (below_bare e s) (node e s []) (node e s []) g).0)

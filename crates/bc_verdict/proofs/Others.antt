@@ -30,9 +30,9 @@ use Rattle.bc_stack.specs.Showing.{has_words, agree, makes_by, makes}
 use Rattle.bc_stack.specs.Derived.{trees}
 use Rattle.bc_entries.specs.Shown.{Shown, below_bare, rules_of_value, rules_at, below, all_shown, shown}
 use Rattle.bc_verdict.specs.Standing.{IsFewest, Begins, begun}
-use Rattle.bc_verdict.proofs.Over.{StandsAt, AreArguments, routine, next, Over, num, valof, load, neg, not as not_over, choice, call}
-use Rattle.bc_verdict.proofs.Kept.{bare_to, bare_from, cut}
-use Rattle.bc_verdict.proofs.Parts.{shown_order, part_to, part_from, some_same, words_are, are_words}
+use Rattle.bc_verdict.proofs.Over.{some_same, StandsAt, AreArguments, routine, next, Over, num, valof, load, neg, not as not_over, choice, call}
+use Rattle.bc_verdict.proofs.Kept.{two_true, true_two, pair_of, bare_to, bare_from, cut}
+use Rattle.bc_verdict.proofs.Parts.{shown_order, part_to, part_from, words_are, are_words}
 
 abbrev pub node_at : Table → ℕ → Form → Exp → List Facts → Node
 node_at T s form e ps = record { table = T; level = s; form = form; operand = words_of_operand_of e; parts = ps }
@@ -47,14 +47,6 @@ value_rules d h = cc
 
 pub not_tested : {T : Table} {e : Exp} (d : Derives T e (Gets Any)) → J6 ∷ rules_of_value d ≡ J6 ∷ [] → ⊥
 not_tested d g = let k : rules_of_value d ≡ [] = cc in value_rules d k
-
-two_true : (b c : Bool) → cond b c false ≡ true → (b ≡ true) × (c ≡ true)
-two_true true c h = (refl, h)
-two_true false c h = cc
-
-true_two : (b c : Bool) → b ≡ true → c ≡ true → cond b c false ≡ true
-true_two true c h i = i
-true_two false c h i = cc
 
 -- an operand
 nothing_more : (s n at : ℕ) (ps : List Facts) → words_from takes.Nothing s (Some n) at ps ≡ Some n
@@ -188,9 +180,6 @@ record OnThree (T : Table) (s : ℕ) (sense : Bool) (a b c : Exp) (ns : List Sho
   parts : (shown condition s ++ shown this s) ++ shown that s ≡ ns
   words : cost condition s + cost this s + cost that s + k ≡ n
 
-both : (xs ys us vs : List Shown) → xs ≡ us → ys ≡ vs → xs ++ ys ≡ us ++ vs
-both xs ys us vs h i = ap (λ l. l ++ ys) h ∙ ap (λ l. us ++ l) i
-
 three_to : {T : Table} {a b c : Exp} {s : ℕ} {ks ns os : List Shown} {l m n : Mark} {o p q : Facts} {x y z : Tree} → StandsAt T a s ks l o x → StandsAt T b s ns m p y → StandsAt T c s os n q z → (sense : Bool) (k j : ℕ)
     → has_words (words_from (takes.Choice sense) s (Some k) 0 (o ∷ p ∷ q ∷ [])) (Some j) && agree (takes.Choice sense) 0 (l ∷ m ∷ n ∷ []) ≡ true → OnThree T s sense a b c ((ks ++ ns) ++ os) k j
 three_to {s = s} {ks = ks} {ns = ns} {os = os} {o = o} {p = p} {q = q} h i j sense k n g =
@@ -199,7 +188,7 @@ three_to {s = s} {ks = ks} {ns = ns} {os = os} {o = o} {p = p} {q = q} h i j sen
     let d = part_to h (Jumps sense) u.0 in
     let e = part_to i (Gets Any) v.0 in
     let f = part_to j (Gets Any) (two_true _ _ v.1).0 in
-    record { condition = d.derivation; this = e.derivation; that = f.derivation; parts = both _ _ (ks ++ ns) os (both _ _ ks ns d.shown e.shown) f.shown; words = some_same (sym (three_words s o p q sense k _ _ _ d.counted e.counted f.counted) ∙ words_are _ n c.0) }
+    record { condition = d.derivation; this = e.derivation; that = f.derivation; parts = pair_of _ _ (ks ++ ns) os (pair_of _ _ ks ns d.shown e.shown) f.shown; words = some_same (sym (three_words s o p q sense k _ _ _ d.counted e.counted f.counted) ∙ words_are _ n c.0) }
 
 record HasThree (s : ℕ) (sense : Bool) (l m n : Mark) (o p q : Facts) (x y z t u v : Tree) (k j : ℕ) : Type 0 where
   makes : has_words (words_from (takes.Choice sense) s (Some k) 0 (o ∷ p ∷ q ∷ [])) (Some j) && agree (takes.Choice sense) 0 (l ∷ m ∷ n ∷ []) ≡ true
@@ -280,7 +269,7 @@ all_to {f = f} {l = l} (next {es = es} {ns = ns} {os = os} {p = p} {ps = ps} h i
       routine = ds.routine;
       parts =
           append_assoc (shown d.derivation l) (all_shown ds.arguments (l + 1)) (shown ds.routine (l + (1 + count es)))
-          ∙ both _ _ ns os d.shown (ap (λ n. all_shown ds.arguments (l + 1) ++ shown ds.routine n) (sym level) ∙ ds.parts);
+          ∙ pair_of _ _ ns os d.shown (ap (λ n. all_shown ds.arguments (l + 1) ++ shown ds.routine n) (sym level) ∙ ds.parts);
       words = λ k.
           argument_words s at k _ p ps d.counted (some_parts i)
           ∙ ds.words (k + (cost d.derivation l + w (s + 2 + at)))

@@ -67,7 +67,7 @@ levelled T step s (t ∷ ts) (m ∷ ms) (p ∷ ps) (e ∷ es) (x ∷ xs) h l =
     some (stands_at T t m p e x s at.0 h.0) (levelled T step (s + step) ts ms ps es xs h.1 at.1)
 levelled T step s _ _ _ _ _ h l = absurd h
 
-some_same : {A : Type 0} {x y : A} → ◌≡◌ {A = Option A} (Some x) (Some y) → x ≡ y
+pub some_same : {A : Type 0} {x y : A} → ◌≡◌ {A = Option A} (Some x) (Some y) → x ≡ y
 some_same h = cc
 
 at_level : {T : Table} {a : Exp} {l s : ℕ} {ns : List Shown} {m : Mark} {p : Facts} {x : Tree} → l ≡ s → StandsAt T a l ns m p x → StandsAt T a s ns m p x
