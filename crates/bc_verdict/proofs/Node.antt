@@ -192,19 +192,13 @@ module _ {T : Table} {s : ℕ} {form : Form} {ns : List Shown} {ms : List Mark} 
 pub depth_is : (T : Table) (n : NodeLine) (ts : List Grown) (ms : List Mark) (fs : List Facts) (es : List Exp) (xs : List Tree) (e : Exp) → AllStand T ts ms fs es xs → levels_fit n.level n.form ms ≡ true → whole n.form es ≡ Some e → depth_over ms ≡ nested e
 depth_is T n ts ms fs es xs e h l k = depth_of (over_levelled T n.level n.form ts ms fs es xs e h l k)
 
--- a tree over the trees of its parts, where the checker found no fault
-pub record NewTree (T : Table) (n : NodeLine) (ts : List Grown) (ms : List Mark) (fs : List Facts) (xs : List Tree) (e : Exp) (rules : List Rule) (sh : marks.Shown) : Type 0 where
-  pub depth : nested e ≡ depth_over ms
-  pub stands : Stands T (grown e n.level rules ts) (new_mark n (depth_over ms) sh ms) (new_facts n e fs) e (derived n.rules (second_zero fs) xs)
-  pub stands_by : StandsBy T e n.level rules (all_shown ts ++ node e n.level rules ∷ [])
-
-pub new_stands : {T : Table} {n : NodeLine} {ts : List Grown} {ms : List Mark} {fs : List Facts} {es : List Exp} {xs : List Tree} {e : Exp} → IsOver T n ts ms fs es xs e → (rules : List Rule) → ShowsRules n.rules rules → (p : Place) (sh : marks.Shown)
-    → shown_for (line_node T n e fs) ms n p ≡ Ok sh → NewTree T n ts ms fs xs e rules sh
-new_stands {n = n} {ms = ms} {e = e} i rules r p sh g =
-    let o = over_is i in
-    record {
-      depth = sym (depth_of o);
-      stands = record {
+-- where the checker found no fault the tree of the node stands, and so do its rules
+pub new_stands : (T : Table) (n : NodeLine) (ts : List Grown) (ms : List Mark) (fs : List Facts) (es : List Exp) (xs : List Tree) (e : Exp) → IsOver T n ts ms fs es xs e → (rules : List Rule) → ShowsRules n.rules rules → (p : Place) (sh : marks.Shown)
+    → shown_for (line_node T n e fs) ms n p ≡ Ok sh
+    → Stands T (grown e n.level rules ts) (new_mark n (depth_over ms) sh ms) (new_facts n e fs) e (derived n.rules (second_zero fs) xs) × StandsBy T e n.level rules (all_shown ts ++ node e n.level rules ∷ [])
+new_stands T n ts ms fs es xs e i rules r p sh g =
+    let o = over_is i in (
+      record {
         expression = refl;
         level = refl;
         depth = depth_of o;
@@ -214,16 +208,16 @@ new_stands {n = n} {ms = ms} {e = e} i rules r p sh g =
         bare_from = λ k. tree_bare o n.costs i.costs n.rules rules r k;
         shows = λ aim k. shows o n.costs i.costs n.rules rules r p sh g aim k;
         has = λ aim d k f. found o n.costs i.costs n.rules rules r p sh g aim d k f;
-      };
-      stands_by = stands_by o n.costs i.costs n.rules rules r p sh g;
-    }
+      },
+      stands_by o n.costs i.costs n.rules rules r p sh g,
+    )
 
 -- a fault is that no derivation of least words shows the rules
-pub no_rules : {T : Table} {n : NodeLine} {ts : List Grown} {ms : List Mark} {fs : List Facts} {es : List Exp} {xs : List Tree} {e : Exp} → IsOver T n ts ms fs es xs e → (names : List Name) → AreNamed names n.rules → (p : Place) (f : CheckFault)
+pub no_rules : (T : Table) (n : NodeLine) (ts : List Grown) (ms : List Mark) (fs : List Facts) (es : List Exp) (xs : List Tree) (e : Exp) → IsOver T n ts ms fs es xs e → (names : List Name) → AreNamed names n.rules → (p : Place) (f : CheckFault)
     → shown_for (line_node T n e fs) ms n p ≡ Err f → (f ≡ WrongRule p.entry p.node) × ((rules : List Rule) → names ≡ map name rules → ¬ StandsBy T e n.level rules (all_shown ts ++ node e n.level rules ∷ []))
-no_rules {n = n} i names a p f g = refused (over_is i) n.costs i.costs n.rules names a p f g
+no_rules T n ts ms fs es xs e i names a p f g = refused (over_is i) n.costs i.costs n.rules names a p f g
 
 -- where one shows them there is none
-pub right_rules : {T : Table} {n : NodeLine} {ts : List Grown} {ms : List Mark} {fs : List Facts} {es : List Exp} {xs : List Tree} {e : Exp} → IsOver T n ts ms fs es xs e → (names : List Name) (rules : List Rule) → names ≡ map name rules → AreNamed names n.rules
+pub right_rules : (T : Table) (n : NodeLine) (ts : List Grown) (ms : List Mark) (fs : List Facts) (es : List Exp) (xs : List Tree) (e : Exp) → IsOver T n ts ms fs es xs e → (names : List Name) (rules : List Rule) → names ≡ map name rules → AreNamed names n.rules
     → StandsBy T e n.level rules (all_shown ts ++ node e n.level rules ∷ []) → (p : Place) → ShowsRules n.rules rules × ((sh : marks.Shown) × (shown_for (line_node T n e fs) ms n p ≡ Ok sh))
-right_rules {n = n} i names rules k a w p = accepted (over_is i) n.costs i.costs n.rules names rules k a w p
+right_rules T n ts ms fs es xs e i names rules k a w p = accepted (over_is i) n.costs i.costs n.rules names rules k a w p
