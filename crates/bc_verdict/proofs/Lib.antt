@@ -4,6 +4,9 @@ mod Parts
 mod Others
 mod TwoParts
 mod Pairs
+mod Begun
+mod Chained
+mod Node
 mod Numbers
 mod Fields
 mod Forms
