@@ -1,6 +1,6 @@
 -- What a node line comes to over trees that stand, against what it may say.
-use Rattle.std.proofs.Common.{◌≡◌, ℕ, zero, suc, ◌+◌, ◌-◌, ◌==◌, ◌≤◌, ◌<◌, Bool, true, false, cond, map, List, [], ◌∷◌, ◌++◌, length, take, drop, Option, Some, None, Result, Ok, Err, refl, ap, sym, subst, ◌∙◌, arith}
-use Rattle.std.specs.Prelude.{◌&&◌, nat_lt, nat_le}
+use Rattle.std.proofs.Common.{◌≡◌, ℕ, ◌+◌, ◌-◌, ◌≤◌, ◌<◌, Bool, true, false, cond, map, List, [], ◌∷◌, ◌++◌, length, take, drop, Some, Result, Ok, Err, refl, ap, sym, subst, ◌∙◌, arith}
+use Rattle.std.specs.Prelude.{nat_lt, nat_le}
 use Rattle.std.proofs.lemmas.List.{length-map, length-append, length-drop, take-append-drop}
 use Rattle.std.proofs.Math.Seq.{take-append_seam, drop-append_seam}
 use Rattle.bc_certificate.specs.declared.check_fault.CheckFault.{CheckFault}
@@ -8,29 +8,25 @@ use Rattle.bc_certificate.specs.declared.check_fault.CheckFault.TheVariants as f
 use Rattle.bc_core.specs.Tree.{Exp}
 use Rattle.bc_derive.specs.declared.rule.Table.{Table}
 use Rattle.bc_derive.specs.declared.rule.Rule.{Rule}
-use Rattle.bc_derive.specs.Rules.{Tree}
 use Rattle.bc_recipe.specs.declared.facts.Facts.{Facts}
-use Rattle.bc_recipe.specs.declared.form.Form.{Form}
 use Rattle.bc_recipe.specs.Costs.{are_costs}
 use Rattle.bc_recipe.specs.Form.{parts_of}
 use Rattle.bc_recipe.specs.Node.{least_words_of}
 use Rattle.bc_recipe.specs.Parts.{AreLeast}
 use Rattle.bc_lines.specs.declared.lines.NodeLine.{NodeLine}
 use Rattle.bc_lines.specs.declared.chain.Rules.{Rules}
-use Rattle.bc_lines.specs.declared.chain.Rules.TheVariants.{Taken, Named, Wrong}
 use Rattle.bc_stack.specs.declared.mark.Mark.{Mark}
 use Rattle.bc_stack.specs.declared.mark.Shown.{Shown}
 use Rattle.bc_stack.specs.declared.place.Place.{Place}
-use Rattle.bc_stack.specs.Derived.{derived}
 use Rattle.bc_stack.specs.Marks.{levels_fit, depth_over}
-use Rattle.bc_stack.specs.Showing.{shown_for, shown_with, judged}
-use Rattle.bc_stack.specs.Stacks.{◌>>=◌, Stack, second_zero, line_node, new_mark, new_facts, with_whole, fitting, without_expressions, put_over, node_judged_over, node_whole, node_from, node_step}
+use Rattle.bc_stack.specs.Showing.{shown_for, shown_with}
+use Rattle.bc_stack.specs.Stacks.{◌>>=◌, Stack, line_node, with_whole, without_expressions, put_over, node_judged_over, node_whole, node_from, node_step}
 use Rattle.bc_stack.specs.Wholes.{whole}
 use Rattle.bc_verdict.specs.Entries.{nested}
 use Rattle.bc_verdict.specs.Faults.{Grown, all_shown, parts, Ends, Name, name, StandsBy, node, grown}
-use Rattle.bc_verdict.specs.Standing.{AreNamed, no_name, named, wrong, chain_rules, Stands, AllStand, IsOver, ShowsRules, no_rule, by_chain}
+use Rattle.bc_verdict.specs.Standing.{AreNamed, no_name, named, wrong, chain_rules, IsOver, ShowsRules, no_rule, by_chain}
 use Rattle.bc_verdict.proofs.Node.{depth_is, new_stands, no_rules, right_rules}
-use Rattle.bc_verdict.proofs.Results.{some_same, ok_same, err_same, at_most_true, at_most, not_at_most, at_most_false}
+use Rattle.bc_verdict.proofs.Results.{ok_same, err_same, at_most_true, at_most, not_at_most}
 use Rattle.bc_verdict.proofs.Keeping.{StackStands, Kept, all_stand, kept_front, kept_behind, kept_more, kept_lengths}
 use Rattle.bc_verdict.proofs.NodeParts.{placed, expressions, levels_right, expressions_are, levels_are, own_form, right_levels, right_whole, right_length, parts_right, whole_form, whole_made}
 use Rattle.bc_verdict.proofs.NodeCosts.{own_parts, costs_are_least, least_are_costs}
@@ -81,20 +77,23 @@ record FoundEnds (n : NodeLine) (ts : List Grown) : Type 0 where
   ends : Ends expression n.level ts
 
 found_ends : {T : Table} (n : NodeLine) (ts : List Grown) (x : Stack) → Kept T ts x.marks x.facts x.expressions x.derivations → nat_lt (length x.facts) (parts_of n.form) ≡ false → levels_fit n.level n.form (drop (place_of n x) x.marks) ≡ true → FoundEnds n ts
-found_ends {T = T} n ts x h enough levels =
-    let at = place_of n x in
-    let lengths = kept_lengths h in
-    let same = lengths.0 in
-    let some = not_enough _ _ enough in
-    let own = kept_behind at h in
-    let many : length (drop at x.expressions) ≡ parts_of n.form = length-drop at x.expressions ∙ omega (arith, same, some) in
-    let made = whole_made n.form (drop at x.expressions) many in
-    let are : placed (drop at ts) ≡ parts made.0 n.level = parts_right n.form made.0 n.level (placed (drop at ts)) (sym (levels_are _ _ own) ∙ levels) (ap (whole n.form) (sym (expressions_are own)) ∙ made.1) in
-    record {
-      expression = made.0;
-      form = whole_form n.form (drop at x.expressions) made.0 many made.1;
-      ends = record { before = take at ts; own = drop at ts; cut = sym (take-append-drop at ts); parts = are };
-    }
+found_ends {T = T} n ts x h enough levels = let made = whole_made n.form (drop (place_of n x) x.expressions) many in at made.0 made.1 where
+  many : length (drop (place_of n x) x.expressions) ≡ parts_of n.form
+  many = let same = (kept_lengths h).0 in let some = not_enough _ _ enough in length-drop (place_of n x) x.expressions ∙ omega (arith, same, some)
+
+  at : (e : Exp) → whole n.form (drop (place_of n x) x.expressions) ≡ Some e → FoundEnds n ts
+  at e k =
+      let own = kept_behind (place_of n x) h in
+      record {
+        expression = e;
+        form = whole_form n.form (drop (place_of n x) x.expressions) e many k;
+        ends = record {
+          before = take (place_of n x) ts;
+          own = drop (place_of n x) ts;
+          cut = sym (take-append-drop (place_of n x) ts);
+          parts = parts_right n.form e n.level (placed (drop (place_of n x) ts)) (sym (levels_are _ _ own) ∙ levels) (ap (whole n.form) (sym (expressions_are own)) ∙ k);
+        };
+      }
 
 -- a node line fits the last trees, or no expression has its form over them
 pub data NodeDecision (T : Table) (n : NodeLine) (ts : List Grown) (x : Stack) (p : Place) : Type 0 where
@@ -223,11 +222,7 @@ node_wrong {T = T} {e = e} {n = n} {ts = ts} {x = x} {ends = ends} p names f fit
     deep_so : depth_over (drop (place_of n x) x.marks) ≡ nested e → ¬ (depth_over (drop (place_of n x) x.marks) ≤ 400) → 400 < nested e
     deep_so same h = grind (arith, same, h)
 
--- a line that shows rules that stand is taken, with just these
-shows_same : {rs : Rules} {xs ys : List Rule} → ShowsRules rs xs → ShowsRules rs ys → xs ≡ ys
-shows_same no_rule no_rule = refl
-shows_same (by_chain h) (by_chain k) = refl
-
+-- a line whose rules stand is taken, with just these
 pub record NodeMade (T : Table) (n : NodeLine) (p : Place) (x : Stack) (trees : List Grown) : Type 0 where
   pub stack : Stack
   pub is : node_step T n p x ≡ Ok stack

@@ -1,10 +1,10 @@
 -- What comes of steps one after another, and tests as what they say.
-use Rattle.std.proofs.Common.{◌≡◌, ℕ, ◌==◌, ◌≤◌, Bool, true, false, cond, List, ◌++◌, length, Option, Some, None, Result, Ok, Err, refl, ap, arith}
+use Rattle.std.proofs.Common.{◌≡◌, ℕ, ◌==◌, ◌≤◌, Bool, true, false, cond, List, length, Option, Some, Result, Ok, Err, refl, arith}
 use Rattle.std.specs.Prelude.{◌+◌, ◌&&◌, nat_le}
 use Rattle.bc_certificate.specs.declared.check_fault.CheckFault.{CheckFault}
 use Rattle.bc_certificate.specs.Verdict.{Judged}
 use Rattle.bc_stack.specs.declared.place.Place.{Place}
-use Rattle.bc_stack.specs.Stacks.{◌>>=◌, with_whole}
+use Rattle.bc_stack.specs.Stacks.{◌>>=◌}
 use Rattle.bc_verdict.specs.Faults.{lines}
 
 -- the place of the next line, behind these lines, these entries and so many nodes
@@ -36,10 +36,6 @@ pub passed : {A : Type 0} (b : Bool) (x : Result A CheckFault) (e : CheckFault) 
 passed true x e y h = (refl, h)
 passed false x e y h = cc
 
-pub got : {A : Type 0} (p : Place) (o : Option A) (x : A) → with_whole p o ≡ Ok x → o ≡ Some x
-got p None x h = cc
-got p (Some y) x h = let i : y ≡ x = cc in ap (λ z. Some z) i
-
 pub both_true : (a b : Bool) → a ≡ true → b ≡ true → (a && b) ≡ true
 both_true a b h i = cc
 
@@ -60,6 +56,3 @@ at_most m n h = grind (arith, h)
 
 pub not_at_most : (m n : ℕ) → nat_le m n ≡ false → ¬ (m ≤ n)
 not_at_most m n h k = grind (arith, h, k)
-
-pub at_most_false : (m n : ℕ) → ¬ (m ≤ n) → nat_le m n ≡ false
-at_most_false m n h = grind (arith, h)
