@@ -22,7 +22,8 @@ use Rattle.bc_lines.specs.declared.lines.NodeLine.{NodeLine}
 use Rattle.bc_stack.specs.declared.mark.Mark.{Mark}
 use Rattle.bc_stack.specs.Stacks.{line_node}
 use Rattle.bc_verdict.specs.Faults.{Grown, all_parts, parts, AreLeastCosts}
-use Rattle.bc_verdict.proofs.Results.{some_same, both_true, equal_true}
+use Rattle.bc_verdict.proofs.Over.{some_same}
+use Rattle.bc_verdict.proofs.Results.{both_true, equal_true}
 use Rattle.bc_verdict.proofs.Keeping.{Kept, nothing, further}
 use Rattle.bc_verdict.proofs.NodeParts.{placed, arguments_of, own_form}
 

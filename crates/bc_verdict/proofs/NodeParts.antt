@@ -17,7 +17,8 @@ use Rattle.bc_stack.specs.Wholes.{leaf, one_of, with_one, two_of, three_of, with
 use Rattle.bc_verdict.specs.Entries.{HasSmallNumber}
 use Rattle.bc_verdict.specs.Faults.{Grown, all_parts, parts}
 use Rattle.bc_verdict.specs.Standing.{form_text, FormIsSmall}
-use Rattle.bc_verdict.proofs.Results.{some_same, equal_true}
+use Rattle.bc_verdict.proofs.Over.{some_same}
+use Rattle.bc_verdict.proofs.Results.{equal_true}
 use Rattle.bc_verdict.proofs.Keeping.{Kept, nothing, further}
 
 -- parts with their levels

@@ -1,5 +1,5 @@
 -- What comes of steps one after another, and tests as what they say.
-use Rattle.std.proofs.Common.{◌≡◌, ℕ, ◌==◌, ◌≤◌, Bool, true, false, cond, List, length, Option, Some, Result, Ok, Err, refl, arith}
+use Rattle.std.proofs.Common.{◌≡◌, ℕ, ◌==◌, ◌≤◌, Bool, true, false, cond, List, length, Result, Ok, Err, refl, arith}
 use Rattle.std.specs.Prelude.{◌+◌, ◌&&◌, nat_le}
 use Rattle.bc_certificate.specs.declared.check_fault.CheckFault.{CheckFault}
 use Rattle.bc_certificate.specs.Verdict.{Judged}
@@ -12,9 +12,6 @@ pub record StandsBehind (text : List ℕ) (js : List Judged) (nodes : ℕ) (p : 
   pub line : p.line ≡ lines text + 1
   pub entry : p.entry ≡ length js
   pub node : p.node ≡ nodes
-
-pub some_same : {A : Type 0} {x y : A} → ◌≡◌ {A = Option A} (Some x) (Some y) → x ≡ y
-some_same h = cc
 
 pub ok_same : {A : Type 0} {x y : A} → ◌≡◌ {A = Result A CheckFault} (Ok x) (Ok y) → x ≡ y
 ok_same h = cc

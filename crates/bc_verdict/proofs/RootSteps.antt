@@ -1,9 +1,8 @@
 -- What a root line comes to, against what it may say.
-use Rattle.std.proofs.Common.{◌≡◌, ℕ, ◌+◌, ◌*◌, ◌==◌, ◌≤◌, ◌<◌, Bool, true, false, cond, List, [], ◌∷◌, ◌++◌, length, Option, Some, None, Result, Ok, Err, refl, ap, sym, subst, ◌∙◌, append-nil, arith, IsTrue}
+use Rattle.std.proofs.Common.{◌≡◌, ℕ, ◌+◌, ◌*◌, ◌==◌, ◌≤◌, ◌<◌, Bool, true, false, cond, List, [], ◌∷◌, ◌++◌, Option, Some, None, Result, Ok, Err, refl, ap, sym, subst, ◌∙◌, append-nil, arith, IsTrue}
 use Rattle.std.specs.Prelude.{◌&&◌}
 use Rattle.std.specs.Fmt.{decimal}
 use Rattle.std.proofs.lemmas.Bool.{eqb-true, and_parts}
-use Rattle.std.proofs.lemmas.List.{length-map}
 use Rattle.std.proofs.lemmas.Fmt.{decimal_digit}
 use Rattle.bc_certificate.specs.declared.check_fault.CheckFault.{CheckFault}
 use Rattle.bc_certificate.specs.declared.check_fault.CheckFault.TheVariants as faults
@@ -21,17 +20,14 @@ use Rattle.bc_derive.specs.Free.{are_free}
 use Rattle.bc_derive.specs.Rules.{Derives, RootDerives, value, test, a1, a2, a3, Tree, by, one, two, shape, root_shape}
 use Rattle.bc_derive.specs.Code.{cost, root_cost}
 use Rattle.bc_derive.specs.Piece.{w, operand_words}
-use Rattle.bc_least.specs.Least.{AreLeastWords}
-use Rattle.bc_least.specs.Choices.{choices, words_for}
-use Rattle.bc_least.proofs.Words.{choices_are_least}
 use Rattle.bc_recipe.specs.declared.costs.Costs.{Costs}
 use Rattle.bc_recipe.specs.declared.facts.Facts.{Facts}
 use Rattle.bc_recipe.specs.Costs.{cost_of}
 use Rattle.bc_recipe.specs.Parts.{AreLeast, IsPart}
 use Rattle.bc_recipe.specs.Recipe.{words_of_operand, free}
+use Rattle.bc_least.specs.Nodes.{in_order}
 use Rattle.bc_entries.specs.Shown.{Shown, shown, bare}
 use Rattle.bc_entries.specs.Lines.{line}
-use Rattle.bc_entries.proofs.Texts.{nodes_in_order}
 use Rattle.bc_lines.specs.declared.lines.RootLine.{RootLine}
 use Rattle.bc_lines.specs.declared.lines.RootLine.TheVariants as lines
 use Rattle.bc_stack.specs.declared.mark.Mark.{Mark}
@@ -42,9 +38,12 @@ use Rattle.bc_stack.specs.Stacks.{◌>>=◌, Stack, with_whole, One, one_among, 
 use Rattle.bc_verdict.specs.Entries.{IsLevel}
 use Rattle.bc_verdict.specs.Faults.{Grown, all_shown, IsAssignment, first, second, third, RootStands}
 use Rattle.bc_verdict.specs.Standing.{root_text, RootLineIsSmall, IsFewest, Stands}
-use Rattle.bc_verdict.proofs.Results.{some_same, err_same, passed, both_true, equal_true}
+use Rattle.bc_verdict.proofs.Over.{some_same}
+use Rattle.bc_verdict.proofs.Results.{err_same, passed, both_true, equal_true}
 use Rattle.bc_verdict.proofs.Sides.{sides_least, least_is_cost, cost_is_least, side_is, level_of_operand, level_of_none, words_are, free_is}
 use Rattle.bc_verdict.proofs.CodeSteps.{rooted_by}
+use Rattle.bc_verdict.proofs.Kept.{cut}
+use Rattle.bc_verdict.proofs.Parts.{counted_of, shown_order}
 use Rattle.bc_verdict.proofs.Keeping.{StackStands, Kept, nothing, further, kept}
 
 abbrev pub OneStands : Table → Grown → One → Type 0
@@ -77,17 +76,8 @@ two_of (further a (further b nothing)) = just_two a b
 two_of (further a (further b (further c rest))) = not_two (λ t u i. cc)
 
 -- the words of a derivation of least words
-least_at : {T : Table} {e : Exp} {aim : Aim} (s n : ℕ) (c : Option ℕ) (d : Derives T e aim) → AreLeastWords T e aim s c → c ≡ Some n → IsFewest d s → cost d s ≡ n
-least_at s n None d h i k = cc
-least_at s n (Some m) d h i k =
-    let same : m ≡ n = some_same i in
-    let up : cost d s ≤ cost h.0.0 s = k h.0.0 in
-    let down : m ≤ cost d s = h.1 d in
-    let is : cost h.0.0 s ≡ m = h.0.1 in
-    omega (arith, same, up, down, is)
-
-pub least_cost : {T : Table} {e : Exp} {aim : Aim} (s n : ℕ) (c : Costs) (d : Derives T e aim) → AreLeast T e s c → cost_of aim c ≡ Some n → IsFewest d s → cost d s ≡ n
-least_cost {T = T} {e = e} {aim = aim} s n c d h i k = least_at s n (words_for aim (choices T e s)) d (choices_are_least T e aim s).0 (h.words aim ∙ i) k
+least_cost : {T : Table} {e : Exp} {aim : Aim} (s n : ℕ) (c : Costs) (d : Derives T e aim) → AreLeast T e s c → cost_of aim c ≡ Some n → IsFewest d s → cost d s ≡ n
+least_cost s n c d h i k = some_same (sym (counted_of h d k) ∙ i)
 
 -- A root over trees that stand, with the derivation that their lines show.
 pub record RootRight (T : Table) (rl : RootLine) (ts : List Grown) : Type 0 where
@@ -168,19 +158,6 @@ test_right sense t o p y h true i k =
     }
 test_right sense t o p y h false i k = cc
 
--- two lists of nodes, parted at the first one's end
-same_lengths : {A : Type 0} (xs us ys vs : List A) → length xs ≡ length us → xs ++ ys ≡ us ++ vs → (xs ≡ us) × (ys ≡ vs)
-same_lengths [] [] ys vs h i = (refl, i)
-same_lengths [] (u ∷ us) ys vs h i = absurd (omega (arith, h))
-same_lengths (x ∷ xs) [] ys vs h i = absurd (omega (arith, h))
-same_lengths (x ∷ xs) (u ∷ us) ys vs h i = let first : x ≡ u = cc in let rest = same_lengths xs us ys vs (omega (arith, h)) cc in (cc, rest.1)
-
-shown_length : {T : Table} {t : Grown} {o : One} → OneStands T t o → (d : Derives T t.expression (Gets Any)) → length t.shown ≡ length (shown d t.level)
-shown_length {T = T} {t = t} h d =
-    sym (length-map t.shown (λ n. (n.expression, n.level)))
-    ∙ ap length (h.order ∙ sym (nodes_in_order T (Value t.level t.expression) (value d)))
-    ∙ length-map (shown d t.level) (λ n. (n.expression, n.level))
-
 -- an assignment: where its sides are at its level, with the words of the rule
 record SidesStand (T : Table) (s : ℕ) (v a : Grown) (q : One × One) : Type 0 where
   value : OneStands T v q.0
@@ -252,8 +229,7 @@ side_from : {T : Table} (t : Grown) (o : One) (k : ℕ) → OneStands T t o → 
 side_from {T = T} t o k h l i = let s = h.shows (Gets Any) i in subst (SideFrom T t) l (record { derivation = s.derivation; is_shown = s.shown; fewest = s.fewest })
 
 shown_parted : {T : Table} (v a : Grown) (o : One) (k : ℕ) (x : Derives T v.expression (Gets Any)) (ys : List Shown) → OneStands T v o → v.level ≡ k → all_shown (v ∷ a ∷ []) ≡ shown x k ++ ys → (v.shown ≡ shown x k) × (a.shown ≡ ys)
-shown_parted v a o k x ys h l i =
-    same_lengths v.shown (shown x k) a.shown ys (subst (λ k. length v.shown ≡ length (shown x k)) l (shown_length h x)) (ap (λ z. v.shown ++ z) (sym (append-nil a.shown)) ∙ i)
+shown_parted v a o k x ys h l i = cut v.shown a.shown (shown x k) ys (h.order ∙ ap (λ n. in_order v.expression n) l ∙ sym (shown_order (Gets Any) x k)) (ap (λ z. v.shown ++ z) (sym (append-nil a.shown)) ∙ i)
 
 shown_joined : (v a : Grown) (xs ys : List Shown) → v.shown ≡ xs → a.shown ≡ ys → all_shown (v ∷ a ∷ []) ≡ xs ++ ys
 shown_joined v a xs ys h i = ap (λ z. v.shown ++ z) (append-nil a.shown ∙ i) ∙ ap (λ z. z ++ ys) h

@@ -27,7 +27,8 @@ use Rattle.bc_verdict.specs.Faults.{Grown, all_shown, Ends, Name, name, names_fi
 use Rattle.bc_verdict.specs.Judging.{State, nodes as at_nodes, code as at_code, rooted, noded, within_step}
 use Rattle.bc_verdict.specs.Standing.{AreNamed, form_text, root_text, RootLineIsSmall, FormIsSmall}
 use Rattle.bc_verdict.proofs.Read.{NodeRead, node_read, node_back, root_read, root_back, node_no_root, rules_are_names, rules_field_is}
-use Rattle.bc_verdict.proofs.Results.{StandsBehind, bound, some_same, ok_same, err_same}
+use Rattle.bc_verdict.proofs.Over.{some_same}
+use Rattle.bc_verdict.proofs.Results.{StandsBehind, bound, ok_same, err_same}
 use Rattle.bc_verdict.proofs.CodeSteps.{rooted_by}
 use Rattle.bc_verdict.proofs.Keeping.{StackStands, kept}
 use Rattle.bc_verdict.proofs.RootSteps.{IsRootOf, of_value, of_test, of_assignment, RootRight, RootWrong, no_derivation, no_root, root_made, root_right, root_wrong}
