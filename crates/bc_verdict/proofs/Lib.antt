@@ -1,2 +1,4 @@
 pub mod Fewest
 pub mod Growth
+pub mod Listing
+pub mod Said
