@@ -2,3 +2,4 @@ pub mod Fewest
 pub mod Growth
 pub mod Listing
 pub mod Said
+pub mod Rooms

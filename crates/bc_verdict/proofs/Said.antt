@@ -54,7 +54,7 @@ longer T js text own l all e b = record {
   joined : (h t o l : List ℕ) → (h ++ (t ++ o)) ++ l ≡ h ++ (t ++ (o ++ l))
   joined h t o l = simp append_assoc
 
-all_join : {X : Type 0} (P : X → Type 0) (xs ys : List X) → AllByRecursion P xs → AllByRecursion P ys → AllByRecursion P (xs ++ ys)
+pub all_join : {X : Type 0} (P : X → Type 0) (xs ys : List X) → AllByRecursion P xs → AllByRecursion P ys → AllByRecursion P (xs ++ ys)
 all_join P [] ys h k = k
 all_join P (x ∷ xs) ys h k = (h.0, all_join P xs ys h.1 k)
 
