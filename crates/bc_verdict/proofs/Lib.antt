@@ -3,3 +3,5 @@ pub mod Growth
 pub mod Listing
 pub mod Said
 pub mod Rooms
+pub mod Accepted
+pub mod Longer

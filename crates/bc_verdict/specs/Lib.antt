@@ -1,4 +1,5 @@
 pub mod Judging
 pub mod Entries
 pub mod Faults
+pub mod Laws
 pub mod Standing
