@@ -5,3 +5,5 @@ pub mod Said
 pub mod Rooms
 pub mod Accepted
 pub mod Longer
+pub mod OneLine
+pub mod Frame

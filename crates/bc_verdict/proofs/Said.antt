@@ -59,7 +59,7 @@ all_join P [] ys h k = k
 all_join P (x ∷ xs) ys h k = (h.0, all_join P xs ys h.1 k)
 
 -- a node's tree shows the trees of its parts and the node
-shown_with : (e : Exp) (s : ℕ) (rules : List Rule) (trees : List Grown) (ends : Ends e s trees) → all_shown (ends.before ++ grown e s rules ends.own ∷ []) ≡ all_shown trees ++ node e s rules ∷ []
+pub shown_with : (e : Exp) (s : ℕ) (rules : List Rule) (trees : List Grown) (ends : Ends e s trees) → all_shown (ends.before ++ grown e s rules ends.own ∷ []) ≡ all_shown trees ++ node e s rules ∷ []
 shown_with e s rules trees ends =
     let shows = λ (t : Grown). t.shown in
     flat_map-append shows ends.before (grown e s rules ends.own ∷ [])
@@ -145,6 +145,9 @@ holds _ _ (node_line {text = text} {T = T} {js = js} {h = h} {trees = trees} {e 
 holds _ _ (root_line {text = text} {T = T} {js = js} {h = h} {trees = trees} {r = x} {l = l} {d = d} r over stands) = after_root text T js h trees x l d over stands (holds text (nodes T js h trees) r)
 holds _ _ (code_line {text = text} {T = T} {js = js} {h = h} {r = x} {d = d} {ps = ps} r room is words) = after_code text T js h x d ps room is words (holds text (code T js h x d) r)
 holds _ _ (last_line {text = text} {T = T} {js = js} r room) = after_last text T js room (holds text (between T js) r)
+
+pub no_text : (text : List ℕ) → Reaches text the_header → text ≡ []
+no_text text r = holds text the_header r
 
 pub reaches_says : (bytes : List ℕ) (T : Table) (js : List Judged) → Reaches bytes (the_end T js) → Says bytes (record { table = T; entries = js })
 reaches_says bytes T js r = holds bytes (the_end T js) r

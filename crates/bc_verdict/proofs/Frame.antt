@@ -1,0 +1,238 @@
+-- The checker's step at a line against the lines that lead to a stage, and against the fault of a line.
+use Rattle.std.proofs.Common.{◌≡◌, ℕ, ◌+◌, ◌==◌, Bool, true, false, cond, List, [], ◌∷◌, ◌++◌, length, Option, Some, None, Result, Ok, Err, refl, ap, sym, subst, ◌∙◌, append_assoc, append-nil, arith}
+use Rattle.std.specs.List.{AllByRecursion}
+use Rattle.std.proofs.lemmas.Bool.{eqb-true}
+use Rattle.std.proofs.lemmas.List.{length-append}
+use Rattle.bc_core.specs.Tree.{Exp, Root}
+use Rattle.bc_derive.specs.declared.piece.Piece.{Piece}
+use Rattle.bc_derive.specs.declared.rule.Table.{Table}
+use Rattle.bc_derive.specs.declared.rule.Rule.{Rule}
+use Rattle.bc_derive.specs.Rules.{RootDerives}
+use Rattle.bc_derive.specs.Code.{root_cost}
+use Rattle.bc_certificate.specs.declared.check_fault.CheckFault.{CheckFault}
+use Rattle.bc_certificate.specs.declared.check_fault.CheckFault.TheVariants.{Header, Line}
+use Rattle.bc_certificate.specs.Text.{header_line, end_line}
+use Rattle.bc_certificate.specs.Verdict.{Judged}
+use Rattle.bc_entries.specs.Lines.{node_line as line_of_node}
+use Rattle.bc_lines.specs.declared.lines.Head.{Head}
+use Rattle.bc_lines.specs.Lines.{header as read_header, entry_line as read_entry, end_line as read_end}
+use Rattle.bc_stack.specs.declared.place.Place.{Place}
+use Rattle.bc_stack.specs.Stacks.{Stack, no_trees}
+use Rattle.bc_verdict.specs.Entries.{IsNumber, NodeHasRoom, PieceHasRoom, pieces_line}
+use Rattle.bc_verdict.specs.Faults.{HeadHasRoom, head_line, Grown, all_shown, Ends, StandsBy, node, grown, IsCode, judged, RootOver, RootStands, Stage, the_header, between, nodes, code, the_end, Reaches, nothing, header, entry, node_line, root_line, code_line, last_line, lines, LineFault, no_header, no_entry, behind}
+use Rattle.bc_verdict.specs.Judging.{State, counted, place_of, step_at, line_step, begun, ended, entered, within_step, code_step}
+use Rattle.bc_verdict.specs.Judging.{Stage as Kind, the_header as at_header, between as at_entries, nodes as at_nodes, code as at_code, the_end as at_end}
+use Rattle.bc_verdict.proofs.OneLine.{StackStands, rooted_by, StandsBehind, WithinTaken, a_node, a_root, next_of, CodeTaken, Known}
+use Rattle.bc_verdict.proofs.Said.{shown_with, no_text}
+
+-- what the checker keeps at each stage
+pub record AtHeader (st : State) : Type 0 where
+  pub stage : st.stage ≡ at_header
+  pub entries : st.entries ≡ []
+
+pub record AtEntries (T : Table) (js : List Judged) (kind : Kind) (st : State) : Type 0 where
+  pub stage : st.stage ≡ kind
+  pub table : st.table ≡ T
+  pub entries : st.entries ≡ js
+
+pub record AtNodes (T : Table) (js : List Judged) (h : Head) (ts : List Grown) (st : State) : Type 0 where
+  pub own : AtEntries T js (at_nodes h) st
+  pub trees : StackStands T ts st.trees
+  pub nodes : st.nodes ≡ length (all_shown ts)
+
+abbrev pub IsAt : Stage → State → Type 0
+IsAt the_header st = AtHeader st
+IsAt (between T js) st = AtEntries T js at_entries st
+IsAt (nodes T js h ts) st = AtNodes T js h ts st
+IsAt (code T js h r d) st = AtEntries T js (at_code h (rooted_by d)) st
+IsAt (the_end T js) st = AtEntries T js at_end st
+
+pub record Related (text : List ℕ) (stage : Stage) (st : State) : Type 0 where
+  pub lines : st.lines ≡ lines text
+  pub at : IsAt stage st
+
+-- lines that lead to a stage like this state
+pub record Leads (text : List ℕ) (st : State) : Type 0 where
+  pub stage : Stage
+  pub reaches : Reaches text stage
+  pub related : Related text stage st
+
+-- a step that answers with a state like this stage
+pub record Made (text : List ℕ) (stage : Stage) (r : Result State CheckFault) : Type 0 where
+  pub next : State
+  pub is : r ≡ Ok next
+  pub related : Related text stage next
+
+ok_same : {x y : State} → ◌≡◌ {A = Result State CheckFault} (Ok x) (Ok y) → x ≡ y
+ok_same h = cc
+
+err_same : {e f : CheckFault} → ◌≡◌ {A = Result State CheckFault} (Err e) (Err f) → e ≡ f
+err_same h = cc
+
+never : {X : Type 0} {e : CheckFault} {x : State} → ◌≡◌ {A = Result State CheckFault} (Err e) (Ok x) → X
+never h = cc
+
+never_wrong : {X : Type 0} {e : CheckFault} {x : State} → ◌≡◌ {A = Result State CheckFault} (Ok x) (Err e) → X
+never_wrong h = cc
+
+-- how many lines
+pub lines_of_two : (xs ys : List ℕ) → lines (xs ++ ys) ≡ lines xs + lines ys
+lines_of_two [] ys = omega arith
+lines_of_two (b ∷ xs) ys = at (b == 10) (lines_of_two xs ys) where
+  at : (c : Bool) → lines (xs ++ ys) ≡ lines xs + lines ys → cond c (lines (xs ++ ys) + 1) (lines (xs ++ ys)) ≡ cond c (lines xs + 1) (lines xs) + lines ys
+  at true h = omega arith
+  at false h = h
+
+pub one_more : (text l : List ℕ) → lines l ≡ 0 → lines (text ++ (l ++ 10 ∷ [])) ≡ lines text + 1
+one_more text l h =
+    let i = lines_of_two text (l ++ 10 ∷ []) in let k : lines (l ++ 10 ∷ []) ≡ lines l + 1 = lines_of_two l (10 ∷ []) in
+    omega arith
+
+step_from : (s : Kind) (l : List ℕ) (st : State) → st.stage ≡ s → line_step l st ≡ step_at s l (place_of (counted st)) (counted st)
+step_from s l st h = ap (λ k. step_at k l (place_of (counted st)) (counted st)) h
+
+-- the place of the line
+stands : (text : List ℕ) (js : List Judged) (n : ℕ) (st : State) → st.lines ≡ lines text → st.entries ≡ js → st.nodes ≡ n → StandsBehind text js n (place_of (counted st))
+stands text js n st h i k = record { line = ap (λ m. m + 1) h; entry = ap length i; node = k }
+
+to_text : {a b : List ℕ} (text : List ℕ) (stage : Stage) → b ≡ a → Reaches (text ++ a) stage → Reaches (text ++ b) stage
+to_text text stage e r = subst (λ x. Reaches (text ++ x) stage) (sym e) r
+
+-- A line at which the checker goes on leads on.
+header_right : Known → (text : List ℕ) (st next : State) (l : List ℕ) → lines l ≡ 0 → Reaches text the_header → Related text the_header st → begun (counted st) (read_header l) ≡ Ok next → Leads (text ++ (l ++ 10 ∷ [])) next
+header_right K text st next l u r h k = at (read_header l) refl where
+  at : (o : Option Table) → read_header l ≡ o → Leads (text ++ (l ++ 10 ∷ [])) next
+  at None e = never (sym (ap (begun (counted st)) e) ∙ k)
+  at (Some T) e =
+      let is : l ++ 10 ∷ [] ≡ header_line T = K.header_read l T e in
+      let whole : text ++ (l ++ 10 ∷ []) ≡ header_line T = ap (λ x. x ++ (l ++ 10 ∷ [])) (no_text text r) ∙ is in
+      subst (Leads (text ++ (l ++ 10 ∷ []))) (ok_same (sym (ap (begun (counted st)) e) ∙ k)) (record {
+        stage = between T [];
+        reaches = subst (λ x. Reaches x (between T [])) (sym whole) header;
+        related = record { lines = ap (λ m. m + 1) h.lines ∙ sym (one_more text l u); at = record { stage = refl; table = refl; entries = h.at.entries } };
+      })
+
+module _ (K : Known) (text : List ℕ) (T : Table) (js : List Judged) (st next : State) (l : List ℕ) (u : lines l ≡ 0) where
+  entry_right : Reaches text (between T js) → Related text (between T js) st → entered l (place_of (counted st)) (counted st) (read_entry l) ≡ Ok next → Leads (text ++ (l ++ 10 ∷ [])) next
+  entry_right r h k = at (read_entry l) refl where
+    last : (n : ℕ) → read_end l ≡ Some n → (b : Bool) → (n == length st.entries) ≡ b → cond b (Ok (record (counted st) { stage = at_end })) (Err (Line (place_of (counted st)).line)) ≡ Ok next → Leads (text ++ (l ++ 10 ∷ [])) next
+    last n e false t i = never i
+    last n e true t i =
+        let same : n ≡ length js = eqb-true n (length st.entries) t ∙ ap length h.at.entries in
+        let read = K.end_read l (length js) (e ∙ ap (λ m. Some m) same) in
+        subst (Leads (text ++ (l ++ 10 ∷ []))) (ok_same i) (record {
+          stage = the_end T js;
+          reaches = to_text text (the_end T js) read.1 (last_line r read.0);
+          related = record { lines = ap (λ m. m + 1) h.lines ∙ sym (one_more text l u); at = record { stage = refl; table = h.at.table; entries = h.at.entries } };
+        })
+
+    at_last : (o : Option ℕ) → read_end l ≡ o → ended (place_of (counted st)) (counted st) o ≡ Ok next → Leads (text ++ (l ++ 10 ∷ [])) next
+    at_last None e i = never i
+    at_last (Some n) e i = last n e (n == length st.entries) refl i
+
+    at : (o : Option Head) → read_entry l ≡ o → Leads (text ++ (l ++ 10 ∷ [])) next
+    at None e = at_last (read_end l) refl (sym (ap (entered l (place_of (counted st)) (counted st)) e) ∙ k)
+    at (Some x) e =
+        let read = K.entry_read l x e in
+        subst (Leads (text ++ (l ++ 10 ∷ []))) (ok_same (sym (ap (entered l (place_of (counted st)) (counted st)) e) ∙ k)) (record {
+          stage = nodes T js x [];
+          reaches = to_text text (nodes T js x []) read.1 (entry r read.0);
+          related = record {
+            lines = ap (λ m. m + 1) h.lines ∙ sym (one_more text l u);
+            at = record { own = record { stage = refl; table = h.at.table; entries = h.at.entries }; trees = tt; nodes = refl };
+          };
+        })
+
+  within_right : (h : Head) (ts : List Grown) → Reaches text (nodes T js h ts) → Related text (nodes T js h ts) st → within_step h l (place_of (counted st)) (counted st) ≡ Ok next → Leads (text ++ (l ++ 10 ∷ [])) next
+  within_right h ts r k i = at (K.within_taken T ts (counted st) next h l (place_of (counted st)) k.at.own.table k.at.trees i) where
+    counts : st.lines + 1 ≡ lines (text ++ (l ++ 10 ∷ []))
+    counts = ap (λ m. m + 1) k.lines ∙ sym (one_more text l u)
+
+    at : WithinTaken T ts h l (counted st) next → Leads (text ++ (l ++ 10 ∷ [])) next
+    at (a_node e s rules ends room stand is x good after) =
+        let all : all_shown ts ++ node e s rules ∷ [] ≡ all_shown (ends.before ++ grown e s rules ends.own ∷ []) = sym (shown_with e s rules ts ends) in
+        subst (Leads (text ++ (l ++ 10 ∷ []))) (sym after) (record {
+          stage = nodes T js h (ends.before ++ grown e s rules ends.own ∷ []);
+          reaches = to_text text (nodes T js h (ends.before ++ grown e s rules ends.own ∷ [])) is (node_line r ends room stand);
+          related = record {
+            lines = counts;
+            at = record {
+              own = record { stage = refl; table = k.at.own.table; entries = k.at.own.entries };
+              trees = good;
+              nodes = ap (λ m. m + 1) k.at.nodes ∙ sym (length-append (all_shown ts) (node e s rules ∷ [])) ∙ ap length all;
+            };
+          };
+        })
+    at (a_root x d over stand after) =
+        subst (Leads (text ++ (l ++ 10 ∷ []))) (sym after) (record {
+          stage = code T js h x d;
+          reaches = root_line r over stand;
+          related = record { lines = counts; at = record { stage = refl; table = k.at.own.table; entries = k.at.own.entries } };
+        })
+
+  code_right : (h : Head) (x : Root) (d : RootDerives T x) → Reaches text (code T js h x d) → Related text (code T js h x d) st → code_step h (rooted_by d) l (place_of (counted st)) (counted st) ≡ Ok next → Leads (text ++ (l ++ 10 ∷ [])) next
+  code_right h x d r k i =
+      let t = K.code_taken (counted st) next d h l (place_of (counted st)) k.at.table i in
+      subst (Leads (text ++ (l ++ 10 ∷ []))) (sym t.next) (record {
+        stage = between T (js ++ judged h x t.pieces ∷ []);
+        reaches = to_text text (between T (js ++ judged h x t.pieces ∷ [])) t.text (code_line r t.room t.code t.words);
+        related = record { lines = ap (λ m. m + 1) k.lines ∙ sym (one_more text l u); at = record { stage = refl; table = k.at.table; entries = ap (λ es. es ++ judged h x t.pieces ∷ []) k.at.entries } };
+      })
+
+pub line_right : Known → (text : List ℕ) (stage : Stage) (st next : State) (l : List ℕ) → lines l ≡ 0 → Reaches text stage → Related text stage st → line_step l st ≡ Ok next → Leads (text ++ (l ++ 10 ∷ [])) next
+line_right K text the_header st next l u r h k = header_right K text st next l u r h (sym (step_from at_header l st h.at.stage) ∙ k)
+line_right K text (between T js) st next l u r h k = entry_right K text T js st next l u r h (sym (step_from at_entries l st h.at.stage) ∙ k)
+line_right K text (nodes T js e ts) st next l u r h k = within_right K text T js st next l u e ts r h (sym (step_from (at_nodes e) l st h.at.own.stage) ∙ k)
+line_right K text (code T js e x d) st next l u r h k = code_right K text T js st next l u e x d r h (sym (step_from (at_code e (rooted_by d)) l st h.at.stage) ∙ k)
+line_right K text (the_end T js) st next l u r h k = never (sym (step_from at_end l st h.at.stage) ∙ k)
+
+-- A line at which the checker finds a fault has that fault.
+header_wrong : Known → (text : List ℕ) (st : State) (l : List ℕ) (f : CheckFault) → begun (counted st) (read_header l) ≡ Err f → LineFault text the_header (l ++ 10 ∷ []) f
+header_wrong K text st l f k = at (read_header l) refl where
+  at : (o : Option Table) → read_header l ≡ o → LineFault text the_header (l ++ 10 ∷ []) f
+  at None e = subst (LineFault text the_header (l ++ 10 ∷ [])) (err_same (sym (ap (begun (counted st)) e) ∙ k)) (no_header (λ T is. unread T (sym e ∙ K.header_back l T is))) where
+    unread : (T : Table) → ◌≡◌ {A = Option Table} None (Some T) → ⊥
+    unread T h = cc
+  at (Some T) e = never_wrong (sym (ap (begun (counted st)) e) ∙ k)
+
+entry_wrong : Known → (text : List ℕ) (T : Table) (js : List Judged) (st : State) (l : List ℕ) (f : CheckFault) → Related text (between T js) st → entered l (place_of (counted st)) (counted st) (read_entry l) ≡ Err f → LineFault text (between T js) (l ++ 10 ∷ []) f
+entry_wrong K text T js st l f h k = at (read_entry l) refl where
+  place : Line (place_of (counted st)).line ≡ Line (lines text + 1)
+  place = ap (λ n. Line (n + 1)) h.lines
+
+  unread_head : {x : Head} → ◌≡◌ {A = Option Head} None (Some x) → ⊥
+  unread_head i = cc
+
+  unread_end : {n : ℕ} → ◌≡◌ {A = Option ℕ} None (Some n) → ⊥
+  unread_end i = cc
+
+  fault : Line (place_of (counted st)).line ≡ f → read_entry l ≡ None → (IsNumber (length js) → ¬ (l ++ 10 ∷ [] ≡ end_line (length js))) → LineFault text (between T js) (l ++ 10 ∷ []) f
+  fault i e g = subst (LineFault text (between T js) (l ++ 10 ∷ [])) (sym place ∙ i) (no_entry (λ x room is. unread_head (sym e ∙ K.entry_back l x room is)) g)
+
+  some_same : {m n : ℕ} → ◌≡◌ {A = Option ℕ} (Some m) (Some n) → m ≡ n
+  some_same i = cc
+
+  itself : (m n : ℕ) → m ≡ n → (m == n) ≡ false → ⊥
+  itself m n i t = grind (arith, i, t)
+
+  last : read_entry l ≡ None → (n : ℕ) → read_end l ≡ Some n → (b : Bool) → (n == length st.entries) ≡ b → cond b (Ok (record (counted st) { stage = at_end })) (Err (Line (place_of (counted st)).line)) ≡ Err f → LineFault text (between T js) (l ++ 10 ∷ []) f
+  last e n i true t j = never_wrong j
+  last e n i false t j = fault (err_same j) e (λ room is. itself n (length st.entries) (some_same (sym i ∙ K.end_back l (length js) room is) ∙ sym (ap length h.at.entries)) t)
+
+  at_last : read_entry l ≡ None → (o : Option ℕ) → read_end l ≡ o → ended (place_of (counted st)) (counted st) o ≡ Err f → LineFault text (between T js) (l ++ 10 ∷ []) f
+  at_last e None i j = fault (err_same j) e (λ room is. unread_end (sym i ∙ K.end_back l (length js) room is))
+  at_last e (Some n) i j = last e n i (n == length st.entries) refl j
+
+  at : (o : Option Head) → read_entry l ≡ o → LineFault text (between T js) (l ++ 10 ∷ []) f
+  at None e = at_last e (read_end l) refl (sym (ap (entered l (place_of (counted st)) (counted st)) e) ∙ k)
+  at (Some x) e = never_wrong (sym (ap (entered l (place_of (counted st)) (counted st)) e) ∙ k)
+
+pub line_wrong : Known → (text : List ℕ) (stage : Stage) (st : State) (l : List ℕ) (f : CheckFault) → Related text stage st → line_step l st ≡ Err f → LineFault text stage (l ++ 10 ∷ []) f
+line_wrong K text the_header st l f h k = header_wrong K text st l f (sym (step_from at_header l st h.at.stage) ∙ k)
+line_wrong K text (between T js) st l f h k = entry_wrong K text T js st l f h (sym (step_from at_entries l st h.at.stage) ∙ k)
+line_wrong K text (nodes T js e ts) st l f h k =
+    K.within_fault text T js ts (counted st) e l (place_of (counted st)) f (stands text js (length (all_shown ts)) st h.lines h.at.own.entries h.at.nodes) h.at.own.table h.at.trees (sym (step_from (at_nodes e) l st h.at.own.stage) ∙ k)
+line_wrong K text (code T js e x d) st l f h k =
+    K.code_fault text js st.nodes (counted st) d e l (place_of (counted st)) f (stands text js st.nodes st h.lines h.at.entries refl) h.at.table (sym (step_from (at_code e (rooted_by d)) l st h.at.stage) ∙ k)
+line_wrong K text (the_end T js) st l f h k =
+    subst (LineFault text (the_end T js) (l ++ 10 ∷ [])) (sym (ap (λ n. Line (n + 1)) h.lines) ∙ err_same (sym (step_from at_end l st h.at.stage) ∙ k)) behind
