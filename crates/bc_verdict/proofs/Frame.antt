@@ -236,3 +236,126 @@ line_wrong K text (code T js e x d) st l f h k =
     K.code_fault text js st.nodes (counted st) d e l (place_of (counted st)) f (stands text js st.nodes st h.lines h.at.entries refl) h.at.table (sym (step_from (at_code e (rooted_by d)) l st h.at.stage) ∙ k)
 line_wrong K text (the_end T js) st l f h k =
     subst (LineFault text (the_end T js) (l ++ 10 ∷ [])) (sym (ap (λ n. Line (n + 1)) h.lines) ∙ err_same (sym (step_from at_end l st h.at.stage) ∙ k)) behind
+
+-- A line with a fault is one at which the checker finds it.
+header_fails : Known → (text : List ℕ) (st : State) (l m : List ℕ) (f : CheckFault) → m ≡ l ++ 10 ∷ [] → LineFault text the_header m f → begun (counted st) (read_header l) ≡ Err f
+header_fails K text st l m f is (no_header none) = at (read_header l) refl where
+  at : (o : Option Table) → read_header l ≡ o → begun (counted st) (read_header l) ≡ Err Header
+  at None e = ap (begun (counted st)) e
+  at (Some T) e = absurd (none T (is ∙ K.header_read l T e))
+
+entry_fails : Known → (text : List ℕ) (T : Table) (js : List Judged) (st : State) (l m : List ℕ) (f : CheckFault) → Related text (between T js) st → m ≡ l ++ 10 ∷ [] → LineFault text (between T js) m f
+    → entered l (place_of (counted st)) (counted st) (read_entry l) ≡ Err f
+entry_fails K text T js st l m f h is (no_entry no_head no_end) = at (read_entry l) refl where
+  p : Place
+  p = place_of (counted st)
+
+  place : ◌≡◌ {A = Result State CheckFault} (Err (Line (st.lines + 1))) (Err (Line (lines text + 1)))
+  place = ap (λ n. Err (Line (n + 1))) h.lines
+
+  last : (n : ℕ) → read_end l ≡ Some n → (b : Bool) → (n == length st.entries) ≡ b → cond b (Ok (record (counted st) { stage = at_end })) (Err (Line (st.lines + 1))) ≡ Err (Line (lines text + 1))
+  last n e false t = place
+  last n e true t =
+      let same : n ≡ length js = eqb-true n (length st.entries) t ∙ ap length h.at.entries in
+      let read = K.end_read l (length js) (e ∙ ap (λ k. Some k) same) in
+      absurd (no_end read.0 (is ∙ read.1))
+
+  at_last : (o : Option ℕ) → read_end l ≡ o → ended (place_of (counted st)) (counted st) o ≡ Err (Line (lines text + 1))
+  at_last None e = place
+  at_last (Some n) e = last n e (n == length st.entries) refl
+
+  at : (o : Option Head) → read_entry l ≡ o → entered l (place_of (counted st)) (counted st) o ≡ Err (Line (lines text + 1))
+  at None e = at_last (read_end l) refl
+  at (Some x) e = let read = K.entry_read l x e in absurd (no_head x read.0 (is ∙ read.1))
+
+end_fails : (text : List ℕ) (T : Table) (js : List Judged) (st : State) (l m : List ℕ) (f : CheckFault) → Related text (the_end T js) st → LineFault text (the_end T js) m f → step_at at_end l (place_of (counted st)) (counted st) ≡ Err f
+end_fails text T js st l m f h behind = ap (λ n. Err (Line (n + 1))) h.lines
+
+pub line_fails : Known → (text : List ℕ) (stage : Stage) (st : State) (l m : List ℕ) (f : CheckFault) → Related text stage st → m ≡ l ++ 10 ∷ [] → LineFault text stage m f → line_step l st ≡ Err f
+line_fails K text the_header st l m f h is k = step_from at_header l st h.at.stage ∙ header_fails K text st l m f is k
+line_fails K text (between T js) st l m f h is k = step_from at_entries l st h.at.stage ∙ entry_fails K text T js st l m f h is k
+line_fails K text (nodes T js e ts) st l m f h is k =
+    step_from (at_nodes e) l st h.at.own.stage
+    ∙ K.within_fails text T js ts (counted st) e l m (place_of (counted st)) f (stands text js (length (all_shown ts)) st h.lines h.at.own.entries h.at.nodes) h.at.own.table h.at.trees is k
+line_fails K text (code T js e x d) st l m f h is k =
+    step_from (at_code e (rooted_by d)) l st h.at.stage
+    ∙ K.code_fails text js st.nodes (counted st) d e l m (place_of (counted st)) f (stands text js st.nodes st h.lines h.at.entries refl) h.at.table is k
+line_fails K text (the_end T js) st l m f h is k = step_from at_end l st h.at.stage ∙ end_fails text T js st l m f h k
+
+abbrev first_byte : List ℕ → ℕ
+first_byte [] = 0
+first_byte (b ∷ bs) = b
+
+-- A line that leads on is one at which the checker goes on.
+pub header_made : Known → (T : Table) (st : State) (l : List ℕ) → lines l ≡ 0 → header_line T ≡ l ++ 10 ∷ [] → Related [] the_header st → Made (header_line T) (between T []) (line_step l st)
+header_made K T st l u is h = record {
+  next = record (counted st) { table = T; stage = at_entries };
+  is = step_from at_header l st h.at.stage ∙ ap (begun (counted st)) (K.header_back l T (sym is));
+  related = record {
+    lines = ap (λ m. m + 1) h.lines ∙ sym (one_more [] l u) ∙ ap lines (sym is);
+    at = record { stage = refl; table = refl; entries = h.at.entries };
+  };
+}
+
+module _ (K : Known) (text : List ℕ) (T : Table) (js : List Judged) (st : State) (l m : List ℕ) (u : lines l ≡ 0) (is : m ≡ l ++ 10 ∷ []) where
+  counts : st.lines ≡ lines text → st.lines + 1 ≡ lines (text ++ m)
+  counts h = ap (λ n. n + 1) h ∙ sym (one_more text l u) ∙ ap (λ x. lines (text ++ x)) (sym is)
+
+  pub entry_made : (h : Head) → HeadHasRoom h → m ≡ head_line h → Related text (between T js) st → Made (text ++ m) (nodes T js h []) (line_step l st)
+  entry_made h room e k = record {
+    next = record (counted st) { stage = at_nodes h; trees = no_trees; nodes = 0 };
+    is = step_from at_entries l st k.at.stage ∙ ap (entered l (place_of (counted st)) (counted st)) (K.entry_back l h room (sym is ∙ e));
+    related = record { lines = counts k.lines; at = record { own = record { stage = refl; table = k.at.table; entries = k.at.entries }; trees = tt; nodes = refl } };
+  }
+
+  pub node_made : (h : Head) (ts : List Grown) (e : Exp) (s : ℕ) (rules : List Rule) (ends : Ends e s ts) → NodeHasRoom T (node e s rules) → StandsBy T e s rules (all_shown ends.own ++ node e s rules ∷ []) → m ≡ line_of_node T (node e s rules)
+      → Related text (nodes T js h ts) st → Made (text ++ m) (nodes T js h (ends.before ++ grown e s rules ends.own ∷ [])) (line_step l st)
+  node_made h ts e s rules ends room stand i k =
+      let all : all_shown ts ++ node e s rules ∷ [] ≡ all_shown (ends.before ++ grown e s rules ends.own ∷ []) = sym (shown_with e s rules ts ends) in
+      let x = K.within_node T ts (counted st) h l (place_of (counted st)) e s rules k.at.own.table k.at.trees ends room stand (sym is ∙ i) in
+      record {
+        next = record (counted st) { stage = at_nodes h; trees = x.0; nodes = st.nodes + 1 };
+        is = step_from (at_nodes h) l st k.at.own.stage ∙ x.1.1;
+        related = record {
+          lines = counts k.lines;
+          at = record {
+            own = record { stage = refl; table = k.at.own.table; entries = k.at.own.entries };
+            trees = x.1.0;
+            nodes = ap (λ n. n + 1) k.at.nodes ∙ sym (length-append (all_shown ts) (node e s rules ∷ [])) ∙ ap length all;
+          };
+        };
+      }
+
+  pub root_made : (h : Head) (ts : List Grown) (x : Root) (d : RootDerives T x) → RootOver ts x m → RootStands T x (all_shown ts) m d → Related text (nodes T js h ts) st → Made (text ++ m) (code T js h x d) (line_step l st)
+  root_made h ts x d over stand k = record {
+    next = record (counted st) { stage = at_code h (rooted_by d); trees = no_trees };
+    is =
+        step_from (at_nodes h) l st k.at.own.stage
+        ∙ K.within_root T ts (counted st) h l (place_of (counted st)) x d k.at.own.table k.at.trees (subst (RootOver ts x) is over) (subst (λ y. RootStands T x (all_shown ts) y d) is stand);
+    related = record { lines = counts k.lines; at = record { stage = refl; table = k.at.own.table; entries = k.at.own.entries } };
+  }
+
+  pub code_made : (h : Head) (x : Root) (d : RootDerives T x) (ps : List Piece) → AllByRecursion PieceHasRoom ps → IsCode d h ps → root_cost d ≡ h.words → m ≡ pieces_line ps → Related text (code T js h x d) st
+      → Made (text ++ m) (between T (js ++ judged h x ps ∷ [])) (line_step l st)
+  code_made h x d ps room c w e k = record {
+    next = next_of h d (counted st) ps;
+    is = step_from (at_code h (rooted_by d)) l st k.at.stage ∙ K.code_made (counted st) d h l (place_of (counted st)) ps k.at.table room c w (sym is ∙ e);
+    related = record { lines = counts k.lines; at = record { stage = refl; table = k.at.table; entries = ap (λ es. es ++ judged h x ps ∷ []) k.at.entries } };
+  }
+
+  pub last_made : IsNumber (length js) → m ≡ end_line (length js) → Related text (between T js) st → Made (text ++ m) (the_end T js) (line_step l st)
+  last_made room e k = record {
+    next = record (counted st) { stage = at_end };
+    is =
+        step_from at_entries l st k.at.stage ∙ ap (entered l (place_of (counted st)) (counted st)) (at (read_entry l) refl)
+        ∙ ap (ended (place_of (counted st)) (counted st)) (K.end_back l (length js) room (sym is ∙ e)) ∙ ap (λ b. cond b (Ok (record (counted st) { stage = at_end })) (Err (Line (st.lines + 1)))) (itself (length js) (length st.entries) (ap length (sym k.at.entries)));
+    related = record { lines = counts k.lines; at = record { stage = refl; table = k.at.table; entries = k.at.entries } };
+  } where
+    at : (o : Option Head) → read_entry l ≡ o → read_entry l ≡ None
+    at None i = i
+    at (Some x) i = absurd (other x (sym (K.entry_read l x i).1 ∙ sym is ∙ e)) where
+      other : (x : Head) → head_line x ≡ end_line (length js) → ⊥
+      other x h = let i : ◌≡◌ {A = ℕ} 69 90 = ap first_byte h in omega arith
+
+    itself : (i n : ℕ) → i ≡ n → (i == n) ≡ true
+    itself i n h = grind (arith, h)
