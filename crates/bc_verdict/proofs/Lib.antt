@@ -7,3 +7,4 @@ pub mod Accepted
 pub mod Longer
 pub mod OneLine
 pub mod Frame
+pub mod Whole
