@@ -8,3 +8,4 @@ pub mod Longer
 pub mod OneLine
 pub mod Frame
 pub mod Whole
+pub mod Answers

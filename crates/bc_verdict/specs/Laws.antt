@@ -13,6 +13,25 @@ use Rattle.bc_entries.specs.Shown.{root_shown}
 use Rattle.bc_entries.specs.Certificate.{Derived, certificate}
 use Rattle.bc_verdict.specs.Entries.{IsNumber, IsSmall, NodeHasRoom, RootHasRoom, Says}
 use Rattle.bc_verdict.specs.Faults.{Lacks}
+use Rattle.bc_verdict.specs.Judging.{judged}
+
+-- what the checker makes of bytes is what they say, or their first fault
+pub record IsJudged (bytes : List ℕ) : Type 0 where
+  pub accepted : (v : Verdict) → (judged bytes ≡ Ok v) ↔ Says bytes v
+  pub refused : (f : CheckFault) → (judged bytes ≡ Err f) ↔ Lacks bytes f
+
+abbrev pub JudgedIsSaid : Type 0
+JudgedIsSaid = (bytes : List ℕ) → IsJudged bytes
+
+-- bytes say one thing or have one first fault, and not both
+pub record HasOneAnswer (bytes : List ℕ) : Type 0 where
+  pub verdict : (v w : Verdict) → Says bytes v → Says bytes w → v ≡ w
+  pub fault : (f g : CheckFault) → Lacks bytes f → Lacks bytes g → f ≡ g
+  pub either : ((v : Verdict) × Says bytes v) ⊎ ((f : CheckFault) × Lacks bytes f)
+  pub never_both : (v : Verdict) (f : CheckFault) → Says bytes v → ¬ Lacks bytes f
+
+abbrev pub OneAnswer : Type 0
+OneAnswer = (bytes : List ℕ) → HasOneAnswer bytes
 
 -- a fault stays the first one however the bytes go on; that they end in the first line, or before the last one, is known at their end alone
 abbrev pub LongerFaults : Type 0
