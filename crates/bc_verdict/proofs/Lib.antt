@@ -5,6 +5,16 @@ pub mod Said
 pub mod Rooms
 pub mod Accepted
 pub mod Longer
+mod Numbers
+mod Fields
+mod Forms
+mod Chains
+mod Names
+mod Items
+mod Pieces
+mod Roots
+mod Written
+mod Read
 pub mod OneLine
 pub mod Frame
 pub mod Whole
