@@ -23,6 +23,7 @@ use Rattle.bc_verdict.specs.Faults.{HeadHasRoom, head_line, Grown, all_shown, En
 use Rattle.bc_verdict.specs.Judging.{State, counted, place_of, step_at, line_step, begun, ended, entered, within_step, code_step}
 use Rattle.bc_verdict.specs.Judging.{Stage as Kind, the_header as at_header, between as at_entries, nodes as at_nodes, code as at_code, the_end as at_end}
 use Rattle.bc_verdict.proofs.OneLine.{StackStands, rooted_by, StandsBehind, WithinTaken, a_node, a_root, next_of, CodeTaken, Known}
+use Rattle.bc_verdict.proofs.Read.{header_read, header_back, entry_read, entry_back, end_read, end_back, end_no_entry}
 use Rattle.bc_verdict.proofs.Said.{shown_with, no_text}
 
 -- what the checker keeps at each stage
@@ -99,12 +100,12 @@ to_text : {a b : List ℕ} (text : List ℕ) (stage : Stage) → b ≡ a → Rea
 to_text text stage e r = subst (λ x. Reaches (text ++ x) stage) (sym e) r
 
 -- A line at which the checker goes on leads on.
-header_right : Known → (text : List ℕ) (st next : State) (l : List ℕ) → lines l ≡ 0 → Reaches text the_header → Related text the_header st → begun (counted st) (read_header l) ≡ Ok next → Leads (text ++ (l ++ 10 ∷ [])) next
-header_right K text st next l u r h k = at (read_header l) refl where
+header_right : (text : List ℕ) (st next : State) (l : List ℕ) → lines l ≡ 0 → Reaches text the_header → Related text the_header st → begun (counted st) (read_header l) ≡ Ok next → Leads (text ++ (l ++ 10 ∷ [])) next
+header_right text st next l u r h k = at (read_header l) refl where
   at : (o : Option Table) → read_header l ≡ o → Leads (text ++ (l ++ 10 ∷ [])) next
   at None e = never (sym (ap (begun (counted st)) e) ∙ k)
   at (Some T) e =
-      let is : l ++ 10 ∷ [] ≡ header_line T = K.header_read l T e in
+      let is : l ++ 10 ∷ [] ≡ header_line T = header_read l T e in
       let whole : text ++ (l ++ 10 ∷ []) ≡ header_line T = ap (λ x. x ++ (l ++ 10 ∷ [])) (no_text text r) ∙ is in
       subst (Leads (text ++ (l ++ 10 ∷ []))) (ok_same (sym (ap (begun (counted st)) e) ∙ k)) (record {
         stage = between T [];
@@ -119,10 +120,10 @@ module _ (K : Known) (text : List ℕ) (T : Table) (js : List Judged) (st next :
     last n e false t i = never i
     last n e true t i =
         let same : n ≡ length js = eqb-true n (length st.entries) t ∙ ap length h.at.entries in
-        let read = K.end_read l (length js) (e ∙ ap (λ m. Some m) same) in
+        let read = end_read l (length js) (e ∙ ap (λ m. Some m) same) in
         subst (Leads (text ++ (l ++ 10 ∷ []))) (ok_same i) (record {
           stage = the_end T js;
-          reaches = to_text text (the_end T js) read.1 (last_line r read.0);
+          reaches = to_text text (the_end T js) read.0 (last_line r read.1);
           related = record { lines = ap (λ m. m + 1) h.lines ∙ sym (one_more text l u); at = record { stage = refl; table = h.at.table; entries = h.at.entries } };
         })
 
@@ -133,10 +134,10 @@ module _ (K : Known) (text : List ℕ) (T : Table) (js : List Judged) (st next :
     at : (o : Option Head) → read_entry l ≡ o → Leads (text ++ (l ++ 10 ∷ [])) next
     at None e = at_last (read_end l) refl (sym (ap (entered l (place_of (counted st)) (counted st)) e) ∙ k)
     at (Some x) e =
-        let read = K.entry_read l x e in
+        let read = entry_read l x e in
         subst (Leads (text ++ (l ++ 10 ∷ []))) (ok_same (sym (ap (entered l (place_of (counted st)) (counted st)) e) ∙ k)) (record {
           stage = nodes T js x [];
-          reaches = to_text text (nodes T js x []) read.1 (entry r read.0);
+          reaches = to_text text (nodes T js x []) read.0 (entry r read.1);
           related = record {
             lines = ap (λ m. m + 1) h.lines ∙ sym (one_more text l u);
             at = record { own = record { stage = refl; table = h.at.table; entries = h.at.entries }; trees = tt; nodes = refl };
@@ -180,23 +181,23 @@ module _ (K : Known) (text : List ℕ) (T : Table) (js : List Judged) (st next :
       })
 
 pub line_right : Known → (text : List ℕ) (stage : Stage) (st next : State) (l : List ℕ) → lines l ≡ 0 → Reaches text stage → Related text stage st → line_step l st ≡ Ok next → Leads (text ++ (l ++ 10 ∷ [])) next
-line_right K text the_header st next l u r h k = header_right K text st next l u r h (sym (step_from at_header l st h.at.stage) ∙ k)
+line_right K text the_header st next l u r h k = header_right text st next l u r h (sym (step_from at_header l st h.at.stage) ∙ k)
 line_right K text (between T js) st next l u r h k = entry_right K text T js st next l u r h (sym (step_from at_entries l st h.at.stage) ∙ k)
 line_right K text (nodes T js e ts) st next l u r h k = within_right K text T js st next l u e ts r h (sym (step_from (at_nodes e) l st h.at.own.stage) ∙ k)
 line_right K text (code T js e x d) st next l u r h k = code_right K text T js st next l u e x d r h (sym (step_from (at_code e (rooted_by d)) l st h.at.stage) ∙ k)
 line_right K text (the_end T js) st next l u r h k = never (sym (step_from at_end l st h.at.stage) ∙ k)
 
 -- A line at which the checker finds a fault has that fault.
-header_wrong : Known → (text : List ℕ) (st : State) (l : List ℕ) (f : CheckFault) → begun (counted st) (read_header l) ≡ Err f → LineFault text the_header (l ++ 10 ∷ []) f
-header_wrong K text st l f k = at (read_header l) refl where
+header_wrong : (text : List ℕ) (st : State) (l : List ℕ) (f : CheckFault) → begun (counted st) (read_header l) ≡ Err f → LineFault text the_header (l ++ 10 ∷ []) f
+header_wrong text st l f k = at (read_header l) refl where
   at : (o : Option Table) → read_header l ≡ o → LineFault text the_header (l ++ 10 ∷ []) f
-  at None e = subst (LineFault text the_header (l ++ 10 ∷ [])) (err_same (sym (ap (begun (counted st)) e) ∙ k)) (no_header (λ T is. unread T (sym e ∙ K.header_back l T is))) where
+  at None e = subst (LineFault text the_header (l ++ 10 ∷ [])) (err_same (sym (ap (begun (counted st)) e) ∙ k)) (no_header (λ T is. unread T (sym e ∙ header_back l T is))) where
     unread : (T : Table) → ◌≡◌ {A = Option Table} None (Some T) → ⊥
     unread T h = cc
   at (Some T) e = never_wrong (sym (ap (begun (counted st)) e) ∙ k)
 
-entry_wrong : Known → (text : List ℕ) (T : Table) (js : List Judged) (st : State) (l : List ℕ) (f : CheckFault) → Related text (between T js) st → entered l (place_of (counted st)) (counted st) (read_entry l) ≡ Err f → LineFault text (between T js) (l ++ 10 ∷ []) f
-entry_wrong K text T js st l f h k = at (read_entry l) refl where
+entry_wrong : (text : List ℕ) (T : Table) (js : List Judged) (st : State) (l : List ℕ) (f : CheckFault) → Related text (between T js) st → entered l (place_of (counted st)) (counted st) (read_entry l) ≡ Err f → LineFault text (between T js) (l ++ 10 ∷ []) f
+entry_wrong text T js st l f h k = at (read_entry l) refl where
   place : Line (place_of (counted st)).line ≡ Line (lines text + 1)
   place = ap (λ n. Line (n + 1)) h.lines
 
@@ -207,7 +208,7 @@ entry_wrong K text T js st l f h k = at (read_entry l) refl where
   unread_end i = cc
 
   fault : Line (place_of (counted st)).line ≡ f → read_entry l ≡ None → (IsNumber (length js) → ¬ (l ++ 10 ∷ [] ≡ end_line (length js))) → LineFault text (between T js) (l ++ 10 ∷ []) f
-  fault i e g = subst (LineFault text (between T js) (l ++ 10 ∷ [])) (sym place ∙ i) (no_entry (λ x room is. unread_head (sym e ∙ K.entry_back l x room is)) g)
+  fault i e g = subst (LineFault text (between T js) (l ++ 10 ∷ [])) (sym place ∙ i) (no_entry (λ x room is. unread_head (sym e ∙ entry_back l x room is)) g)
 
   some_same : {m n : ℕ} → ◌≡◌ {A = Option ℕ} (Some m) (Some n) → m ≡ n
   some_same i = cc
@@ -217,10 +218,10 @@ entry_wrong K text T js st l f h k = at (read_entry l) refl where
 
   last : read_entry l ≡ None → (n : ℕ) → read_end l ≡ Some n → (b : Bool) → (n == length st.entries) ≡ b → cond b (Ok (record (counted st) { stage = at_end })) (Err (Line (place_of (counted st)).line)) ≡ Err f → LineFault text (between T js) (l ++ 10 ∷ []) f
   last e n i true t j = never_wrong j
-  last e n i false t j = fault (err_same j) e (λ room is. itself n (length st.entries) (some_same (sym i ∙ K.end_back l (length js) room is) ∙ sym (ap length h.at.entries)) t)
+  last e n i false t j = fault (err_same j) e (λ room is. itself n (length st.entries) (some_same (sym i ∙ end_back l (length js) room is) ∙ sym (ap length h.at.entries)) t)
 
   at_last : read_entry l ≡ None → (o : Option ℕ) → read_end l ≡ o → ended (place_of (counted st)) (counted st) o ≡ Err f → LineFault text (between T js) (l ++ 10 ∷ []) f
-  at_last e None i j = fault (err_same j) e (λ room is. unread_end (sym i ∙ K.end_back l (length js) room is))
+  at_last e None i j = fault (err_same j) e (λ room is. unread_end (sym i ∙ end_back l (length js) room is))
   at_last e (Some n) i j = last e n i (n == length st.entries) refl j
 
   at : (o : Option Head) → read_entry l ≡ o → LineFault text (between T js) (l ++ 10 ∷ []) f
@@ -228,8 +229,8 @@ entry_wrong K text T js st l f h k = at (read_entry l) refl where
   at (Some x) e = never_wrong (sym (ap (entered l (place_of (counted st)) (counted st)) e) ∙ k)
 
 pub line_wrong : Known → (text : List ℕ) (stage : Stage) (st : State) (l : List ℕ) (f : CheckFault) → Related text stage st → line_step l st ≡ Err f → LineFault text stage (l ++ 10 ∷ []) f
-line_wrong K text the_header st l f h k = header_wrong K text st l f (sym (step_from at_header l st h.at.stage) ∙ k)
-line_wrong K text (between T js) st l f h k = entry_wrong K text T js st l f h (sym (step_from at_entries l st h.at.stage) ∙ k)
+line_wrong K text the_header st l f h k = header_wrong text st l f (sym (step_from at_header l st h.at.stage) ∙ k)
+line_wrong K text (between T js) st l f h k = entry_wrong text T js st l f h (sym (step_from at_entries l st h.at.stage) ∙ k)
 line_wrong K text (nodes T js e ts) st l f h k =
     K.within_fault text T js ts (counted st) e l (place_of (counted st)) f (stands text js (length (all_shown ts)) st h.lines h.at.own.entries h.at.nodes) h.at.own.table h.at.trees (sym (step_from (at_nodes e) l st h.at.own.stage) ∙ k)
 line_wrong K text (code T js e x d) st l f h k =
@@ -238,15 +239,15 @@ line_wrong K text (the_end T js) st l f h k =
     subst (LineFault text (the_end T js) (l ++ 10 ∷ [])) (sym (ap (λ n. Line (n + 1)) h.lines) ∙ err_same (sym (step_from at_end l st h.at.stage) ∙ k)) behind
 
 -- A line with a fault is one at which the checker finds it.
-header_fails : Known → (text : List ℕ) (st : State) (l m : List ℕ) (f : CheckFault) → m ≡ l ++ 10 ∷ [] → LineFault text the_header m f → begun (counted st) (read_header l) ≡ Err f
-header_fails K text st l m f is (no_header none) = at (read_header l) refl where
+header_fails : (text : List ℕ) (st : State) (l m : List ℕ) (f : CheckFault) → m ≡ l ++ 10 ∷ [] → LineFault text the_header m f → begun (counted st) (read_header l) ≡ Err f
+header_fails text st l m f is (no_header none) = at (read_header l) refl where
   at : (o : Option Table) → read_header l ≡ o → begun (counted st) (read_header l) ≡ Err Header
   at None e = ap (begun (counted st)) e
-  at (Some T) e = absurd (none T (is ∙ K.header_read l T e))
+  at (Some T) e = absurd (none T (is ∙ header_read l T e))
 
-entry_fails : Known → (text : List ℕ) (T : Table) (js : List Judged) (st : State) (l m : List ℕ) (f : CheckFault) → Related text (between T js) st → m ≡ l ++ 10 ∷ [] → LineFault text (between T js) m f
+entry_fails : (text : List ℕ) (T : Table) (js : List Judged) (st : State) (l m : List ℕ) (f : CheckFault) → Related text (between T js) st → m ≡ l ++ 10 ∷ [] → LineFault text (between T js) m f
     → entered l (place_of (counted st)) (counted st) (read_entry l) ≡ Err f
-entry_fails K text T js st l m f h is (no_entry no_head no_end) = at (read_entry l) refl where
+entry_fails text T js st l m f h is (no_entry no_head no_end) = at (read_entry l) refl where
   p : Place
   p = place_of (counted st)
 
@@ -257,8 +258,8 @@ entry_fails K text T js st l m f h is (no_entry no_head no_end) = at (read_entry
   last n e false t = place
   last n e true t =
       let same : n ≡ length js = eqb-true n (length st.entries) t ∙ ap length h.at.entries in
-      let read = K.end_read l (length js) (e ∙ ap (λ k. Some k) same) in
-      absurd (no_end read.0 (is ∙ read.1))
+      let read = end_read l (length js) (e ∙ ap (λ k. Some k) same) in
+      absurd (no_end read.1 (is ∙ read.0))
 
   at_last : (o : Option ℕ) → read_end l ≡ o → ended (place_of (counted st)) (counted st) o ≡ Err (Line (lines text + 1))
   at_last None e = place
@@ -266,14 +267,14 @@ entry_fails K text T js st l m f h is (no_entry no_head no_end) = at (read_entry
 
   at : (o : Option Head) → read_entry l ≡ o → entered l (place_of (counted st)) (counted st) o ≡ Err (Line (lines text + 1))
   at None e = at_last (read_end l) refl
-  at (Some x) e = let read = K.entry_read l x e in absurd (no_head x read.0 (is ∙ read.1))
+  at (Some x) e = let read = entry_read l x e in absurd (no_head x read.1 (is ∙ read.0))
 
 end_fails : (text : List ℕ) (T : Table) (js : List Judged) (st : State) (l m : List ℕ) (f : CheckFault) → Related text (the_end T js) st → LineFault text (the_end T js) m f → step_at at_end l (place_of (counted st)) (counted st) ≡ Err f
 end_fails text T js st l m f h behind = ap (λ n. Err (Line (n + 1))) h.lines
 
 pub line_fails : Known → (text : List ℕ) (stage : Stage) (st : State) (l m : List ℕ) (f : CheckFault) → Related text stage st → m ≡ l ++ 10 ∷ [] → LineFault text stage m f → line_step l st ≡ Err f
-line_fails K text the_header st l m f h is k = step_from at_header l st h.at.stage ∙ header_fails K text st l m f is k
-line_fails K text (between T js) st l m f h is k = step_from at_entries l st h.at.stage ∙ entry_fails K text T js st l m f h is k
+line_fails K text the_header st l m f h is k = step_from at_header l st h.at.stage ∙ header_fails text st l m f is k
+line_fails K text (between T js) st l m f h is k = step_from at_entries l st h.at.stage ∙ entry_fails text T js st l m f h is k
 line_fails K text (nodes T js e ts) st l m f h is k =
     step_from (at_nodes e) l st h.at.own.stage
     ∙ K.within_fails text T js ts (counted st) e l m (place_of (counted st)) f (stands text js (length (all_shown ts)) st h.lines h.at.own.entries h.at.nodes) h.at.own.table h.at.trees is k
@@ -282,15 +283,11 @@ line_fails K text (code T js e x d) st l m f h is k =
     ∙ K.code_fails text js st.nodes (counted st) d e l m (place_of (counted st)) f (stands text js st.nodes st h.lines h.at.entries refl) h.at.table is k
 line_fails K text (the_end T js) st l m f h is k = step_from at_end l st h.at.stage ∙ end_fails text T js st l m f h k
 
-abbrev first_byte : List ℕ → ℕ
-first_byte [] = 0
-first_byte (b ∷ bs) = b
-
 -- A line that leads on is one at which the checker goes on.
-pub header_made : Known → (T : Table) (st : State) (l : List ℕ) → lines l ≡ 0 → header_line T ≡ l ++ 10 ∷ [] → Related [] the_header st → Made (header_line T) (between T []) (line_step l st)
-header_made K T st l u is h = record {
+pub header_made : (T : Table) (st : State) (l : List ℕ) → lines l ≡ 0 → header_line T ≡ l ++ 10 ∷ [] → Related [] the_header st → Made (header_line T) (between T []) (line_step l st)
+header_made T st l u is h = record {
   next = record (counted st) { table = T; stage = at_entries };
-  is = step_from at_header l st h.at.stage ∙ ap (begun (counted st)) (K.header_back l T (sym is));
+  is = step_from at_header l st h.at.stage ∙ ap (begun (counted st)) (header_back l T (sym is));
   related = record {
     lines = ap (λ m. m + 1) h.lines ∙ sym (one_more [] l u) ∙ ap lines (sym is);
     at = record { stage = refl; table = refl; entries = h.at.entries };
@@ -304,7 +301,7 @@ module _ (K : Known) (text : List ℕ) (T : Table) (js : List Judged) (st : Stat
   pub entry_made : (h : Head) → HeadHasRoom h → m ≡ head_line h → Related text (between T js) st → Made (text ++ m) (nodes T js h []) (line_step l st)
   entry_made h room e k = record {
     next = record (counted st) { stage = at_nodes h; trees = no_trees; nodes = 0 };
-    is = step_from at_entries l st k.at.stage ∙ ap (entered l (place_of (counted st)) (counted st)) (K.entry_back l h room (sym is ∙ e));
+    is = step_from at_entries l st k.at.stage ∙ ap (entered l (place_of (counted st)) (counted st)) (entry_back l h room (sym is ∙ e));
     related = record { lines = counts k.lines; at = record { own = record { stage = refl; table = k.at.table; entries = k.at.entries }; trees = tt; nodes = refl } };
   }
 
@@ -347,15 +344,9 @@ module _ (K : Known) (text : List ℕ) (T : Table) (js : List Judged) (st : Stat
   last_made room e k = record {
     next = record (counted st) { stage = at_end };
     is =
-        step_from at_entries l st k.at.stage ∙ ap (entered l (place_of (counted st)) (counted st)) (at (read_entry l) refl)
-        ∙ ap (ended (place_of (counted st)) (counted st)) (K.end_back l (length js) room (sym is ∙ e)) ∙ ap (λ b. cond b (Ok (record (counted st) { stage = at_end })) (Err (Line (st.lines + 1)))) (itself (length js) (length st.entries) (ap length (sym k.at.entries)));
+        step_from at_entries l st k.at.stage ∙ ap (entered l (place_of (counted st)) (counted st)) (end_no_entry l (length js) (sym is ∙ e))
+        ∙ ap (ended (place_of (counted st)) (counted st)) (end_back l (length js) room (sym is ∙ e)) ∙ ap (λ b. cond b (Ok (record (counted st) { stage = at_end })) (Err (Line (st.lines + 1)))) (itself (length js) (length st.entries) (ap length (sym k.at.entries)));
     related = record { lines = counts k.lines; at = record { stage = refl; table = k.at.table; entries = k.at.entries } };
   } where
-    at : (o : Option Head) → read_entry l ≡ o → read_entry l ≡ None
-    at None i = i
-    at (Some x) i = absurd (other x (sym (K.entry_read l x i).1 ∙ sym is ∙ e)) where
-      other : (x : Head) → head_line x ≡ end_line (length js) → ⊥
-      other x h = let i : ◌≡◌ {A = ℕ} 69 90 = ap first_byte h in omega arith
-
     itself : (i n : ℕ) → i ≡ n → (i == n) ≡ true
     itself i n h = grind (arith, h)

@@ -1,4 +1,4 @@
--- What has to be known of one line: how it is read, where it ends, and what the checker says of a node line, a root line and a code line.
+-- What has to be known of a node line, a root line and a code line: what the checker says of them.
 use Rattle.std.proofs.Common.{◌≡◌, ℕ, ◌+◌, List, [], ◌∷◌, ◌++◌, length, Some, Ok, Err}
 use Rattle.std.specs.List.{AllByRecursion}
 use Rattle.bc_core.specs.Tree.{Exp, Root}
@@ -20,10 +20,6 @@ use Rattle.bc_verdict.specs.Entries.{IsNumber, NodeHasRoom, PieceHasRoom, pieces
 use Rattle.bc_verdict.specs.Faults.{HeadHasRoom, head_line, Grown, all_shown, Ends, StandsBy, node, grown, IsCode, judged, RootOver, RootStands, nodes, code, lines, LineFault}
 use Rattle.bc_verdict.specs.Judging.{State, between, nodes as at_nodes, code as at_code, within_step, code_step}
 use Rattle.bc_verdict.specs.Standing.{AllStand}
-
--- bytes that end one line, at their end
-abbrev pub IsOneLine : List ℕ → Type 0
-IsOneLine text = (l : List ℕ) × (text ≡ l ++ 10 ∷ []) × (lines l ≡ 0)
 
 -- what is kept of trees is true of them
 abbrev pub StackStands : Table → List Grown → Stack → Type 0
@@ -58,18 +54,6 @@ pub record CodeTaken {T : Table} {r : Root} (d : RootDerives T r) (h : Head) (l 
   pub next : after ≡ next_of h d st pieces
 
 pub record Known : Type 0 where
-  pub header_read : (l : List ℕ) (T : Table) → read_header l ≡ Some T → l ++ 10 ∷ [] ≡ header_line T
-  pub header_back : (l : List ℕ) (T : Table) → l ++ 10 ∷ [] ≡ header_line T → read_header l ≡ Some T
-  pub entry_read : (l : List ℕ) (h : Head) → read_entry l ≡ Some h → HeadHasRoom h × (l ++ 10 ∷ [] ≡ head_line h)
-  pub entry_back : (l : List ℕ) (h : Head) → HeadHasRoom h → l ++ 10 ∷ [] ≡ head_line h → read_entry l ≡ Some h
-  pub end_read : (l : List ℕ) (n : ℕ) → read_end l ≡ Some n → IsNumber n × (l ++ 10 ∷ [] ≡ end_line n)
-  pub end_back : (l : List ℕ) (n : ℕ) → IsNumber n → l ++ 10 ∷ [] ≡ end_line n → read_end l ≡ Some n
-  pub header_ends : (T : Table) → IsOneLine (header_line T)
-  pub entry_ends : (h : Head) → HeadHasRoom h → IsOneLine (head_line h)
-  pub end_ends : (n : ℕ) → IsNumber n → IsOneLine (end_line n)
-  pub node_ends : (T : Table) (n : Shown) → NodeHasRoom T n → IsOneLine (line_of_node T n)
-  pub root_ends : (ts : List Grown) (r : Root) (l : List ℕ) → RootOver ts r l → IsOneLine l
-  pub code_ends : (ps : List Piece) → AllByRecursion PieceHasRoom ps → IsOneLine (pieces_line ps)
   pub within_taken : (T : Table) (ts : List Grown) (st after : State) (h : Head) (l : List ℕ) (p : Place) → st.table ≡ T → StackStands T ts st.trees → within_step h l p st ≡ Ok after → WithinTaken T ts h l st after
   pub within_fault : (text : List ℕ) (T : Table) (js : List Judged) (ts : List Grown) (st : State) (h : Head) (l : List ℕ) (p : Place) (f : CheckFault) → StandsBehind text js (length (all_shown ts)) p → st.table ≡ T → StackStands T ts st.trees
       → within_step h l p st ≡ Err f → LineFault text (nodes T js h ts) (l ++ 10 ∷ []) f

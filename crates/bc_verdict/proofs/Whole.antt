@@ -12,7 +12,9 @@ use Rattle.bc_verdict.specs.Faults.{head_line, node, Stage, the_header, between,
 use Rattle.bc_certificate.specs.Text.{header_line, end_line}
 use Rattle.bc_verdict.specs.Judging.{Stage as Kind, the_header as at_header, between as at_entries, nodes as at_nodes, code as at_code, the_end as at_end}
 use Rattle.bc_verdict.specs.Judging.{State, start, line_step, byte_step, feed_from, no_rest, finished_at, finished, judged}
-use Rattle.bc_verdict.proofs.OneLine.{IsOneLine, rooted_by, Known}
+use Rattle.bc_verdict.proofs.OneLine.{rooted_by, Known}
+use Rattle.bc_verdict.proofs.Fields.{IsOneLine}
+use Rattle.bc_verdict.proofs.Read.{header_ends, entry_ends, end_ends, node_ends, root_ends, code_ends}
 use Rattle.bc_verdict.proofs.Listing.{says_reaches}
 use Rattle.bc_verdict.proofs.Said.{no_text, reaches_says}
 use Rattle.bc_verdict.proofs.Frame.{Related, Leads, Made, lines_of_two, line_right, line_wrong, line_fails, header_made, entry_made, node_made, root_made, code_made, last_made}
@@ -85,18 +87,18 @@ started = record { lines = refl; at = record { stage = refl; entries = refl } }
 
 comes : Known → (text : List ℕ) (stage : Stage) → Reaches text stage → Comes text stage
 comes K _ _ nothing = record { state = start; is = refl; related = started }
-comes K _ _ (header {T = T}) = by_line [] the_header (between T []) (header_line T) (record { state = start; is = refl; related = started }) (K.header_ends T) (λ st l u e k. header_made K T st l u e k)
+comes K _ _ (header {T = T}) = by_line [] the_header (between T []) (header_line T) (record { state = start; is = refl; related = started }) (header_ends T) (λ st l u e k. header_made T st l u e k)
 comes K _ _ (entry {text = text} {T = T} {js = js} {h = h} r room) =
-    by_line text (between T js) (nodes T js h []) (head_line h) (comes K text (between T js) r) (K.entry_ends h room) (λ st l u e k. entry_made K text T js st l (head_line h) u e h room refl k)
+    by_line text (between T js) (nodes T js h []) (head_line h) (comes K text (between T js) r) (entry_ends h room) (λ st l u e k. entry_made K text T js st l (head_line h) u e h room refl k)
 comes K _ _ (node_line {text = text} {T = T} {js = js} {h = h} {trees = ts} {e = x} {s = s} {rules = rules} r ends room stand) =
-    by_line text (nodes T js h ts) (nodes T js h _) (line_of_node T (node x s rules)) (comes K text (nodes T js h ts) r) (K.node_ends T (node x s rules) room)
+    by_line text (nodes T js h ts) (nodes T js h _) (line_of_node T (node x s rules)) (comes K text (nodes T js h ts) r) (node_ends T (node x s rules) room)
     (λ st l u e k. node_made K text T js st l (line_of_node T (node x s rules)) u e h ts x s rules ends room stand refl k)
 comes K _ _ (root_line {text = text} {T = T} {js = js} {h = h} {trees = ts} {r = x} {l = m} {d = d} r over stand) =
-    by_line text (nodes T js h ts) (code T js h x d) m (comes K text (nodes T js h ts) r) (K.root_ends ts x m over) (λ st l u e k. root_made K text T js st l m u e h ts x d over stand k)
+    by_line text (nodes T js h ts) (code T js h x d) m (comes K text (nodes T js h ts) r) (root_ends ts x m over) (λ st l u e k. root_made K text T js st l m u e h ts x d over stand k)
 comes K _ _ (code_line {text = text} {T = T} {js = js} {h = h} {r = x} {d = d} {ps = ps} r room c w) =
-    by_line text (code T js h x d) (between T _) (pieces_line ps) (comes K text (code T js h x d) r) (K.code_ends ps room) (λ st l u e k. code_made K text T js st l (pieces_line ps) u e h x d ps room c w refl k)
+    by_line text (code T js h x d) (between T _) (pieces_line ps) (comes K text (code T js h x d) r) (code_ends ps room) (λ st l u e k. code_made K text T js st l (pieces_line ps) u e h x d ps room c w refl k)
 comes K _ _ (last_line {text = text} {T = T} {js = js} r room) =
-    by_line text (between T js) (the_end T js) _ (comes K text (between T js) r) (K.end_ends _ room) (λ st l u e k. last_made K text T js st l _ u e room refl k)
+    by_line text (between T js) (the_end T js) _ (comes K text (between T js) r) (end_ends _ room) (λ st l u e k. last_made K text T js st l _ u e room refl k)
 
 -- Where the checker is behind bytes: lines that lead there, and bytes that end no line; or the bytes have the fault.
 record Stopped (whole : List ℕ) (s : Fed) : Type 0 where
