@@ -1,5 +1,5 @@
 -- The certificate of derivations of least words is accepted.
-use Rattle.std.proofs.Common.{◌≡◌, ℕ, ◌+◌, List, [], ◌∷◌, ◌++◌, map, length, flat_map, refl, ap, sym, subst, ◌∙◌, append-nil, append_assoc, arith}
+use Rattle.std.proofs.Common.{◌≡◌, ℕ, List, [], ◌∷◌, ◌++◌, map, length, flat_map, refl, ap, sym, subst, ◌∙◌, append-nil, append_assoc, arith}
 use Rattle.std.specs.List.{AllZip, AllByRecursion}
 use Rattle.std.specs.Fmt.{decimal}
 use Rattle.std.proofs.lemmas.List.{length-map}
@@ -11,9 +11,9 @@ use Rattle.bc_derive.proofs.Words.{root_words}
 use Rattle.bc_certificate.specs.Text.{header_line, end_line}
 use Rattle.bc_certificate.specs.Verdict.{Judged}
 use Rattle.bc_entries.specs.Shown.{root_shown}
-use Rattle.bc_entries.specs.Lines.{line, line_end, entry_line, node_line, root_line, code_fields, code_line}
+use Rattle.bc_entries.specs.Lines.{line, entry_line, node_line, root_line, code_fields, code_line}
 use Rattle.bc_entries.specs.Certificate.{Derived, entry_text}
-use Rattle.bc_verdict.specs.Entries.{IsNumber, piece_field, PieceHasRoom, pieces_line, SamePiece, Listed, AllListed, none, more}
+use Rattle.bc_verdict.specs.Entries.{IsNumber, piece_field, PieceHasRoom, SamePiece, Listed, AllListed, none, more}
 use Rattle.bc_verdict.specs.Laws.{with_bodies, judged_of, HasRoom, HasFewest, CertificateIsSaid}
 use Rattle.bc_verdict.proofs.Rooms.{HaveItemRoom, root_code_room}
 

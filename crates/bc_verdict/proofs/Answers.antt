@@ -1,5 +1,5 @@
 -- Bytes say one thing or have one first fault, since the checker answers one thing.
-use Rattle.std.proofs.Common.{◌≡◌, ℕ, ◌⊎◌, List, Result, Ok, Err, inl, inr, refl, sym, ◌∙◌}
+use Rattle.std.proofs.Common.{◌≡◌, ◌⊎◌, Result, Ok, Err, inl, inr, refl, sym, ◌∙◌}
 use Rattle.bc_certificate.specs.declared.check_fault.CheckFault.{CheckFault}
 use Rattle.bc_certificate.specs.Verdict.{Verdict}
 use Rattle.bc_verdict.specs.Entries.{Says}

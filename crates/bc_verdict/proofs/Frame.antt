@@ -1,5 +1,5 @@
 -- The checker's step at a line against the lines that lead to a stage, and against the fault of a line.
-use Rattle.std.proofs.Common.{◌≡◌, ℕ, ◌+◌, ◌==◌, Bool, true, false, cond, List, [], ◌∷◌, ◌++◌, length, Option, Some, None, Result, Ok, Err, refl, ap, sym, subst, ◌∙◌, append_assoc, append-nil, arith}
+use Rattle.std.proofs.Common.{◌≡◌, ℕ, ◌+◌, ◌==◌, Bool, true, false, cond, List, [], ◌∷◌, ◌++◌, length, Option, Some, None, Result, Ok, Err, refl, ap, sym, subst, ◌∙◌, arith}
 use Rattle.std.specs.List.{AllByRecursion}
 use Rattle.std.proofs.lemmas.Bool.{eqb-true}
 use Rattle.std.proofs.lemmas.List.{length-append}
@@ -17,12 +17,12 @@ use Rattle.bc_entries.specs.Lines.{node_line as line_of_node}
 use Rattle.bc_lines.specs.declared.lines.Head.{Head}
 use Rattle.bc_lines.specs.Lines.{header as read_header, entry_line as read_entry, end_line as read_end}
 use Rattle.bc_stack.specs.declared.place.Place.{Place}
-use Rattle.bc_stack.specs.Stacks.{Stack, no_trees}
+use Rattle.bc_stack.specs.Stacks.{no_trees}
 use Rattle.bc_verdict.specs.Entries.{IsNumber, NodeHasRoom, PieceHasRoom, pieces_line}
-use Rattle.bc_verdict.specs.Faults.{HeadHasRoom, head_line, Grown, all_shown, Ends, StandsBy, node, grown, IsCode, judged, RootOver, RootStands, Stage, the_header, between, nodes, code, the_end, Reaches, nothing, header, entry, node_line, root_line, code_line, last_line, lines, LineFault, no_header, no_entry, behind}
+use Rattle.bc_verdict.specs.Faults.{HeadHasRoom, head_line, Grown, all_shown, Ends, StandsBy, node, grown, IsCode, judged, RootOver, RootStands, Stage, the_header, between, nodes, code, the_end, Reaches, header, entry, node_line, root_line, code_line, last_line, lines, LineFault, no_header, no_entry, behind}
 use Rattle.bc_verdict.specs.Judging.{State, counted, place_of, step_at, line_step, begun, ended, entered, within_step, code_step}
 use Rattle.bc_verdict.specs.Judging.{Stage as Kind, the_header as at_header, between as at_entries, nodes as at_nodes, code as at_code, the_end as at_end}
-use Rattle.bc_verdict.proofs.OneLine.{StackStands, rooted_by, StandsBehind, WithinTaken, a_node, a_root, next_of, CodeTaken, Known}
+use Rattle.bc_verdict.proofs.OneLine.{StackStands, rooted_by, StandsBehind, WithinTaken, a_node, a_root, next_of, Known}
 use Rattle.bc_verdict.proofs.Read.{header_read, header_back, entry_read, entry_back, end_read, end_back, end_no_entry}
 use Rattle.bc_verdict.proofs.Said.{shown_with, no_text}
 

@@ -1,5 +1,5 @@
 -- The node lines of a derivation of least words, and those of expressions without rules, lead on line by line.
-use Rattle.std.proofs.Common.{◌≡◌, ℕ, ◌+◌, ◌*◌, Bool, true, false, cond, not, Some, None, List, [], ◌∷◌, ◌++◌, map, flat_map, refl, ap, sym, subst, ◌∙◌, append-nil, append_assoc}
+use Rattle.std.proofs.Common.{◌≡◌, ℕ, ◌+◌, ◌*◌, Bool, true, false, cond, Some, None, List, [], ◌∷◌, ◌++◌, map, flat_map, refl, ap, sym, subst, ◌∙◌, append-nil, append_assoc}
 use Rattle.std.specs.List.{AllByRecursion}
 use Rattle.std.proofs.lemmas.List.{map-append}
 use Rattle.std.proofs.lemmas.Grind.{flat_map-append}
@@ -32,7 +32,7 @@ pub all_behind : {X : Type 0} (P : X → Type 0) (xs ys : List X) → AllByRecur
 all_behind P [] ys h = h
 all_behind P (x ∷ xs) ys h = all_behind P xs ys h.1
 
-abbrev HaveRoom : Table → List Shown → Type 0
+abbrev pub HaveRoom : Table → List Shown → Type 0
 HaveRoom T ns = AllByRecursion (NodeHasRoom T) ns
 
 -- The lines of these nodes put trees of these expressions behind those that are there.

@@ -1,13 +1,12 @@
 -- The lines of an accepted certificate lead from the beginning to its end, and lines that lead to an end are those of one.
-use Rattle.std.proofs.Common.{◌≡◌, ℕ, ◌+◌, ◌*◌, ◌≤◌, Bool, true, false, cond, Some, None, List, [], ◌∷◌, ◌++◌, map, length, flat_map, refl, ap, sym, subst, ◌∙◌, append-nil, append_assoc, arith}
+use Rattle.std.proofs.Common.{◌≡◌, ℕ, ◌+◌, ◌*◌, ◌≤◌, Bool, cond, None, List, [], ◌∷◌, ◌++◌, map, length, flat_map, refl, ap, sym, subst, ◌∙◌, append-nil, append_assoc, arith}
 use Rattle.std.specs.Prelude.{is_some}
-use Rattle.std.specs.List.{AllByRecursion, AllZip}
+use Rattle.std.specs.List.{AllByRecursion}
 use Rattle.std.specs.Fmt.{decimal}
 use Rattle.std.proofs.lemmas.Grind.{flat_map-append}
 use Rattle.bc_core.specs.Tree.{Exp, Root, Value, Test, Assign}
 use Rattle.bc_core.specs.Level.{side_level}
 use Rattle.bc_core.specs.Operand.{operand_of}
-use Rattle.bc_derive.specs.declared.piece.Piece.{Piece}
 use Rattle.bc_derive.specs.declared.rule.Table.{Table}
 use Rattle.bc_derive.specs.declared.rule.Mode.TheVariants.{Any}
 use Rattle.bc_derive.specs.declared.rule.Aim.TheVariants.{Gets, Jumps}
@@ -15,20 +14,16 @@ use Rattle.bc_derive.specs.declared.rule.Rule.{Rule}
 use Rattle.bc_derive.specs.declared.rule.Rule.TheVariants.{A1, A2, A3}
 use Rattle.bc_derive.specs.Piece.{w, operand_words}
 use Rattle.bc_derive.specs.Rules.{Derives, RootDerives, value, test, a1, a2, a3}
-use Rattle.bc_derive.specs.Code.{cost, root_code, root_labels, root_cost}
+use Rattle.bc_derive.specs.Code.{cost, root_cost}
 use Rattle.bc_certificate.specs.Text.{header_line, end_line}
 use Rattle.bc_certificate.specs.Verdict.{Judged, Verdict}
 use Rattle.bc_entries.specs.Shown.{Shown, bare, shown, root_shown}
 use Rattle.bc_entries.specs.Lines.{line, rule_name, sense_field, node_line as line_of_node, root_line as line_of_root}
 use Rattle.bc_lines.specs.declared.lines.Head.{Head}
-use Rattle.bc_verdict.specs.Entries.{IsNumber, IsLevel, NodeHasRoom, PieceHasRoom, pieces_line, SamePiece, RootHasRoom, Listed, AllListed, none, more, Says}
-use Rattle.bc_verdict.specs.Faults.{HeadHasRoom, head_line, Grown, all_shown, Ends, RulesStand, StandsBy, node, grown, IsCode, judged, IsAssignment, first, second, third, RootOver, assign, RootStands, Stage, the_header, between, nodes, code, the_end, Reaches, nothing, header, entry, node_line, root_line, code_line, last_line}
-use Rattle.bc_verdict.specs.Standing.{IsFewest}
+use Rattle.bc_verdict.specs.Entries.{IsLevel, NodeHasRoom, pieces_line, RootHasRoom, Listed, AllListed, none, more, Says}
+use Rattle.bc_verdict.specs.Faults.{head_line, Grown, all_shown, IsAssignment, first, second, third, RootOver, assign, between, nodes, the_end, Reaches, header, entry, root_line, code_line, last_line}
 use Rattle.bc_verdict.proofs.Fewest.{by_one, by_first, by_second}
-use Rattle.bc_verdict.proofs.Growth.{Grows, all_front, all_behind, bare_node_grows, derivation_grows}
-
-abbrev HaveRoom : Table → List Shown → Type 0
-HaveRoom T ns = AllByRecursion (NodeHasRoom T) ns
+use Rattle.bc_verdict.proofs.Growth.{HaveRoom, Grows, all_front, all_behind, bare_node_grows, derivation_grows}
 
 -- the trees of a root
 record RootGrows {T : Table} {r : Root} (d : RootDerives T r) : Type 0 where
@@ -130,8 +125,8 @@ listed_reaches T js j before text l r =
     let third = root_line {d = d} second g.over (record { shown = g.shown; is = refl; fewest = least }) in
     let fourth = code_line {ps = j.code} third l.pieces (record { same = l.code; labels = l.labels }) l.words in
     subst (λ x. Reaches x (between T (js ++ j ∷ []))) (joined before a b c e ∙ ap (λ x. before ++ x) (sym l.lines)) fourth where
-  joined : (t a b c e : List ℕ) → (((t ++ a) ++ b) ++ c) ++ e ≡ t ++ (a ++ (b ++ (c ++ e)))
-  joined t a b c e = simp append_assoc
+      joined : (t a b c e : List ℕ) → (((t ++ a) ++ b) ++ c) ++ e ≡ t ++ (a ++ (b ++ (c ++ e)))
+      joined t a b c e = simp append_assoc
 
 all_reach : (T : Table) (js : List Judged) (texts : List ℕ) → AllListed T js texts → Reaches (header_line T ++ texts) (between T js)
 all_reach T _ _ none = subst (λ x. Reaches x (between T [])) (sym (append-nil (header_line T))) header

@@ -1,5 +1,5 @@
 -- What has to be known of a node line, a root line and a code line: what the checker says of them.
-use Rattle.std.proofs.Common.{◌≡◌, ℕ, ◌+◌, List, [], ◌∷◌, ◌++◌, length, Some, Ok, Err}
+use Rattle.std.proofs.Common.{◌≡◌, ℕ, ◌+◌, List, [], ◌∷◌, ◌++◌, length, Ok, Err}
 use Rattle.std.specs.List.{AllByRecursion}
 use Rattle.bc_core.specs.Tree.{Exp, Root}
 use Rattle.bc_derive.specs.declared.piece.Piece.{Piece}
@@ -8,16 +8,13 @@ use Rattle.bc_derive.specs.declared.rule.Rule.{Rule}
 use Rattle.bc_derive.specs.Rules.{RootDerives, root_shape}
 use Rattle.bc_derive.specs.Code.{root_cost}
 use Rattle.bc_certificate.specs.declared.check_fault.CheckFault.{CheckFault}
-use Rattle.bc_certificate.specs.Text.{header_line, end_line}
 use Rattle.bc_certificate.specs.Verdict.{Judged}
-use Rattle.bc_entries.specs.Shown.{Shown}
 use Rattle.bc_entries.specs.Lines.{node_line as line_of_node}
 use Rattle.bc_lines.specs.declared.lines.Head.{Head}
-use Rattle.bc_lines.specs.Lines.{header as read_header, entry_line as read_entry, end_line as read_end}
 use Rattle.bc_stack.specs.declared.place.Place.{Place}
 use Rattle.bc_stack.specs.Stacks.{Stack, no_trees, Rooted}
-use Rattle.bc_verdict.specs.Entries.{IsNumber, NodeHasRoom, PieceHasRoom, pieces_line}
-use Rattle.bc_verdict.specs.Faults.{HeadHasRoom, head_line, Grown, all_shown, Ends, StandsBy, node, grown, IsCode, judged, RootOver, RootStands, nodes, code, lines, LineFault}
+use Rattle.bc_verdict.specs.Entries.{NodeHasRoom, PieceHasRoom, pieces_line}
+use Rattle.bc_verdict.specs.Faults.{Grown, all_shown, Ends, StandsBy, node, grown, IsCode, judged, RootOver, RootStands, nodes, code, lines, LineFault}
 use Rattle.bc_verdict.specs.Judging.{State, between, nodes as at_nodes, code as at_code, within_step, code_step}
 use Rattle.bc_verdict.specs.Standing.{AllStand}
 

@@ -1,28 +1,25 @@
 -- The items of a derivation's code have room where its nodes and labels do.
-use Rattle.std.proofs.Common.{◌≡◌, ℕ, ◌+◌, ◌*◌, ◌-◌, ◌%◌, ◌≤◌, Bool, true, false, cond, not, Option, Some, None, List, [], ◌∷◌, ◌++◌, refl, ap, sym, subst, ◌∙◌, arith}
+use Rattle.std.proofs.Common.{◌≡◌, ℕ, ◌+◌, ◌%◌, ◌≤◌, Bool, true, false, cond, not, Option, Some, None, List, [], ◌∷◌, ◌++◌, refl, arith}
 use Rattle.std.specs.List.{AllByRecursion}
 use Rattle.bc_word.specs.declared.operator.Op.{Op}
 use Rattle.bc_word.specs.declared.operator.Op.TheVariants as operators
 use Rattle.bc_word.specs.Words.{number_of, negated}
 use Rattle.bc_core.specs.declared.operands.Operand.{Operand}
-use Rattle.bc_core.specs.Tree.{Exp, Num, Frame, Glob, Place, Load, Neg, Not, Bin, Cond, Call, Valof, Args, count, Root}
+use Rattle.bc_core.specs.Tree.{Exp, Num, Frame, Glob, Place, Load, Bin, Args, count, Root}
 use Rattle.bc_core.specs.Operand.{operand_of, constant_of, moved, first_some, content_of}
 use Rattle.bc_derive.specs.declared.piece.Piece.{Piece}
 use Rattle.bc_derive.specs.declared.piece.Piece.TheVariants as pieces
 use Rattle.bc_derive.specs.declared.rule.Table.{Table}
 use Rattle.bc_derive.specs.declared.rule.Aim.{Aim}
 use Rattle.bc_derive.specs.Free.{is_zero, jumps_at}
-use Rattle.bc_derive.specs.Piece.{L, S, A, A_number, SP, LIP, AIP, SIP, X, K, J, jump_if, label as label_piece}
+use Rattle.bc_derive.specs.Piece.{S, A, A_number, SP, LIP, AIP, SIP, X, K, J, jump_if, label as label_piece}
 use Rattle.bc_derive.specs.Rules.{Derives, v0, v1, v2, v3, v4, v6, v7, v8, v9, v10, v11, v12, v13, v14, v15, v16, v17, v18, v19, v20, v21, v22, v22_valof, j1, j2, j3, j4, j5, j6, j7, j8, j9, DerivesAll, no_more, one_more, RootDerives, value, test, a1, a2, a3}
 use Rattle.bc_derive.specs.Code.{labels, all_labels, code, all_code, root_labels, root_code}
 use Rattle.bc_text.specs.Printed.{IsItem}
 use Rattle.bc_entries.specs.Shown.{Shown, below_bare, bare, below, all_shown, shown, root_shown}
 use Rattle.bc_verdict.specs.Entries.{IsSmall, IsLevel, HasSmallNumber, NodeHasRoom, RootHasRoom}
-use Rattle.bc_verdict.proofs.Growth.{all_front, all_behind}
-use Rattle.bc_verdict.proofs.Said.{all_join}
-
-abbrev HaveRoom : Table → List Shown → Type 0
-HaveRoom T ns = AllByRecursion (NodeHasRoom T) ns
+use Rattle.bc_verdict.proofs.Growth.{HaveRoom, all_front, all_behind}
+use Rattle.bc_verdict.proofs.Fields.{each_of_two}
 
 -- the items among pieces
 abbrev pub HasItemRoom : Piece → Type 0
@@ -33,7 +30,7 @@ abbrev pub HaveItemRoom : List Piece → Type 0
 HaveItemRoom ps = AllByRecursion HasItemRoom ps
 
 both : (ps qs : List Piece) → HaveItemRoom ps → HaveItemRoom qs → HaveItemRoom (ps ++ qs)
-both ps qs h k = all_join HasItemRoom ps qs h k
+both ps qs h k = each_of_two HasItemRoom ps qs h k
 
 number_small : (op : Op) → number_of op ≤ 65535
 number_small operators.Multiply = omega arith

@@ -1,5 +1,5 @@
 -- Lines that lead to an end are those of an accepted certificate.
-use Rattle.std.proofs.Common.{◌≡◌, ℕ, ◌+◌, ◌^◌, ◌≤◌, ◌<◌, List, [], ◌∷◌, ◌++◌, length, flat_map, refl, ap, sym, subst, ◌∙◌, append-nil, append_assoc, arith}
+use Rattle.std.proofs.Common.{◌≡◌, ℕ, ◌^◌, ◌≤◌, ◌<◌, List, [], ◌∷◌, ◌++◌, length, flat_map, refl, ap, sym, subst, ◌∙◌, append-nil, append_assoc, arith}
 use Rattle.std.specs.List.{AllByRecursion}
 use Rattle.std.proofs.lemmas.Grind.{flat_map-append}
 use Rattle.bc_core.specs.Tree.{Exp, Root}
@@ -9,15 +9,14 @@ use Rattle.bc_derive.specs.declared.rule.Rule.{Rule}
 use Rattle.bc_derive.specs.Rules.{RootDerives}
 use Rattle.bc_derive.specs.Code.{root_cost}
 use Rattle.bc_certificate.specs.Text.{header_line, end_line}
-use Rattle.bc_certificate.specs.Verdict.{Judged, Verdict}
+use Rattle.bc_certificate.specs.Verdict.{Judged}
 use Rattle.bc_entries.specs.Shown.{Shown, root_shown}
 use Rattle.bc_entries.specs.Lines.{node_line as line_of_node, root_line as line_of_root}
 use Rattle.bc_lines.specs.declared.lines.Head.{Head}
-use Rattle.bc_verdict.specs.Entries.{NodeHasRoom, PieceHasRoom, pieces_line, RootHasRoom, Listed, AllListed, none, more, Says}
+use Rattle.bc_verdict.specs.Entries.{NodeHasRoom, PieceHasRoom, pieces_line, RootHasRoom, AllListed, none, more, Says}
 use Rattle.bc_verdict.specs.Faults.{HeadHasRoom, head_line, Grown, all_shown, Ends, node, grown, IsCode, judged, RootOver, value, test, assign, RootStands, Stage, the_header, between, nodes, code, the_end, Reaches, nothing, header, entry, node_line, root_line, code_line, last_line}
-
-abbrev HaveRoom : Table → List Shown → Type 0
-HaveRoom T ns = AllByRecursion (NodeHasRoom T) ns
+use Rattle.bc_verdict.proofs.Fields.{each_of_two}
+use Rattle.bc_verdict.proofs.Growth.{HaveRoom}
 
 -- whole entries behind the header, and then these lines
 record Behind (T : Table) (js : List Judged) (text own : List ℕ) : Type 0 where
@@ -54,10 +53,6 @@ longer T js text own l all e b = record {
   joined : (h t o l : List ℕ) → (h ++ (t ++ o)) ++ l ≡ h ++ (t ++ (o ++ l))
   joined h t o l = simp append_assoc
 
-pub all_join : {X : Type 0} (P : X → Type 0) (xs ys : List X) → AllByRecursion P xs → AllByRecursion P ys → AllByRecursion P (xs ++ ys)
-all_join P [] ys h k = k
-all_join P (x ∷ xs) ys h k = (h.0, all_join P xs ys h.1 k)
-
 -- a node's tree shows the trees of its parts and the node
 pub shown_with : (e : Exp) (s : ℕ) (rules : List Rule) (trees : List Grown) (ends : Ends e s trees) → all_shown (ends.before ++ grown e s rules ends.own ∷ []) ≡ all_shown trees ++ node e s rules ∷ []
 shown_with e s rules trees ends =
@@ -79,7 +74,7 @@ after_node text T js h trees e s rules ends room a =
           ∙ sym (flat_map-append (line_of_node T) (all_shown trees) (node e s rules ∷ [])) ∙ ap (flat_map (line_of_node T)) (sym all)))
           a.behind;
       head = a.head;
-      room = subst (HaveRoom T) (sym all) (all_join (NodeHasRoom T) (all_shown trees) (node e s rules ∷ []) a.room (room, tt));
+      room = subst (HaveRoom T) (sym all) (each_of_two (NodeHasRoom T) (all_shown trees) (node e s rules ∷ []) a.room (room, tt));
     }
 
 root_room : (trees : List Grown) (r : Root) (l : List ℕ) → RootOver trees r l → RootHasRoom r

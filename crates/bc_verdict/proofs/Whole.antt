@@ -3,13 +3,13 @@ use Rattle.std.proofs.Common.{◌≡◌, ℕ, ◌+◌, ◌==◌, Bool, true, fal
 use Rattle.std.proofs.lemmas.Bool.{eqb-true}
 use Rattle.bc_derive.specs.declared.rule.Table.{Table}
 use Rattle.bc_certificate.specs.declared.check_fault.CheckFault.{CheckFault}
-use Rattle.bc_certificate.specs.declared.check_fault.CheckFault.TheVariants.{Header, Truncated}
+use Rattle.bc_certificate.specs.declared.check_fault.CheckFault.TheVariants.{Truncated}
 use Rattle.bc_certificate.specs.Verdict.{Judged, Verdict}
 use Rattle.bc_entries.specs.Lines.{node_line as line_of_node}
 use Rattle.bc_stack.specs.Stacks.{◌>>=◌}
 use Rattle.bc_verdict.specs.Entries.{Says, pieces_line}
-use Rattle.bc_verdict.specs.Faults.{head_line, node, Stage, the_header, between, nodes, code, the_end, Reaches, nothing, header, entry, node_line, root_line, code_line, last_line, lines, LineFault, Lacks, at_line, in_header, in_lines}
-use Rattle.bc_certificate.specs.Text.{header_line, end_line}
+use Rattle.bc_verdict.specs.Faults.{head_line, node, Stage, the_header, between, nodes, code, the_end, Reaches, nothing, header, entry, node_line, root_line, code_line, last_line, lines, Lacks, at_line, in_header, in_lines}
+use Rattle.bc_certificate.specs.Text.{header_line}
 use Rattle.bc_verdict.specs.Judging.{Stage as Kind, the_header as at_header, between as at_entries, nodes as at_nodes, code as at_code, the_end as at_end}
 use Rattle.bc_verdict.specs.Judging.{State, start, line_step, byte_step, feed_from, no_rest, finished_at, finished, judged}
 use Rattle.bc_verdict.proofs.OneLine.{rooted_by, Known}
@@ -17,7 +17,7 @@ use Rattle.bc_verdict.proofs.Fields.{IsOneLine}
 use Rattle.bc_verdict.proofs.Read.{header_ends, entry_ends, end_ends, node_ends, root_ends, code_ends}
 use Rattle.bc_verdict.proofs.Listing.{says_reaches}
 use Rattle.bc_verdict.proofs.Said.{no_text, reaches_says}
-use Rattle.bc_verdict.proofs.Frame.{Related, Leads, Made, lines_of_two, line_right, line_wrong, line_fails, header_made, entry_made, node_made, root_made, code_made, last_made}
+use Rattle.bc_verdict.proofs.Frame.{Related, Made, lines_of_two, line_right, line_wrong, line_fails, header_made, entry_made, node_made, root_made, code_made, last_made}
 
 abbrev Fed : Type 0
 Fed = State × List ℕ
