@@ -16,7 +16,7 @@ use Rattle.bc_derive.specs.Piece.{S, A, A_number, SP, LIP, AIP, SIP, X, K, J, ju
 use Rattle.bc_derive.specs.Rules.{Derives, v0, v1, v2, v3, v4, v6, v7, v8, v9, v10, v11, v12, v13, v14, v15, v16, v17, v18, v19, v20, v21, v22, v22_valof, j1, j2, j3, j4, j5, j6, j7, j8, j9, DerivesAll, no_more, one_more, RootDerives, value, test, a1, a2, a3}
 use Rattle.bc_derive.specs.Code.{labels, all_labels, code, all_code, root_labels, root_code}
 use Rattle.bc_text.specs.Printed.{IsItem}
-use Rattle.bc_entries.specs.Shown.{Shown, below_bare, bare, below, all_shown, shown, root_shown}
+use Rattle.bc_entries.specs.Shown.{below_bare, bare, below, all_shown, shown, root_shown}
 use Rattle.bc_verdict.specs.Entries.{IsSmall, IsLevel, HasSmallNumber, NodeHasRoom, RootHasRoom}
 use Rattle.bc_verdict.proofs.Growth.{HaveRoom, all_front, all_behind}
 use Rattle.bc_verdict.proofs.Fields.{each_of_two}

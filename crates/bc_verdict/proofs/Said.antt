@@ -10,7 +10,7 @@ use Rattle.bc_derive.specs.Rules.{RootDerives}
 use Rattle.bc_derive.specs.Code.{root_cost}
 use Rattle.bc_certificate.specs.Text.{header_line, end_line}
 use Rattle.bc_certificate.specs.Verdict.{Judged}
-use Rattle.bc_entries.specs.Shown.{Shown, root_shown}
+use Rattle.bc_entries.specs.Shown.{root_shown}
 use Rattle.bc_entries.specs.Lines.{node_line as line_of_node, root_line as line_of_root}
 use Rattle.bc_lines.specs.declared.lines.Head.{Head}
 use Rattle.bc_verdict.specs.Entries.{NodeHasRoom, PieceHasRoom, pieces_line, RootHasRoom, AllListed, none, more, Says}

@@ -12,7 +12,7 @@ use Rattle.bc_certificate.specs.Verdict.{Judged, Verdict}
 use Rattle.bc_entries.specs.Shown.{root_shown}
 use Rattle.bc_entries.specs.Certificate.{Derived, certificate}
 use Rattle.bc_verdict.specs.Entries.{IsNumber, IsSmall, NodeHasRoom, RootHasRoom, Says}
-use Rattle.bc_verdict.specs.Faults.{Lacks}
+use Rattle.bc_verdict.specs.Faults.{IsUnended, Lacks}
 use Rattle.bc_verdict.specs.Judging.{judged}
 
 -- what the checker makes of bytes is what they say, or their first fault
@@ -35,7 +35,7 @@ OneAnswer = (bytes : List ℕ) → HasOneAnswer bytes
 
 -- a fault stays the first one however the bytes go on; that they end in the first line, or before the last one, is known at their end alone
 abbrev pub LongerFaults : Type 0
-LongerFaults = (bytes more : List ℕ) (f : CheckFault) → ¬ (f ≡ Header) → ¬ (f ≡ Truncated) → Lacks bytes f → Lacks (bytes ++ more) f
+LongerFaults = (bytes more : List ℕ) (f : CheckFault) → (f ≡ Header → ¬ IsUnended bytes) → ¬ (f ≡ Truncated) → Lacks bytes f → Lacks (bytes ++ more) f
 
 -- code as its line has it: each body has the next of these numbers of items, or 0 where none is left
 abbrev pub with_bodies : List Piece → (bodies : List ℕ) → List Piece

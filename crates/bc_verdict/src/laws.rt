@@ -7,7 +7,7 @@ pub fn certificate_is_said()
     ensures { CertificateIsSaid }
 {}
 
-/// A fault stays the first one however the bytes go on, but for the two that their end alone may tell: no whole header, and no
+/// A fault stays the first one however the bytes go on, but for the two that their end alone tells: no whole first line, and no
 /// last line.
 pub fn longer_faults()
     ensures { LongerFaults }
