@@ -3,4 +3,4 @@ pub mod Entries
 pub mod Faults
 pub mod Laws
 pub mod Standing
-mod Examples
+pub mod Examples
