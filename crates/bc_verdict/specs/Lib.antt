@@ -4,3 +4,4 @@ pub mod Faults
 pub mod Laws
 pub mod Standing
 pub mod Examples
+pub mod Sample
