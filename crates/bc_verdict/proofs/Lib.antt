@@ -8,23 +8,32 @@ mod Pieces
 mod Roots
 mod Written
 mod Read
-pub mod Over
-pub mod Kept
-pub mod Parts
-pub mod Others
-pub mod TwoParts
-pub mod Pairs
-pub mod Begun
-pub mod Chained
-pub mod Node
-pub mod Fewest
-pub mod Growth
-pub mod Listing
-pub mod Said
-pub mod Rooms
-pub mod Accepted
-pub mod Longer
-pub mod OneLine
-pub mod Frame
+mod Over
+mod Kept
+mod Parts
+mod Others
+mod TwoParts
+mod Pairs
+mod Begun
+mod Chained
+mod Node
+mod Results
+mod CodeSteps
+mod Keeping
+mod Sides
+mod RootSteps
+mod NodeParts
+mod NodeCosts
+mod NodeSteps
+mod WithinSteps
+mod Fewest
+mod Growth
+mod Listing
+mod Said
+mod Rooms
+mod Accepted
+mod Longer
+mod OneLine
+mod Frame
 pub mod Whole
-pub mod Answers
+mod Answers
