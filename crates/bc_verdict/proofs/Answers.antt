@@ -6,13 +6,12 @@ use Rattle.bc_verdict.specs.Entries.{Says}
 use Rattle.bc_verdict.specs.Faults.{Lacks}
 use Rattle.bc_verdict.specs.Judging.{judged}
 use Rattle.bc_verdict.specs.Laws.{JudgedIsSaid, OneAnswer}
-use Rattle.bc_verdict.proofs.OneLine.{Known}
 use Rattle.bc_verdict.proofs.Whole.{judged_says, says_judged, judged_lacks, lacks_judged}
 
-pub is_said : Known → JudgedIsSaid
-is_said K bytes = record {
-  accepted = λ v. (judged_says K bytes v, says_judged K bytes v);
-  refused = λ f. (judged_lacks K bytes f, lacks_judged K bytes f);
+pub is_said : JudgedIsSaid
+is_said bytes = record {
+  accepted = λ v. (judged_says bytes v, says_judged bytes v);
+  refused = λ f. (judged_lacks bytes f, lacks_judged bytes f);
 }
 
 ok_same : {v w : Verdict} → ◌≡◌ {A = Result Verdict CheckFault} (Ok v) (Ok w) → v ≡ w
@@ -24,13 +23,13 @@ err_same h = cc
 apart : {v : Verdict} {f : CheckFault} → ◌≡◌ {A = Result Verdict CheckFault} (Ok v) (Err f) → ⊥
 apart h = cc
 
-pub has_one_answer : Known → OneAnswer
-has_one_answer K bytes = record {
-  verdict = λ v w h i. ok_same (sym (says_judged K bytes v h) ∙ says_judged K bytes w i);
-  fault = λ f g h i. err_same (sym (lacks_judged K bytes f h) ∙ lacks_judged K bytes g i);
+pub has_one_answer : OneAnswer
+has_one_answer bytes = record {
+  verdict = λ v w h i. ok_same (sym (says_judged bytes v h) ∙ says_judged bytes w i);
+  fault = λ f g h i. err_same (sym (lacks_judged bytes f h) ∙ lacks_judged bytes g i);
   either = at (judged bytes) refl;
-  never_both = λ v f h i. apart (sym (says_judged K bytes v h) ∙ lacks_judged K bytes f i);
+  never_both = λ v f h i. apart (sym (says_judged bytes v h) ∙ lacks_judged bytes f i);
 } where
   at : (r : Result Verdict CheckFault) → judged bytes ≡ r → ((v : Verdict) × Says bytes v) ⊎ ((f : CheckFault) × Lacks bytes f)
-  at (Ok v) e = inl (v, judged_says K bytes v e)
-  at (Err f) e = inr (f, judged_lacks K bytes f e)
+  at (Ok v) e = inl (v, judged_says bytes v e)
+  at (Err f) e = inr (f, judged_lacks bytes f e)

@@ -24,7 +24,17 @@ use Rattle.bc_verdict.specs.Judging.{State, counted, place_of, step_at, line_ste
 use Rattle.bc_verdict.specs.Judging.{Stage as Kind, the_header as at_header, between as at_entries, nodes as at_nodes, code as at_code, the_end as at_end}
 use Rattle.bc_verdict.proofs.OneLine.{StackStands, rooted_by, StandsBehind, WithinTaken, a_node, a_root, next_of, Known}
 use Rattle.bc_verdict.proofs.Read.{header_read, header_back, entry_read, entry_back, end_read, end_back, end_no_entry}
+use Rattle.bc_verdict.proofs.Results.{StandsBehind, ok_same, err_same}
+use Rattle.bc_verdict.proofs.Keeping.{StackStands}
+use Rattle.bc_verdict.proofs.Node.{new_stands, depth_is, no_rules, right_rules}
+use Rattle.bc_verdict.proofs.NodeSteps.{RulesAtNodes}
+use Rattle.bc_verdict.proofs.WithinSteps.{WithinTaken, a_node, a_root, within_taken, within_fault, within_node, within_root, within_fails}
+use Rattle.bc_verdict.proofs.CodeSteps.{rooted_by, code_taken, code_fault, code_made as code_goes, code_fails}
 use Rattle.bc_verdict.proofs.Said.{shown_with, no_text}
+
+-- the rules at one node
+rules_stand : RulesAtNodes
+rules_stand = record { new_stands = new_stands; depth_is = depth_is; no_rules = no_rules; right_rules = right_rules }
 
 -- what the checker keeps at each stage
 pub record AtHeader (st : State) : Type 0 where
@@ -63,12 +73,6 @@ pub record Made (text : List ℕ) (stage : Stage) (r : Result State CheckFault) 
   pub next : State
   pub is : r ≡ Ok next
   pub related : Related text stage next
-
-ok_same : {x y : State} → ◌≡◌ {A = Result State CheckFault} (Ok x) (Ok y) → x ≡ y
-ok_same h = cc
-
-err_same : {e f : CheckFault} → ◌≡◌ {A = Result State CheckFault} (Err e) (Err f) → e ≡ f
-err_same h = cc
 
 never : {X : Type 0} {e : CheckFault} {x : State} → ◌≡◌ {A = Result State CheckFault} (Err e) (Ok x) → X
 never h = cc
@@ -113,7 +117,7 @@ header_right text st next l u r h k = at (read_header l) refl where
         related = record { lines = ap (λ m. m + 1) h.lines ∙ sym (one_more text l u); at = record { stage = refl; table = refl; entries = h.at.entries } };
       })
 
-module _ (K : Known) (text : List ℕ) (T : Table) (js : List Judged) (st next : State) (l : List ℕ) (u : lines l ≡ 0) where
+module _ (text : List ℕ) (T : Table) (js : List Judged) (st next : State) (l : List ℕ) (u : lines l ≡ 0) where
   entry_right : Reaches text (between T js) → Related text (between T js) st → entered l (place_of (counted st)) (counted st) (read_entry l) ≡ Ok next → Leads (text ++ (l ++ 10 ∷ [])) next
   entry_right r h k = at (read_entry l) refl where
     last : (n : ℕ) → read_end l ≡ Some n → (b : Bool) → (n == length st.entries) ≡ b → cond b (Ok (record (counted st) { stage = at_end })) (Err (Line (place_of (counted st)).line)) ≡ Ok next → Leads (text ++ (l ++ 10 ∷ [])) next
@@ -145,7 +149,7 @@ module _ (K : Known) (text : List ℕ) (T : Table) (js : List Judged) (st next :
         })
 
   within_right : (h : Head) (ts : List Grown) → Reaches text (nodes T js h ts) → Related text (nodes T js h ts) st → within_step h l (place_of (counted st)) (counted st) ≡ Ok next → Leads (text ++ (l ++ 10 ∷ [])) next
-  within_right h ts r k i = at (K.within_taken T ts (counted st) next h l (place_of (counted st)) k.at.own.table k.at.trees i) where
+  within_right h ts r k i = at (within_taken rules_stand T ts (counted st) next h l (place_of (counted st)) k.at.own.table k.at.trees i) where
     counts : st.lines + 1 ≡ lines (text ++ (l ++ 10 ∷ []))
     counts = ap (λ m. m + 1) k.lines ∙ sym (one_more text l u)
 
@@ -173,19 +177,19 @@ module _ (K : Known) (text : List ℕ) (T : Table) (js : List Judged) (st next :
 
   code_right : (h : Head) (x : Root) (d : RootDerives T x) → Reaches text (code T js h x d) → Related text (code T js h x d) st → code_step h (rooted_by d) l (place_of (counted st)) (counted st) ≡ Ok next → Leads (text ++ (l ++ 10 ∷ [])) next
   code_right h x d r k i =
-      let t = K.code_taken (counted st) next d h l (place_of (counted st)) k.at.table i in
+      let t = code_taken (counted st) next d h l (place_of (counted st)) k.at.table i in
       subst (Leads (text ++ (l ++ 10 ∷ []))) (sym t.next) (record {
         stage = between T (js ++ judged h x t.pieces ∷ []);
         reaches = to_text text (between T (js ++ judged h x t.pieces ∷ [])) t.text (code_line r t.room t.code t.words);
         related = record { lines = ap (λ m. m + 1) k.lines ∙ sym (one_more text l u); at = record { stage = refl; table = k.at.table; entries = ap (λ es. es ++ judged h x t.pieces ∷ []) k.at.entries } };
       })
 
-pub line_right : Known → (text : List ℕ) (stage : Stage) (st next : State) (l : List ℕ) → lines l ≡ 0 → Reaches text stage → Related text stage st → line_step l st ≡ Ok next → Leads (text ++ (l ++ 10 ∷ [])) next
-line_right K text the_header st next l u r h k = header_right text st next l u r h (sym (step_from at_header l st h.at.stage) ∙ k)
-line_right K text (between T js) st next l u r h k = entry_right K text T js st next l u r h (sym (step_from at_entries l st h.at.stage) ∙ k)
-line_right K text (nodes T js e ts) st next l u r h k = within_right K text T js st next l u e ts r h (sym (step_from (at_nodes e) l st h.at.own.stage) ∙ k)
-line_right K text (code T js e x d) st next l u r h k = code_right K text T js st next l u e x d r h (sym (step_from (at_code e (rooted_by d)) l st h.at.stage) ∙ k)
-line_right K text (the_end T js) st next l u r h k = never (sym (step_from at_end l st h.at.stage) ∙ k)
+pub line_right : (text : List ℕ) (stage : Stage) (st next : State) (l : List ℕ) → lines l ≡ 0 → Reaches text stage → Related text stage st → line_step l st ≡ Ok next → Leads (text ++ (l ++ 10 ∷ [])) next
+line_right text the_header st next l u r h k = header_right text st next l u r h (sym (step_from at_header l st h.at.stage) ∙ k)
+line_right text (between T js) st next l u r h k = entry_right text T js st next l u r h (sym (step_from at_entries l st h.at.stage) ∙ k)
+line_right text (nodes T js e ts) st next l u r h k = within_right text T js st next l u e ts r h (sym (step_from (at_nodes e) l st h.at.own.stage) ∙ k)
+line_right text (code T js e x d) st next l u r h k = code_right text T js st next l u e x d r h (sym (step_from (at_code e (rooted_by d)) l st h.at.stage) ∙ k)
+line_right text (the_end T js) st next l u r h k = never (sym (step_from at_end l st h.at.stage) ∙ k)
 
 -- A line at which the checker finds a fault has that fault.
 header_wrong : (text : List ℕ) (st : State) (l : List ℕ) (f : CheckFault) → begun (counted st) (read_header l) ≡ Err f → LineFault text the_header (l ++ 10 ∷ []) f
@@ -228,14 +232,14 @@ entry_wrong text T js st l f h k = at (read_entry l) refl where
   at None e = at_last e (read_end l) refl (sym (ap (entered l (place_of (counted st)) (counted st)) e) ∙ k)
   at (Some x) e = never_wrong (sym (ap (entered l (place_of (counted st)) (counted st)) e) ∙ k)
 
-pub line_wrong : Known → (text : List ℕ) (stage : Stage) (st : State) (l : List ℕ) (f : CheckFault) → Related text stage st → line_step l st ≡ Err f → LineFault text stage (l ++ 10 ∷ []) f
-line_wrong K text the_header st l f h k = header_wrong text st l f (sym (step_from at_header l st h.at.stage) ∙ k)
-line_wrong K text (between T js) st l f h k = entry_wrong text T js st l f h (sym (step_from at_entries l st h.at.stage) ∙ k)
-line_wrong K text (nodes T js e ts) st l f h k =
-    K.within_fault text T js ts (counted st) e l (place_of (counted st)) f (stands text js (length (all_shown ts)) st h.lines h.at.own.entries h.at.nodes) h.at.own.table h.at.trees (sym (step_from (at_nodes e) l st h.at.own.stage) ∙ k)
-line_wrong K text (code T js e x d) st l f h k =
-    K.code_fault text js st.nodes (counted st) d e l (place_of (counted st)) f (stands text js st.nodes st h.lines h.at.entries refl) h.at.table (sym (step_from (at_code e (rooted_by d)) l st h.at.stage) ∙ k)
-line_wrong K text (the_end T js) st l f h k =
+pub line_wrong : (text : List ℕ) (stage : Stage) (st : State) (l : List ℕ) (f : CheckFault) → Related text stage st → line_step l st ≡ Err f → LineFault text stage (l ++ 10 ∷ []) f
+line_wrong text the_header st l f h k = header_wrong text st l f (sym (step_from at_header l st h.at.stage) ∙ k)
+line_wrong text (between T js) st l f h k = entry_wrong text T js st l f h (sym (step_from at_entries l st h.at.stage) ∙ k)
+line_wrong text (nodes T js e ts) st l f h k =
+    within_fault rules_stand text T js ts (counted st) e l (place_of (counted st)) f (stands text js (length (all_shown ts)) st h.lines h.at.own.entries h.at.nodes) h.at.own.table h.at.trees (sym (step_from (at_nodes e) l st h.at.own.stage) ∙ k)
+line_wrong text (code T js e x d) st l f h k =
+    code_fault text js st.nodes (counted st) d e l (place_of (counted st)) f (stands text js st.nodes st h.lines h.at.entries refl) h.at.table (sym (step_from (at_code e (rooted_by d)) l st h.at.stage) ∙ k)
+line_wrong text (the_end T js) st l f h k =
     subst (LineFault text (the_end T js) (l ++ 10 ∷ [])) (sym (ap (λ n. Line (n + 1)) h.lines) ∙ err_same (sym (step_from at_end l st h.at.stage) ∙ k)) behind
 
 -- A line with a fault is one at which the checker finds it.
@@ -272,16 +276,16 @@ entry_fails text T js st l m f h is (no_entry no_head no_end) = at (read_entry l
 end_fails : (text : List ℕ) (T : Table) (js : List Judged) (st : State) (l m : List ℕ) (f : CheckFault) → Related text (the_end T js) st → LineFault text (the_end T js) m f → step_at at_end l (place_of (counted st)) (counted st) ≡ Err f
 end_fails text T js st l m f h behind = ap (λ n. Err (Line (n + 1))) h.lines
 
-pub line_fails : Known → (text : List ℕ) (stage : Stage) (st : State) (l m : List ℕ) (f : CheckFault) → Related text stage st → m ≡ l ++ 10 ∷ [] → LineFault text stage m f → line_step l st ≡ Err f
-line_fails K text the_header st l m f h is k = step_from at_header l st h.at.stage ∙ header_fails text st l m f is k
-line_fails K text (between T js) st l m f h is k = step_from at_entries l st h.at.stage ∙ entry_fails text T js st l m f h is k
-line_fails K text (nodes T js e ts) st l m f h is k =
+pub line_fails : (text : List ℕ) (stage : Stage) (st : State) (l m : List ℕ) (f : CheckFault) → Related text stage st → m ≡ l ++ 10 ∷ [] → LineFault text stage m f → line_step l st ≡ Err f
+line_fails text the_header st l m f h is k = step_from at_header l st h.at.stage ∙ header_fails text st l m f is k
+line_fails text (between T js) st l m f h is k = step_from at_entries l st h.at.stage ∙ entry_fails text T js st l m f h is k
+line_fails text (nodes T js e ts) st l m f h is k =
     step_from (at_nodes e) l st h.at.own.stage
-    ∙ K.within_fails text T js ts (counted st) e l m (place_of (counted st)) f (stands text js (length (all_shown ts)) st h.lines h.at.own.entries h.at.nodes) h.at.own.table h.at.trees is k
-line_fails K text (code T js e x d) st l m f h is k =
+    ∙ within_fails rules_stand text T js ts (counted st) e l m (place_of (counted st)) f (stands text js (length (all_shown ts)) st h.lines h.at.own.entries h.at.nodes) h.at.own.table h.at.trees is k
+line_fails text (code T js e x d) st l m f h is k =
     step_from (at_code e (rooted_by d)) l st h.at.stage
-    ∙ K.code_fails text js st.nodes (counted st) d e l m (place_of (counted st)) f (stands text js st.nodes st h.lines h.at.entries refl) h.at.table is k
-line_fails K text (the_end T js) st l m f h is k = step_from at_end l st h.at.stage ∙ end_fails text T js st l m f h k
+    ∙ code_fails text js st.nodes (counted st) d e l m (place_of (counted st)) f (stands text js st.nodes st h.lines h.at.entries refl) h.at.table is k
+line_fails text (the_end T js) st l m f h is k = step_from at_end l st h.at.stage ∙ end_fails text T js st l m f h k
 
 -- A line that leads on is one at which the checker goes on.
 pub header_made : (T : Table) (st : State) (l : List ℕ) → lines l ≡ 0 → header_line T ≡ l ++ 10 ∷ [] → Related [] the_header st → Made (header_line T) (between T []) (line_step l st)
@@ -294,7 +298,7 @@ header_made T st l u is h = record {
   };
 }
 
-module _ (K : Known) (text : List ℕ) (T : Table) (js : List Judged) (st : State) (l m : List ℕ) (u : lines l ≡ 0) (is : m ≡ l ++ 10 ∷ []) where
+module _ (text : List ℕ) (T : Table) (js : List Judged) (st : State) (l m : List ℕ) (u : lines l ≡ 0) (is : m ≡ l ++ 10 ∷ []) where
   counts : st.lines ≡ lines text → st.lines + 1 ≡ lines (text ++ m)
   counts h = ap (λ n. n + 1) h ∙ sym (one_more text l u) ∙ ap (λ x. lines (text ++ x)) (sym is)
 
@@ -309,7 +313,7 @@ module _ (K : Known) (text : List ℕ) (T : Table) (js : List Judged) (st : Stat
       → Related text (nodes T js h ts) st → Made (text ++ m) (nodes T js h (ends.before ++ grown e s rules ends.own ∷ [])) (line_step l st)
   node_made h ts e s rules ends room stand i k =
       let all : all_shown ts ++ node e s rules ∷ [] ≡ all_shown (ends.before ++ grown e s rules ends.own ∷ []) = sym (shown_with e s rules ts ends) in
-      let x = K.within_node T ts (counted st) h l (place_of (counted st)) e s rules k.at.own.table k.at.trees ends room stand (sym is ∙ i) in
+      let x = within_node rules_stand T ts (counted st) h l (place_of (counted st)) e s rules k.at.own.table k.at.trees ends room stand (sym is ∙ i) in
       record {
         next = record (counted st) { stage = at_nodes h; trees = x.0; nodes = st.nodes + 1 };
         is = step_from (at_nodes h) l st k.at.own.stage ∙ x.1.1;
@@ -328,15 +332,15 @@ module _ (K : Known) (text : List ℕ) (T : Table) (js : List Judged) (st : Stat
     next = record (counted st) { stage = at_code h (rooted_by d); trees = no_trees };
     is =
         step_from (at_nodes h) l st k.at.own.stage
-        ∙ K.within_root T ts (counted st) h l (place_of (counted st)) x d k.at.own.table k.at.trees (subst (RootOver ts x) is over) (subst (λ y. RootStands T x (all_shown ts) y d) is stand);
+        ∙ within_root T ts (counted st) h l (place_of (counted st)) x d k.at.trees (subst (RootOver ts x) is over) (subst (λ y. RootStands T x (all_shown ts) y d) is stand);
     related = record { lines = counts k.lines; at = record { stage = refl; table = k.at.own.table; entries = k.at.own.entries } };
   }
 
   pub code_made : (h : Head) (x : Root) (d : RootDerives T x) (ps : List Piece) → AllByRecursion PieceHasRoom ps → IsCode d h ps → root_cost d ≡ h.words → m ≡ pieces_line ps → Related text (code T js h x d) st
       → Made (text ++ m) (between T (js ++ judged h x ps ∷ [])) (line_step l st)
   code_made h x d ps room c w e k = record {
-    next = next_of h d (counted st) ps;
-    is = step_from (at_code h (rooted_by d)) l st k.at.stage ∙ K.code_made (counted st) d h l (place_of (counted st)) ps k.at.table room c w (sym is ∙ e);
+    next = record (counted st) { entries = st.entries ++ judged h x ps ∷ []; stage = at_entries };
+    is = step_from (at_code h (rooted_by d)) l st k.at.stage ∙ code_goes (counted st) d h l (place_of (counted st)) ps k.at.table room c w (sym is ∙ e);
     related = record { lines = counts k.lines; at = record { stage = refl; table = k.at.table; entries = ap (λ es. es ++ judged h x ps ∷ []) k.at.entries } };
   }
 

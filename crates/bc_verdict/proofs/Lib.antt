@@ -33,7 +33,6 @@ mod Said
 mod Rooms
 mod Accepted
 mod Longer
-mod OneLine
 mod Frame
 pub mod Whole
 mod Answers

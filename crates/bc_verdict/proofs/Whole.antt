@@ -12,7 +12,7 @@ use Rattle.bc_verdict.specs.Faults.{head_line, node, Stage, the_header, between,
 use Rattle.bc_certificate.specs.Text.{header_line}
 use Rattle.bc_verdict.specs.Judging.{Stage as Kind, the_header as at_header, between as at_entries, nodes as at_nodes, code as at_code, the_end as at_end}
 use Rattle.bc_verdict.specs.Judging.{State, start, line_step, byte_step, feed_from, no_rest, finished_at, finished, judged}
-use Rattle.bc_verdict.proofs.OneLine.{rooted_by, Known}
+use Rattle.bc_verdict.proofs.CodeSteps.{rooted_by}
 use Rattle.bc_verdict.proofs.Fields.{IsOneLine}
 use Rattle.bc_verdict.proofs.Read.{header_ends, entry_ends, end_ends, node_ends, root_ends, code_ends}
 use Rattle.bc_verdict.proofs.Listing.{says_reaches}
@@ -85,20 +85,20 @@ by_line text stage next m c e f =
 started : Related [] the_header start
 started = record { lines = refl; at = record { stage = refl; entries = refl } }
 
-comes : Known → (text : List ℕ) (stage : Stage) → Reaches text stage → Comes text stage
-comes K _ _ nothing = record { state = start; is = refl; related = started }
-comes K _ _ (header {T = T}) = by_line [] the_header (between T []) (header_line T) (record { state = start; is = refl; related = started }) (header_ends T) (λ st l u e k. header_made T st l u e k)
-comes K _ _ (entry {text = text} {T = T} {js = js} {h = h} r room) =
-    by_line text (between T js) (nodes T js h []) (head_line h) (comes K text (between T js) r) (entry_ends h room) (λ st l u e k. entry_made K text T js st l (head_line h) u e h room refl k)
-comes K _ _ (node_line {text = text} {T = T} {js = js} {h = h} {trees = ts} {e = x} {s = s} {rules = rules} r ends room stand) =
-    by_line text (nodes T js h ts) (nodes T js h _) (line_of_node T (node x s rules)) (comes K text (nodes T js h ts) r) (node_ends T (node x s rules) room)
-    (λ st l u e k. node_made K text T js st l (line_of_node T (node x s rules)) u e h ts x s rules ends room stand refl k)
-comes K _ _ (root_line {text = text} {T = T} {js = js} {h = h} {trees = ts} {r = x} {l = m} {d = d} r over stand) =
-    by_line text (nodes T js h ts) (code T js h x d) m (comes K text (nodes T js h ts) r) (root_ends ts x m over) (λ st l u e k. root_made K text T js st l m u e h ts x d over stand k)
-comes K _ _ (code_line {text = text} {T = T} {js = js} {h = h} {r = x} {d = d} {ps = ps} r room c w) =
-    by_line text (code T js h x d) (between T _) (pieces_line ps) (comes K text (code T js h x d) r) (code_ends ps room) (λ st l u e k. code_made K text T js st l (pieces_line ps) u e h x d ps room c w refl k)
-comes K _ _ (last_line {text = text} {T = T} {js = js} r room) =
-    by_line text (between T js) (the_end T js) _ (comes K text (between T js) r) (end_ends _ room) (λ st l u e k. last_made K text T js st l _ u e room refl k)
+comes : (text : List ℕ) (stage : Stage) → Reaches text stage → Comes text stage
+comes _ _ nothing = record { state = start; is = refl; related = started }
+comes _ _ (header {T = T}) = by_line [] the_header (between T []) (header_line T) (record { state = start; is = refl; related = started }) (header_ends T) (λ st l u e k. header_made T st l u e k)
+comes _ _ (entry {text = text} {T = T} {js = js} {h = h} r room) =
+    by_line text (between T js) (nodes T js h []) (head_line h) (comes text (between T js) r) (entry_ends h room) (λ st l u e k. entry_made text T js st l (head_line h) u e h room refl k)
+comes _ _ (node_line {text = text} {T = T} {js = js} {h = h} {trees = ts} {e = x} {s = s} {rules = rules} r ends room stand) =
+    by_line text (nodes T js h ts) (nodes T js h _) (line_of_node T (node x s rules)) (comes text (nodes T js h ts) r) (node_ends T (node x s rules) room)
+    (λ st l u e k. node_made text T js st l (line_of_node T (node x s rules)) u e h ts x s rules ends room stand refl k)
+comes _ _ (root_line {text = text} {T = T} {js = js} {h = h} {trees = ts} {r = x} {l = m} {d = d} r over stand) =
+    by_line text (nodes T js h ts) (code T js h x d) m (comes text (nodes T js h ts) r) (root_ends ts x m over) (λ st l u e k. root_made text T js st l m u e h ts x d over stand k)
+comes _ _ (code_line {text = text} {T = T} {js = js} {h = h} {r = x} {d = d} {ps = ps} r room c w) =
+    by_line text (code T js h x d) (between T _) (pieces_line ps) (comes text (code T js h x d) r) (code_ends ps room) (λ st l u e k. code_made text T js st l (pieces_line ps) u e h x d ps room c w refl k)
+comes _ _ (last_line {text = text} {T = T} {js = js} r room) =
+    by_line text (between T js) (the_end T js) _ (comes text (between T js) r) (end_ends _ room) (λ st l u e k. last_made text T js st l _ u e room refl k)
 
 -- Where the checker is behind bytes: lines that lead there, and bytes that end no line; or the bytes have the fault.
 record Stopped (whole : List ℕ) (s : Fed) : Type 0 where
@@ -113,18 +113,18 @@ abbrev Fared : List ℕ → Result Fed CheckFault → Type 0
 Fared whole (Ok s) = Stopped whole s
 Fared whole (Err f) = Lacks whole f
 
-abbrev FaresOn : Known → List ℕ → Type 0
-FaresOn K bytes = (acc text : List ℕ) (stage : Stage) (st : State) → lines acc ≡ 0 → Reaches text stage → Related text stage st → Fared (text ++ (acc ++ bytes)) (feed_from bytes (st, acc))
+abbrev FaresOn : List ℕ → Type 0
+FaresOn bytes = (acc text : List ℕ) (stage : Stage) (st : State) → lines acc ≡ 0 → Reaches text stage → Related text stage st → Fared (text ++ (acc ++ bytes)) (feed_from bytes (st, acc))
 
-one_byte : (K : Known) (b : ℕ) (bs : List ℕ) → FaresOn K bs → FaresOn K (b ∷ bs)
-one_byte K b bs on acc text stage st u r k = at (b == 10) refl where
+one_byte : (b : ℕ) (bs : List ℕ) → FaresOn bs → FaresOn (b ∷ bs)
+one_byte b bs on acc text stage st u r k = at (b == 10) refl where
   whole : List ℕ
   whole = text ++ (acc ++ b ∷ bs)
 
   at_end : b ≡ 10 → (x : Result State CheckFault) → line_step acc st ≡ x → Fared (text ++ (acc ++ b ∷ bs)) ((x >>= anew) >>= (λ t. feed_from bs t))
-  at_end e (Err f) i = subst (λ c. Lacks (text ++ (acc ++ c ∷ bs)) f) (sym e) (at_line acc bs r u (line_wrong K text stage st acc f k i))
+  at_end e (Err f) i = subst (λ c. Lacks (text ++ (acc ++ c ∷ bs)) f) (sym e) (at_line acc bs r u (line_wrong text stage st acc f k i))
   at_end e (Ok next) i =
-      let leads = line_right K text stage st next acc u r k i in
+      let leads = line_right text stage st next acc u r k i in
       let same : (text ++ (acc ++ 10 ∷ [])) ++ bs ≡ text ++ (acc ++ b ∷ bs) = append_assoc text (acc ++ 10 ∷ []) bs ∙ ap (λ x. text ++ x) (append_assoc acc (10 ∷ []) bs) ∙ ap (λ c. text ++ (acc ++ c ∷ bs)) (sym e) in
       subst (λ x. Fared x (feed_from bs (next, []))) same (on [] (text ++ (acc ++ 10 ∷ [])) leads.stage next refl leads.reaches leads.related)
 
@@ -134,9 +134,9 @@ one_byte K b bs on acc text stage st u r k = at (b == 10) refl where
       let none : lines (acc ++ b ∷ []) ≡ 0 = lines_of_two acc (b ∷ []) ∙ ap (λ c. lines acc + cond c (0 + 1) 0) e ∙ omega (arith, u) in
       subst (λ x. Fared (text ++ x) (feed_from bs (st, acc ++ b ∷ []))) (append_assoc acc (b ∷ []) bs) (on (acc ++ b ∷ []) text stage st none r k)
 
-fares : (K : Known) (bytes : List ℕ) → FaresOn K bytes
-fares K [] acc text stage st u r k = record { text = text; stage = stage; is = ap (λ x. text ++ x) (append-nil acc); unended = u; reaches = r; related = k }
-fares K (b ∷ bs) acc text stage st u r k = one_byte K b bs (fares K bs) acc text stage st u r k
+fares : (bytes : List ℕ) → FaresOn bytes
+fares [] acc text stage st u r k = record { text = text; stage = stage; is = ap (λ x. text ++ x) (append-nil acc); unended = u; reaches = r; related = k }
+fares (b ∷ bs) acc text stage st u r k = one_byte b bs (fares bs) acc text stage st u r k
 
 -- the end
 never : {X : Type 0} {f : CheckFault} {v : Verdict} → ◌≡◌ {A = Result Verdict CheckFault} (Err f) (Ok v) → X
@@ -167,8 +167,8 @@ says_at bytes s v text (nodes T js x ts) e r k h = never (sym (finished_from (at
 says_at bytes s v text (code T js x q d) e r k h = never (sym (finished_from (at_code x (rooted_by d)) s k.at.stage) ∙ h)
 says_at bytes s v text (the_end T js) e r k h = at_the_end bytes text s.1 T js s.0 v e r k.at.table k.at.entries (sym (finished_from at_end s k.at.stage) ∙ h)
 
-pub judged_says : Known → (bytes : List ℕ) (v : Verdict) → judged bytes ≡ Ok v → Says bytes v
-judged_says K bytes v h = at (feed_from bytes (start, [])) h (fares K bytes [] [] the_header start refl nothing started) where
+pub judged_says : (bytes : List ℕ) (v : Verdict) → judged bytes ≡ Ok v → Says bytes v
+judged_says bytes v h = at (feed_from bytes (start, [])) h (fares bytes [] [] the_header start refl nothing started) where
   at : (r : Result Fed CheckFault) → (r >>= (λ t. finished t)) ≡ Ok v → Fared bytes r → Says bytes v
   at (Err f) h k = never h
   at (Ok s) h k = says_at bytes s v k.text k.stage k.is k.reaches k.related h
@@ -196,16 +196,16 @@ lacks_at bytes s f text (nodes T js x ts) e u r k h = lacks_lines bytes text s.1
 lacks_at bytes s f text (code T js x q d) e u r k h = lacks_lines bytes text s.1 (code T js x q d) f e r (λ i. cc) (λ U es i. cc) u (sym (finished_from (at_code x (rooted_by d)) s k.at.stage) ∙ h)
 lacks_at bytes s f text (the_end T js) e u r k h = lacks_end bytes text s.1 T js s.0 f e r u (sym (finished_from at_end s k.at.stage) ∙ h)
 
-pub judged_lacks : Known → (bytes : List ℕ) (f : CheckFault) → judged bytes ≡ Err f → Lacks bytes f
-judged_lacks K bytes f h = at (feed_from bytes (start, [])) h (fares K bytes [] [] the_header start refl nothing started) where
+pub judged_lacks : (bytes : List ℕ) (f : CheckFault) → judged bytes ≡ Err f → Lacks bytes f
+judged_lacks bytes f h = at (feed_from bytes (start, [])) h (fares bytes [] [] the_header start refl nothing started) where
   at : (r : Result Fed CheckFault) → (r >>= (λ t. finished t)) ≡ Err f → Fared bytes r → Lacks bytes f
   at (Err g) h k = subst (Lacks bytes) (err_same h) k
   at (Ok s) h k = lacks_at bytes s f k.text k.stage k.is k.unended k.reaches k.related h
 
 -- and back
-pub says_judged : Known → (bytes : List ℕ) (v : Verdict) → Says bytes v → judged bytes ≡ Ok v
-says_judged K bytes v h =
-    let c = comes K bytes (the_end v.table v.entries) (says_reaches bytes v h) in
+pub says_judged : (bytes : List ℕ) (v : Verdict) → Says bytes v → judged bytes ≡ Ok v
+says_judged bytes v h =
+    let c = comes bytes (the_end v.table v.entries) (says_reaches bytes v h) in
     ap (λ r. r >>= (λ t. finished t)) c.is ∙ finished_from at_end (c.state, []) c.related.at.stage
     ∙ ap (λ T. Ok (record { table = T; entries = c.state.entries })) c.related.at.table ∙ ap (λ es. Ok (record { table = v.table; entries = es })) c.related.at.entries
 
@@ -219,17 +219,17 @@ unended_at text rest (the_end T js) st k a b = finished_from at_end (st, rest) k
   some_rest [] i = absurd (i refl)
   some_rest (x ∷ rest) i = refl
 
-lacks_so : Known → (bytes : List ℕ) (f : CheckFault) → Lacks bytes f → judged bytes ≡ Err f
-lacks_so K _ _ (at_line {text = text} {stage = stage} {f = f} l rest r u fault) =
-    let c = comes K text stage r in
+lacks_so : (bytes : List ℕ) (f : CheckFault) → Lacks bytes f → judged bytes ≡ Err f
+lacks_so _ _ (at_line {text = text} {stage = stage} {f = f} l rest r u fault) =
+    let c = comes text stage r in
     ap (λ x. x >>= (λ t. finished t))
     (fed_more text (l ++ 10 ∷ rest) (start, []) ∙ ap (λ x. x >>= (λ t. feed_from (l ++ 10 ∷ rest) t)) c.is ∙ fed_line l rest c.state u
-    ∙ ap (λ x. x >>= (λ next. feed_from rest (next, []))) (line_fails K text stage c.state l (l ++ 10 ∷ []) f c.related refl fault))
-lacks_so K _ _ (in_header {bytes = bytes} u) = ap (λ x. x >>= (λ t. finished t)) (fed_waits bytes [] start u)
-lacks_so K _ _ (in_lines {text = text} {rest = rest} {stage = stage} r a u b) =
-    let c = comes K text stage r in
+    ∙ ap (λ x. x >>= (λ next. feed_from rest (next, []))) (line_fails text stage c.state l (l ++ 10 ∷ []) f c.related refl fault))
+lacks_so _ _ (in_header {bytes = bytes} u) = ap (λ x. x >>= (λ t. finished t)) (fed_waits bytes [] start u)
+lacks_so _ _ (in_lines {text = text} {rest = rest} {stage = stage} r a u b) =
+    let c = comes text stage r in
     ap (λ x. x >>= (λ t. finished t)) (fed_more text rest (start, []) ∙ ap (λ x. x >>= (λ t. feed_from rest t)) c.is ∙ fed_waits rest [] c.state u)
     ∙ unended_at text rest stage c.state c.related a b
 
-pub lacks_judged : Known → (bytes : List ℕ) (f : CheckFault) → Lacks bytes f → judged bytes ≡ Err f
-lacks_judged K bytes f h = lacks_so K bytes f h
+pub lacks_judged : (bytes : List ℕ) (f : CheckFault) → Lacks bytes f → judged bytes ≡ Err f
+lacks_judged bytes f h = lacks_so bytes f h
