@@ -29,23 +29,11 @@ use Rattle.bc_stack.specs.Wholes.{whole}
 use Rattle.bc_verdict.specs.Entries.{nested}
 use Rattle.bc_verdict.specs.Faults.{Grown, all_shown, parts, Ends, Name, name, StandsBy, node, grown}
 use Rattle.bc_verdict.specs.Standing.{AreNamed, no_name, named, wrong, chain_rules, Stands, AllStand, IsOver, ShowsRules, no_rule, by_chain}
+use Rattle.bc_verdict.proofs.Node.{depth_is, new_stands, no_rules, right_rules}
 use Rattle.bc_verdict.proofs.Results.{some_same, ok_same, err_same, at_most_true, at_most, not_at_most, at_most_false}
 use Rattle.bc_verdict.proofs.Keeping.{StackStands, Kept, all_stand, kept_front, kept_behind, kept_more, kept_lengths}
 use Rattle.bc_verdict.proofs.NodeParts.{placed, expressions, levels_right, expressions_are, levels_are, own_form, right_levels, right_whole, right_length, parts_right, whole_form, whole_made}
 use Rattle.bc_verdict.proofs.NodeCosts.{own_parts, costs_are_least, least_are_costs}
-
--- what holds of the rules at one node
-pub record RulesAtNodes : Type 0 where
-  pub new_stands : (T : Table) (n : NodeLine) (ts : List Grown) (ms : List Mark) (fs : List Facts) (es : List Exp) (xs : List Tree) (e : Exp) → IsOver T n ts ms fs es xs e → (rules : List Rule) → ShowsRules n.rules rules → (p : Place) (sh : Shown)
-      → shown_for (line_node T n e fs) ms n p ≡ Ok sh
-      → Stands T (grown e n.level rules ts) (new_mark n (depth_over ms) sh ms) (new_facts n e fs) e (derived n.rules (second_zero fs) xs) × StandsBy T e n.level rules (all_shown ts ++ node e n.level rules ∷ [])
-  pub depth_is : (T : Table) (n : NodeLine) (ts : List Grown) (ms : List Mark) (fs : List Facts) (es : List Exp) (xs : List Tree) (e : Exp) → AllStand T ts ms fs es xs → levels_fit n.level n.form ms ≡ true → whole n.form es ≡ Some e
-      → depth_over ms ≡ nested e
-  pub no_rules : (T : Table) (n : NodeLine) (ts : List Grown) (ms : List Mark) (fs : List Facts) (es : List Exp) (xs : List Tree) (e : Exp) → IsOver T n ts ms fs es xs e → (names : List Name) → AreNamed names n.rules → (p : Place) (f : CheckFault)
-      → shown_for (line_node T n e fs) ms n p ≡ Err f
-      → (f ≡ faults.WrongRule p.entry p.node) × ((rules : List Rule) → names ≡ map name rules → ¬ StandsBy T e n.level rules (all_shown ts ++ node e n.level rules ∷ []))
-  pub right_rules : (T : Table) (n : NodeLine) (ts : List Grown) (ms : List Mark) (fs : List Facts) (es : List Exp) (xs : List Tree) (e : Exp) → IsOver T n ts ms fs es xs e → (names : List Name) (rules : List Rule) → names ≡ map name rules
-      → AreNamed names n.rules → StandsBy T e n.level rules (all_shown ts ++ node e n.level rules ∷ []) → (p : Place) → ShowsRules n.rules rules × ((sh : Shown) × (shown_for (line_node T n e fs) ms n p ≡ Ok sh))
 
 -- where the trees of a node's parts begin
 abbrev pub place_of : NodeLine → Stack → ℕ
@@ -156,9 +144,9 @@ is_over : {T : Table} {e : Exp} {n : NodeLine} {ts : List Grown} {x : Stack} {en
     → IsOver T n ends.own (drop (place_of n x) x.marks) (drop (place_of n x) x.facts) (drop (place_of n x) x.expressions) (drop (place_of n x) x.derivations) e
 is_over fit least = record { parts = all_stand fit.own; levels = fit.levels; whole = fit.is_whole; costs = least }
 
-depth_over_is : RulesAtNodes → {T : Table} {e : Exp} {n : NodeLine} {ts : List Grown} {x : Stack} {ends : Ends e n.level ts} → NodeFits T n ts x e ends → depth_over (drop (place_of n x) x.marks) ≡ nested e
-depth_over_is rules {T = T} {e = e} {n = n} {x = x} {ends = ends} fit =
-    rules.depth_is T n ends.own (drop (place_of n x) x.marks) (drop (place_of n x) x.facts) (drop (place_of n x) x.expressions) (drop (place_of n x) x.derivations) e (all_stand fit.own) fit.levels fit.is_whole
+depth_over_is : {T : Table} {e : Exp} {n : NodeLine} {ts : List Grown} {x : Stack} {ends : Ends e n.level ts} → NodeFits T n ts x e ends → depth_over (drop (place_of n x) x.marks) ≡ nested e
+depth_over_is {T = T} {e = e} {n = n} {x = x} {ends = ends} fit =
+    depth_is T n ends.own (drop (place_of n x) x.marks) (drop (place_of n x) x.facts) (drop (place_of n x) x.expressions) (drop (place_of n x) x.derivations) e (all_stand fit.own) fit.levels fit.is_whole
 
 -- the rules that names say where a step goes on
 record NamesShow (names : List Name) (rs : Rules) : Type 0 where
@@ -188,21 +176,21 @@ pub data NodeWrong (T : Table) (n : NodeLine) (ts : List Grown) (names : List Na
   is_cost : nested e ≤ 400 → ¬ AreLeast T e n.level n.costs → NodeWrong T n ts names e ends p (faults.WrongCost p.entry p.node)
   is_rule : nested e ≤ 400 → AreLeast T e n.level n.costs → ((rules : List Rule) → names ≡ map name rules → ¬ StandsBy T e n.level rules (all_shown ends.own ++ node e n.level rules ∷ [])) → NodeWrong T n ts names e ends p (faults.WrongRule p.entry p.node)
 
-stack_more : RulesAtNodes → {T : Table} {e : Exp} {n : NodeLine} {ts : List Grown} {x : Stack} {ends : Ends e n.level ts} (p : Place) (rules : List Rule) (shown : Shown) → NodeFits T n ts x e ends → AreLeast T e n.level n.costs → ShowsRules n.rules rules → shown_over T n p x e ≡ Ok shown
+stack_more : {T : Table} {e : Exp} {n : NodeLine} {ts : List Grown} {x : Stack} {ends : Ends e n.level ts} (p : Place) (rules : List Rule) (shown : Shown) → NodeFits T n ts x e ends → AreLeast T e n.level n.costs → ShowsRules n.rules rules → shown_over T n p x e ≡ Ok shown
     → StackStands T (ends.before ++ grown e n.level rules ends.own ∷ []) (new_stack n x e shown) × StandsBy T e n.level rules (all_shown ends.own ++ node e n.level rules ∷ [])
-stack_more at_nodes {T = T} {e = e} {n = n} {x = x} {ends = ends} p rules shown fit least shows k =
-    let new = at_nodes.new_stands T n ends.own (drop (place_of n x) x.marks) (drop (place_of n x) x.facts) (drop (place_of n x) x.expressions) (drop (place_of n x) x.derivations) e (is_over fit least) rules shows p shown k in
+stack_more {T = T} {e = e} {n = n} {x = x} {ends = ends} p rules shown fit least shows k =
+    let new = new_stands T n ends.own (drop (place_of n x) x.marks) (drop (place_of n x) x.facts) (drop (place_of n x) x.expressions) (drop (place_of n x) x.derivations) e (is_over fit least) rules shows p shown k in
     (all_stand (kept_more fit.before new.0), new.1)
 
-pub node_right : RulesAtNodes → {T : Table} {e : Exp} {n : NodeLine} {ts : List Grown} {x : Stack} {ends : Ends e n.level ts} (p : Place) (names : List Name) (y : Stack) → NodeFits T n ts x e ends → AreNamed names n.rules → node_step T n p x ≡ Ok y → NodeRight T n ts names e ends y
-node_right at_nodes {T = T} {e = e} {n = n} {ts = ts} {x = x} {ends = ends} p names y fit are k = at (nat_le (depth_over (drop (place_of n x) x.marks)) 400) refl (are_least T n x e) refl (shown_over T n p x e) refl (sym (node_result p fit) ∙ k) where
+pub node_right : {T : Table} {e : Exp} {n : NodeLine} {ts : List Grown} {x : Stack} {ends : Ends e n.level ts} (p : Place) (names : List Name) (y : Stack) → NodeFits T n ts x e ends → AreNamed names n.rules → node_step T n p x ≡ Ok y → NodeRight T n ts names e ends y
+node_right {T = T} {e = e} {n = n} {ts = ts} {x = x} {ends = ends} p names y fit are k = at (nat_le (depth_over (drop (place_of n x) x.marks)) 400) refl (are_least T n x e) refl (shown_over T n p x e) refl (sym (node_result p fit) ∙ k) where
   at : (deep : Bool) → nat_le (depth_over (drop (place_of n x) x.marks)) 400 ≡ deep → (least : Bool) → are_least T n x e ≡ least → (r : Result Shown CheckFault) → shown_over T n p x e ≡ r
       → cond deep (cond least r (Err (faults.WrongCost p.entry p.node)) >>= (λ shown. Ok (new_stack n x e shown))) (Err (faults.TooDeep p.line)) ≡ Ok y → NodeRight T n ts names e ends y
   at true i true j (Ok shown) m k =
       let least = costs_are_least T n e (drop (place_of n x) x.facts) n.costs fit.form (own_parts e n.level fit.own ends.parts) j in
       let names_said = names_show T n e (drop (place_of n x) x.facts) (drop (place_of n x) x.marks) p shown refl are m in
-      let more = stack_more at_nodes p names_said.rules shown fit least names_said.shows m in
-      let depth = at_most _ _ i in let same = depth_over_is at_nodes fit in
+      let more = stack_more p names_said.rules shown fit least names_said.shows m in
+      let depth = at_most _ _ i in let same = depth_over_is fit in
       record {
         rules = names_said.rules;
         names_are = names_said.names_are;
@@ -216,22 +204,22 @@ node_right at_nodes {T = T} {e = e} {n = n} {ts = ts} {x = x} {ends = ends} p na
   at true i false j r m k = cc
   at false i least j r m k = cc
 
-pub node_wrong : RulesAtNodes → {T : Table} {e : Exp} {n : NodeLine} {ts : List Grown} {x : Stack} {ends : Ends e n.level ts} (p : Place) (names : List Name) (f : CheckFault) → NodeFits T n ts x e ends → AreNamed names n.rules → node_step T n p x ≡ Err f → NodeWrong T n ts names e ends p f
-node_wrong at_nodes {T = T} {e = e} {n = n} {ts = ts} {x = x} {ends = ends} p names f fit are k = at (nat_le (depth_over (drop (place_of n x) x.marks)) 400) refl (are_least T n x e) refl (shown_over T n p x e) refl (sym (node_result p fit) ∙ k) where
+pub node_wrong : {T : Table} {e : Exp} {n : NodeLine} {ts : List Grown} {x : Stack} {ends : Ends e n.level ts} (p : Place) (names : List Name) (f : CheckFault) → NodeFits T n ts x e ends → AreNamed names n.rules → node_step T n p x ≡ Err f → NodeWrong T n ts names e ends p f
+node_wrong {T = T} {e = e} {n = n} {ts = ts} {x = x} {ends = ends} p names f fit are k = at (nat_le (depth_over (drop (place_of n x) x.marks)) 400) refl (are_least T n x e) refl (shown_over T n p x e) refl (sym (node_result p fit) ∙ k) where
   not_deep : nat_le (depth_over (drop (place_of n x) x.marks)) 400 ≡ true → nested e ≤ 400
-  not_deep i = let depth = at_most _ _ i in let same = depth_over_is at_nodes fit in omega (arith, depth, same)
+  not_deep i = let depth = at_most _ _ i in let same = depth_over_is fit in omega (arith, depth, same)
 
   at : (deep : Bool) → nat_le (depth_over (drop (place_of n x) x.marks)) 400 ≡ deep → (least : Bool) → are_least T n x e ≡ least → (r : Result Shown CheckFault) → shown_over T n p x e ≡ r
       → cond deep (cond least r (Err (faults.WrongCost p.entry p.node)) >>= (λ shown. Ok (new_stack n x e shown))) (Err (faults.TooDeep p.line)) ≡ Err f → NodeWrong T n ts names e ends p f
   at true i true j (Ok shown) m k = cc
   at true i true j (Err g) m k =
       let least = costs_are_least T n e (drop (place_of n x) x.facts) n.costs fit.form (own_parts e n.level fit.own ends.parts) j in
-      let wrong = at_nodes.no_rules T n ends.own (drop (place_of n x) x.marks) (drop (place_of n x) x.facts) (drop (place_of n x) x.expressions) (drop (place_of n x) x.derivations) e (is_over fit least) names are p g m in
+      let wrong = no_rules T n ends.own (drop (place_of n x) x.marks) (drop (place_of n x) x.facts) (drop (place_of n x) x.expressions) (drop (place_of n x) x.derivations) e (is_over fit least) names are p g m in
       subst (NodeWrong T n ts names e ends p) (sym wrong.0 ∙ err_same k) (is_rule (not_deep i) least wrong.1)
   at true i false j r m k =
       subst (NodeWrong T n ts names e ends p) (err_same k)
       (is_cost (not_deep i) (λ least. let is = least_are_costs T n e (drop (place_of n x) x.facts) n.costs fit.form (own_parts e n.level fit.own ends.parts) least in let bad : true ≡ false = sym is ∙ j in cc))
-  at false i least j r m k = let depth = not_at_most _ _ i in let same = depth_over_is at_nodes fit in subst (NodeWrong T n ts names e ends p) (err_same k) (is_deep (deep_so same depth)) where
+  at false i least j r m k = let depth = not_at_most _ _ i in let same = depth_over_is fit in subst (NodeWrong T n ts names e ends p) (err_same k) (is_deep (deep_so same depth)) where
     deep_so : depth_over (drop (place_of n x) x.marks) ≡ nested e → ¬ (depth_over (drop (place_of n x) x.marks) ≤ 400) → 400 < nested e
     deep_so same h = grind (arith, same, h)
 
@@ -245,15 +233,15 @@ pub record NodeMade (T : Table) (n : NodeLine) (p : Place) (x : Stack) (trees : 
   pub is : node_step T n p x ≡ Ok stack
   pub stands : StackStands T trees stack
 
-pub node_made : RulesAtNodes → {T : Table} {e : Exp} {n : NodeLine} {ts : List Grown} {x : Stack} {ends : Ends e n.level ts} (p : Place) (names : List Name) (rules : List Rule) → NodeFits T n ts x e ends → AreNamed names n.rules → names ≡ map name rules → nested e ≤ 400 → AreLeast T e n.level n.costs
+pub node_made : {T : Table} {e : Exp} {n : NodeLine} {ts : List Grown} {x : Stack} {ends : Ends e n.level ts} (p : Place) (names : List Name) (rules : List Rule) → NodeFits T n ts x e ends → AreNamed names n.rules → names ≡ map name rules → nested e ≤ 400 → AreLeast T e n.level n.costs
     → StandsBy T e n.level rules (all_shown ends.own ++ node e n.level rules ∷ []) → NodeMade T n p x (ends.before ++ grown e n.level rules ends.own ∷ [])
-node_made at_nodes {T = T} {e = e} {n = n} {ts = ts} {x = x} {ends = ends} p names rules fit are names_are depth least stands =
-    let right = at_nodes.right_rules T n ends.own (drop (place_of n x) x.marks) (drop (place_of n x) x.facts) (drop (place_of n x) x.expressions) (drop (place_of n x) x.derivations) e (is_over fit least) names rules names_are are stands p in
-    let same = depth_over_is at_nodes fit in
+node_made {T = T} {e = e} {n = n} {ts = ts} {x = x} {ends = ends} p names rules fit are names_are depth least stands =
+    let right = right_rules T n ends.own (drop (place_of n x) x.marks) (drop (place_of n x) x.facts) (drop (place_of n x) x.expressions) (drop (place_of n x) x.derivations) e (is_over fit least) names rules names_are are stands p in
+    let same = depth_over_is fit in
     let deep : nat_le (depth_over (drop (place_of n x) x.marks)) 400 ≡ true = at_most_true _ _ (omega (arith, same, depth)) in
     let costs : are_least T n x e ≡ true = least_are_costs T n e (drop (place_of n x) x.facts) n.costs fit.form (own_parts e n.level fit.own ends.parts) least in
     record {
       stack = new_stack n x e right.1.0;
       is = node_result p fit ∙ ap (λ b. decided T n p x e b (are_least T n x e)) deep ∙ ap (λ b. decided T n p x e true b) costs ∙ ap (λ r. r >>= (λ shown. Ok (new_stack n x e shown))) right.1.1;
-      stands = (stack_more at_nodes p rules right.1.0 fit least right.0 right.1.1).0;
+      stands = (stack_more p rules right.1.0 fit least right.0 right.1.1).0;
     }

@@ -34,7 +34,7 @@ use Rattle.bc_verdict.proofs.Keeping.{StackStands, kept}
 use Rattle.bc_verdict.proofs.RootSteps.{IsRootOf, of_value, of_test, of_assignment, RootRight, RootWrong, no_derivation, no_root, root_made, root_right, root_wrong}
 use Rattle.bc_verdict.proofs.NodeParts.{own_form, form_text_is, small_form, small_number}
 use Rattle.bc_verdict.proofs.NodeCosts.{by_derivations, by_choices, least_costs}
-use Rattle.bc_verdict.proofs.NodeSteps.{RulesAtNodes, NodeFits, fits_of_ends, NodeDecision, fits, misfit, node_decided, NodeRight, NodeWrong, is_deep, is_cost, is_rule, node_right, node_wrong, NodeMade, node_made}
+use Rattle.bc_verdict.proofs.NodeSteps.{NodeFits, fits_of_ends, NodeDecision, fits, misfit, node_decided, NodeRight, NodeWrong, is_deep, is_cost, is_rule, node_right, node_wrong, NodeMade, node_made}
 
 -- what a line within an entry was, and what comes behind it
 pub data WithinTaken (T : Table) (ts : List Grown) (h : Head) (l : List ℕ) (st after : State) : Type 0 where
@@ -141,8 +141,8 @@ node_room {e = e} {n = n} rules form read least depth =
       cost_room (Jumps false) = read.costs.on_false
       cost_room (Jumps true) = read.costs.on_true
 
-node_taken : RulesAtNodes → {T : Table} (ts : List Grown) (st after : State) (h : Head) (l : List ℕ) (p : Place) (n : NodeLine) → StackStands T ts st.trees → node_line l ≡ Some n → at_node T h p st n ≡ Ok after → WithinTaken T ts h l st after
-node_taken at_nodes_hold {T = T} ts st after h l p n stands i k =
+node_taken : {T : Table} (ts : List Grown) (st after : State) (h : Head) (l : List ℕ) (p : Place) (n : NodeLine) → StackStands T ts st.trees → node_line l ≡ Some n → at_node T h p st n ≡ Ok after → WithinTaken T ts h l st after
+node_taken {T = T} ts st after h l p n stands i k =
     let b = bound (node_step T n p st.trees) (λ ts. Ok (record st { stage = at_nodes h; trees = ts; nodes = st.nodes + 1 })) after k in
     at b.value b.was (sym (ok_same b.is)) (node_decided n ts st.trees p (kept T ts st.trees.marks st.trees.facts st.trees.expressions st.trees.derivations stands)) where
       at : (y : Stack) → node_step T n p st.trees ≡ Ok y → after ≡ record st { stage = at_nodes h; trees = y; nodes = st.nodes + 1 } → NodeDecision T n ts st.trees p → WithinTaken T ts h l st after
@@ -150,7 +150,7 @@ node_taken at_nodes_hold {T = T} ts st after h l p n stands i k =
       at y was is (fits {e = e} ends form) =
           let read = node_read l n i in
           let fit = fits_of_ends n ts st.trees ends (kept T ts st.trees.marks st.trees.facts st.trees.expressions st.trees.derivations stands) form in
-          let right = node_right at_nodes_hold p read.names y fit read.rules was in
+          let right = node_right p read.names y fit read.rules was in
           a_node e n.level right.rules ends (node_room right.rules form read right.least right.depth) right.stands ((is_node_line form read).is ∙ node_text right.rules right.least right.names_are) y right.trees is
 
 root_taken : {T : Table} (ts : List Grown) (st after : State) (h : Head) (l : List ℕ) (p : Place) (r : RootLine) → StackStands T ts st.trees → root_line l ≡ Some r → at_root h p st r ≡ Ok after → WithinTaken T ts h l st after
@@ -163,10 +163,10 @@ root_taken {T = T} ts st after h l p r stands i k =
     a_root right.root right.derivation (subst (RootOver ts right.root) (sym read.0) (root_over right.over)) (subst (λ t. RootStands T right.root (all_shown ts) t right.derivation) (sym read.0) right.stands)
     (sym (ok_same b.is) ∙ ap (λ x. record st { stage = at_code h x; trees = no_trees }) (sym same))
 
-pub within_taken : RulesAtNodes → (T : Table) (ts : List Grown) (st after : State) (h : Head) (l : List ℕ) (p : Place) → st.table ≡ T → StackStands T ts st.trees → within_step h l p st ≡ Ok after → WithinTaken T ts h l st after
-within_taken at_nodes_hold T ts st after h l p t stands k = at (node_line l) refl (root_line l) refl where
+pub within_taken : (T : Table) (ts : List Grown) (st after : State) (h : Head) (l : List ℕ) (p : Place) → st.table ≡ T → StackStands T ts st.trees → within_step h l p st ≡ Ok after → WithinTaken T ts h l st after
+within_taken T ts st after h l p t stands k = at (node_line l) refl (root_line l) refl where
   at : (o : Option NodeLine) → node_line l ≡ o → (r : Option RootLine) → root_line l ≡ r → WithinTaken T ts h l st after
-  at (Some n) i r j = node_taken at_nodes_hold ts st after h l p n stands i (sym (node_so h l p st n t i) ∙ k)
+  at (Some n) i r j = node_taken ts st after h l p n stands i (sym (node_so h l p st n t i) ∙ k)
   at None i (Some r) j = root_taken ts st after h l p r stands j (sym (root_so h l p st r i j) ∙ k)
   at None i None j = let bad : ◌≡◌ {A = Result State CheckFault} (Err (faults.Line p.line)) (Ok after) = sym (no_line_so h l p st i j) ∙ k in cc
 
@@ -194,12 +194,9 @@ other_root l {ts = ts} {said = said} {r = r} h k =
     let over = line_over k in subst (λ q. IsRootOf q ts r) (some_same (sym (root_back l over.said over.small over.is) ∙ h)) over.over
 
 -- the fault of a line
-node_fault : RulesAtNodes → (text : List ℕ) {T : Table} (js : List Judged) (ts : List Grown) (st : State) (h : Head) (l : List ℕ) (p : Place) (f : CheckFault) (n : NodeLine) → StandsBehind text js (length (all_shown ts)) p → StackStands T ts st.trees → node_line l ≡ Some n
+node_fault : (text : List ℕ) {T : Table} (js : List Judged) (ts : List Grown) (st : State) (h : Head) (l : List ℕ) (p : Place) (f : CheckFault) (n : NodeLine) → StandsBehind text js (length (all_shown ts)) p → StackStands T ts st.trees → node_line l ≡ Some n
     → node_step T n p st.trees ≡ Err f → LineFault text (nodes T js h ts) (l ++ 10 ∷ []) f
-node_fault at_nodes_hold text {T = T} js ts st h l p f n place stands i k = at (node_decided n ts st.trees p (kept T ts st.trees.marks st.trees.facts st.trees.expressions st.trees.derivations stands)) where
-  IsFault : CheckFault → Type 0
-  IsFault g = LineFault text (nodes T js h ts) (l ++ 10 ∷ []) g
-
+node_fault text {T = T} js ts st h l p f n place stands i k = at (node_decided n ts st.trees p (kept T ts st.trees.marks st.trees.facts st.trees.expressions st.trees.derivations stands)) where
   found : {e : Exp} (ends : Ends e n.level ts) (form : n.form ≡ own_form e) (read : NodeRead n l) (g : CheckFault) → NodeWrong T n ts read.names e ends p g → LineFault text (nodes T js h ts) (l ++ 10 ∷ []) g
   found ends form read _ (is_deep deep) = subst (LineFault text (nodes T js h ts) (l ++ 10 ∷ [])) (ap faults.TooDeep (sym place.line)) (too_deep ends (is_node_line form read) deep)
   found {e = e} ends form read _ (is_cost depth not_least) =
@@ -215,7 +212,7 @@ node_fault at_nodes_hold text {T = T} js ts st h l p f n place stands i k = at (
   at (fits ends form) =
       let read = node_read l n i in
       let fit = fits_of_ends n ts st.trees ends (kept T ts st.trees.marks st.trees.facts st.trees.expressions st.trees.derivations stands) form in
-      found ends form read f (node_wrong at_nodes_hold p read.names f fit read.rules k)
+      found ends form read f (node_wrong p read.names f fit read.rules k)
 
 root_fault : (text : List ℕ) {T : Table} (js : List Judged) (ts : List Grown) (st : State) (h : Head) (l : List ℕ) (p : Place) (f : CheckFault) (said : RootLine) → StandsBehind text js (length (all_shown ts)) p → StackStands T ts st.trees → node_line l ≡ None
     → root_line l ≡ Some said → root_step said p st.trees ≡ Err f → LineFault text (nodes T js h ts) (l ++ 10 ∷ []) f
@@ -228,11 +225,169 @@ root_fault text {T = T} js ts st h l p f said place stands i j k = let read = ro
         made m = cc
   at read _ k (no_root none) = subst (LineFault text (nodes T js h ts) (l ++ 10 ∷ [])) (ap faults.Line (sym place.line)) (no_form (λ e s c names ends. unread_node l i) (λ r over. none r (other_root l j over)))
 
-pub within_fault : RulesAtNodes → (text : List ℕ) (T : Table) (js : List Judged) (ts : List Grown) (st : State) (h : Head) (l : List ℕ) (p : Place) (f : CheckFault) → StandsBehind text js (length (all_shown ts)) p → st.table ≡ T → StackStands T ts st.trees
+pub within_fault : (text : List ℕ) (T : Table) (js : List Judged) (ts : List Grown) (st : State) (h : Head) (l : List ℕ) (p : Place) (f : CheckFault) → StandsBehind text js (length (all_shown ts)) p → st.table ≡ T → StackStands T ts st.trees
     → within_step h l p st ≡ Err f → LineFault text (nodes T js h ts) (l ++ 10 ∷ []) f
-within_fault at_nodes_hold text T js ts st h l p f place t stands k = at (node_line l) refl (root_line l) refl where
+within_fault text T js ts st h l p f place t stands k = at (node_line l) refl (root_line l) refl where
   at : (o : Option NodeLine) → node_line l ≡ o → (r : Option RootLine) → root_line l ≡ r → LineFault text (nodes T js h ts) (l ++ 10 ∷ []) f
-  at (Some n) i r j = node_fault at_nodes_hold text js ts st h l p f n place stands i (failed _ _ f (sym (node_so h l p st n t i) ∙ k))
+  at (Some n) i r j = node_fault text js ts st h l p f n place stands i (failed _ _ f (sym (node_so h l p st n t i) ∙ k))
   at None i (Some r) j = root_fault text js ts st h l p f r place stands i j (failed _ _ f (sym (root_so h l p st r i j) ∙ k))
   at None i None j =
       subst (LineFault text (nodes T js h ts) (l ++ 10 ∷ [])) (ap faults.Line (sym place.line) ∙ err_same (sym (no_line_so h l p st i j) ∙ k)) (no_form (λ e s c names ends. unread_node l i) (λ r. unread_root l j))
+
+-- a node line is taken where it is right
+record NodeTaken (T : Table) (ts : List Grown) (st : State) (h : Head) (l : List ℕ) (p : Place) (trees : List Grown) : Type 0 where
+  stack : Stack
+  stands : StackStands T trees stack
+  is : within_step h l p st ≡ Ok (record st { stage = at_nodes h; trees = stack; nodes = st.nodes + 1 })
+
+node_so_made : {T : Table} {e : Exp} (ts : List Grown) (st : State) (h : Head) (l : List ℕ) (p : Place) (n : NodeLine) (rules : List Rule) → st.table ≡ T → StackStands T ts st.trees → node_line l ≡ Some n → n.form ≡ own_form e → AreNamed (map name rules) n.rules → nested e ≤ 400
+    → (ends : Ends e n.level ts) → AreLeast T e n.level n.costs → StandsBy T e n.level rules (all_shown ends.own ++ node e n.level rules ∷ []) → NodeTaken T ts st h l p (ends.before ++ grown e n.level rules ends.own ∷ [])
+node_so_made {T = T} ts st h l p n rules t stands i form are depth ends least by_rules =
+    let fit = fits_of_ends n ts st.trees ends (kept T ts st.trees.marks st.trees.facts st.trees.expressions st.trees.derivations stands) form in
+    let made = node_made p (map name rules) rules fit are refl depth least by_rules in
+    record { stack = made.stack; stands = made.stands; is = node_so h l p st n t i ∙ ap (λ r. r >>= (λ ts. Ok (record st { stage = at_nodes h; trees = ts; nodes = st.nodes + 1 }))) made.is }
+
+costs_room : {T : Table} {e : Exp} {s : ℕ} {c : Costs} {rules : List Rule} → AreLeast T e s c → NodeHasRoom T (node e s rules) → CostsHaveRoom c
+costs_room least room =
+    record {
+      any = subst (λ o. IfSome o IsNumber) (least.words (Gets Any)) (room.words (Gets Any));
+      push = subst (λ o. IfSome o IsNumber) (least.words (Gets Push)) (room.words (Gets Push));
+      on_false = subst (λ o. IfSome o IsNumber) (least.words (Jumps false)) (room.words (Jumps false));
+      on_true = subst (λ o. IfSome o IsNumber) (least.words (Jumps true)) (room.words (Jumps true));
+    }
+
+node_line_of : {T : Table} {e : Exp} {s : ℕ} {c : Costs} (l : List ℕ) (rules : List Rule) → AreLeast T e s c → NodeHasRoom T (node e s rules) → l ++ 10 ∷ [] ≡ line_of_node T (node e s rules) → IsNodeLine e s c (map name rules) (l ++ 10 ∷ [])
+node_line_of l rules least room text = record { level = room.level; number = room.number; costs = costs_room least room; all_names = rules_are_names rules; is = text ∙ sym (node_text rules least refl) }
+
+pub within_node : (T : Table) (ts : List Grown) (st : State) (h : Head) (l : List ℕ) (p : Place) (e : Exp) (s : ℕ) (rules : List Rule) → st.table ≡ T → StackStands T ts st.trees → (ends : Ends e s ts) → NodeHasRoom T (node e s rules)
+    → StandsBy T e s rules (all_shown ends.own ++ node e s rules ∷ []) → l ++ 10 ∷ [] ≡ line_of_node T (node e s rules)
+    → (x : Stack) × (StackStands T (ends.before ++ grown e s rules ends.own ∷ []) x × (within_step h l p st ≡ Ok (record st { stage = at_nodes h; trees = x; nodes = st.nodes + 1 })))
+within_node T ts st h l p e s rules t stands ends room by_rules text =
+    let c = least_costs T e s in
+    let so = read_so {l = l} (node_line_of l rules c.1 room text) in
+    let taken = at so in
+    let made = taken ends c.1 by_rules in
+    (made.stack, (made.stands, made.is)) where
+      Goal : ℕ → Costs → Type 0
+      Goal k d = (ends : Ends e k ts) → AreLeast T e k d → StandsBy T e k rules (all_shown ends.own ++ node e k rules ∷ []) → NodeTaken T ts st h l p (ends.before ++ grown e k rules ends.own ∷ [])
+
+      at : {d : Costs} → ReadSo l e s d (map name rules) → (ends : Ends e s ts) → AreLeast T e s d → StandsBy T e s rules (all_shown ends.own ++ node e s rules ∷ []) → NodeTaken T ts st h l p (ends.before ++ grown e s rules ends.own ∷ [])
+      at so = subst (Goal s) so.costs (subst (λ k. Goal k so.said.costs) so.level (node_so_made ts st h l p so.said rules t stands so.is so.form so.rules room.depth))
+
+pub within_root : (T : Table) (ts : List Grown) (st : State) (h : Head) (l : List ℕ) (p : Place) (r : Root) (d : RootDerives T r) → StackStands T ts st.trees → RootOver ts r (l ++ 10 ∷ []) → RootStands T r (all_shown ts) (l ++ 10 ∷ []) d
+    → within_step h l p st ≡ Ok (record st { stage = at_code h (rooted_by d); trees = no_trees })
+within_root T ts st h l p r d stands over is =
+    let said = line_over over in
+    root_so h l p st said.said (node_no_root l said.said said.is) (root_back l said.said said.small said.is)
+    ∙ ap (λ x. x >>= (λ y. Ok (record st { stage = at_code h y; trees = no_trees }))) (root_made ts r said.said st.trees p stands said.over d (subst (λ t. RootStands T r (all_shown ts) t d) said.is is))
+
+-- and a fault of the relations is the step's
+either : {A : Type 0} (r : Result A CheckFault) (f : CheckFault) → ((x : A) → r ≡ Ok x → ⊥) → ((g : CheckFault) → r ≡ Err g → g ≡ f) → r ≡ Err f
+either (Ok x) f h k = absurd (h x refl)
+either (Err g) f h k = ap (λ z. Err z) (k g refl)
+
+node_fails : {T : Table} {e : Exp} (ts : List Grown) (st : State) (h : Head) (l : List ℕ) (p : Place) (f : CheckFault) (n : NodeLine) (names : List Name) → st.table ≡ T → StackStands T ts st.trees → node_line l ≡ Some n → n.form ≡ own_form e → AreNamed names n.rules
+    → (ends : Ends e n.level ts) → ((y : Stack) → NodeRight T n ts names e ends y → ⊥) → ((g : CheckFault) → NodeWrong T n ts names e ends p g → g ≡ f) → within_step h l p st ≡ Err f
+node_fails {T = T} ts st h l p f n names t stands i form are ends not_right wrong =
+    let fit = fits_of_ends n ts st.trees ends (kept T ts st.trees.marks st.trees.facts st.trees.expressions st.trees.derivations stands) form in
+    node_so h l p st n t i
+    ∙ ap (λ r. r >>= (λ ts. Ok (record st { stage = at_nodes h; trees = ts; nodes = st.nodes + 1 })))
+    (either (node_step T n p st.trees) f (λ y k. not_right y (node_right p names y fit are k)) (λ g k. wrong g (node_wrong p names g fit are k)))
+
+deep_fault : {T : Table} {e : Exp} {n : NodeLine} {ts : List Grown} {names : List Name} {ends : Ends e n.level ts} {p : Place} {g : CheckFault} → 400 < nested e → NodeWrong T n ts names e ends p g → g ≡ faults.TooDeep p.line
+deep_fault h (is_deep k) = refl
+deep_fault h (is_cost k not_least) = absurd (omega (arith, h, k))
+deep_fault h (is_rule k least none) = absurd (omega (arith, h, k))
+
+cost_fault : {T : Table} {e : Exp} {n : NodeLine} {ts : List Grown} {names : List Name} {ends : Ends e n.level ts} {p : Place} {g : CheckFault} → nested e ≤ 400 → ¬ AreLeast T e n.level n.costs → NodeWrong T n ts names e ends p g → g ≡ faults.WrongCost p.entry p.node
+cost_fault h not_least (is_deep k) = absurd (omega (arith, h, k))
+cost_fault h not_least (is_cost k no_cost) = refl
+cost_fault h not_least (is_rule k least none) = absurd (not_least least)
+
+rule_fault : {T : Table} {e : Exp} {n : NodeLine} {ts : List Grown} {names : List Name} {ends : Ends e n.level ts} {p : Place} {g : CheckFault} → nested e ≤ 400 → AreLeast T e n.level n.costs → NodeWrong T n ts names e ends p g → g ≡ faults.WrongRule p.entry p.node
+rule_fault h least (is_deep k) = absurd (omega (arith, h, k))
+rule_fault h least (is_cost k not_least) = absurd (not_least least)
+rule_fault h least (is_rule k other none) = refl
+
+too_deep_fails : {T : Table} {e : Exp} {s : ℕ} {c : Costs} {names : List Name} (ts : List Grown) (st : State) (h : Head) (l : List ℕ) (p : Place) → st.table ≡ T → StackStands T ts st.trees → Ends e s ts → IsNodeLine e s c names (l ++ 10 ∷ []) → 400 < nested e
+    → within_step h l p st ≡ Err (faults.TooDeep p.line)
+too_deep_fails {names = names} ts st h l p t stands ends is deep =
+    let so = read_so {l = l} is in
+    node_fails ts st h l p (faults.TooDeep p.line) so.said names t stands so.is so.form so.rules (ends_at so.level ends) (λ y right. let k = right.depth in omega (arith, deep, k)) (λ g wrong. deep_fault deep wrong)
+
+wrong_cost_fails : {T : Table} {e : Exp} {s : ℕ} {c : Costs} {names : List Name} (ts : List Grown) (st : State) (h : Head) (l : List ℕ) (p : Place) → st.table ≡ T → StackStands T ts st.trees → Ends e s ts → IsNodeLine e s c names (l ++ 10 ∷ []) → nested e ≤ 400 → ¬ AreLeastCosts T e s c
+    → within_step h l p st ≡ Err (faults.WrongCost p.entry p.node)
+wrong_cost_fails {T = T} {e = e} {s = s} {c = c} {names = names} ts st h l p t stands ends is depth not_least =
+    let so = read_so {l = l} is in
+    let none : ¬ AreLeast T e so.said.level so.said.costs = λ least. not_least (by_derivations T e s c (subst (AreLeast T e s) so.costs (subst (λ k. AreLeast T e k so.said.costs) so.level least))) in
+    node_fails ts st h l p (faults.WrongCost p.entry p.node) so.said names t stands so.is so.form so.rules (ends_at so.level ends) (λ y right. none right.least) (λ g wrong. cost_fault depth none wrong)
+
+wrong_rule_fails : {T : Table} {e : Exp} {s : ℕ} {c : Costs} {names : List Name} (ts : List Grown) (st : State) (h : Head) (l : List ℕ) (p : Place) → st.table ≡ T → StackStands T ts st.trees → (ends : Ends e s ts) → IsNodeLine e s c names (l ++ 10 ∷ []) → nested e ≤ 400 → AreLeastCosts T e s c
+    → ((rules : List Rule) → names ≡ map name rules → ¬ StandsBy T e s rules (all_shown ends.own ++ node e s rules ∷ [])) → within_step h l p st ≡ Err (faults.WrongRule p.entry p.node)
+wrong_rule_fails {T = T} {e = e} {s = s} {c = c} {names = names} ts st h l p t stands ends is depth least none = at (read_so {l = l} is) ends (by_choices T e s c least) none where
+  Goal : ℕ → Costs → Type 0
+  Goal k d = (ends : Ends e k ts) → AreLeast T e k d → ((rules : List Rule) → names ≡ map name rules → ¬ StandsBy T e k rules (all_shown ends.own ++ node e k rules ∷ [])) → within_step h l p st ≡ Err (faults.WrongRule p.entry p.node)
+
+  at : ReadSo l e s c names → (ends : Ends e s ts) → AreLeast T e s c → ((rules : List Rule) → names ≡ map name rules → ¬ StandsBy T e s rules (all_shown ends.own ++ node e s rules ∷ [])) → within_step h l p st ≡ Err (faults.WrongRule p.entry p.node)
+  at so =
+      subst (Goal s) so.costs (subst (λ k. Goal k so.said.costs) so.level (λ ends least none.
+      node_fails ts st h l p (faults.WrongRule p.entry p.node) so.said names t stands so.is so.form so.rules ends (λ y right. none right.rules right.names_are right.stands) (λ g wrong. rule_fault depth least wrong)))
+
+wrong_root_fails : {T : Table} {r : Root} (ts : List Grown) (st : State) (h : Head) (l : List ℕ) (p : Place) → StackStands T ts st.trees → RootOver ts r (l ++ 10 ∷ []) → ((d : RootDerives T r) → ¬ RootStands T r (all_shown ts) (l ++ 10 ∷ []) d)
+    → within_step h l p st ≡ Err (faults.WrongRule p.entry p.node)
+wrong_root_fails {T = T} {r = r} ts st h l p stands over none =
+    let said = line_over over in
+    root_so h l p st said.said (node_no_root l said.said said.is) (root_back l said.said said.small said.is)
+    ∙ ap (λ x. x >>= (λ y. Ok (record st { stage = at_code h y; trees = no_trees })))
+    (either (root_step said.said p st.trees) (faults.WrongRule p.entry p.node) (λ y k. at said (root_right ts said.said st.trees p y stands said.small k)) (λ g k. wrong said.over (root_wrong T ts said.said st.trees p g stands said.small k))) where
+      Goal : Root → Type 0
+      Goal q = (d : RootDerives T q) → ¬ RootStands T q (all_shown ts) (l ++ 10 ∷ []) d
+
+      at : (said : LineOver ts r (l ++ 10 ∷ [])) → RootRight T said.said ts → ⊥
+      at said right = subst Goal (one_root said.over right.over) none right.derivation (subst (λ t. RootStands T right.root (all_shown ts) t right.derivation) (sym said.is) right.stands)
+
+      wrong : {said : RootLine} {g : CheckFault} → IsRootOf said ts r → RootWrong said ts p g → g ≡ faults.WrongRule p.entry p.node
+      wrong over (no_derivation other) = refl
+      wrong over (no_root none) = absurd (none r over)
+
+no_form_fails : {T : Table} (ts : List Grown) (st : State) (h : Head) (l : List ℕ) (p : Place) → st.table ≡ T → StackStands T ts st.trees → ((e : Exp) (s : ℕ) (c : Costs) (names : List Name) → Ends e s ts → ¬ IsNodeLine e s c names (l ++ 10 ∷ [])) → ((r : Root) → ¬ RootOver ts r (l ++ 10 ∷ []))
+    → within_step h l p st ≡ Err (faults.Line p.line)
+no_form_fails {T = T} ts st h l p t stands no_nodes no_roots = at (node_line l) refl (root_line l) refl where
+  decision : (n : NodeLine) → node_line l ≡ Some n → NodeDecision T n ts st.trees p → node_step T n p st.trees ≡ Err (faults.Line p.line)
+  decision n i (misfit wrong none) = wrong
+  decision n i (fits {e = e} ends form) = let read = node_read l n i in absurd (no_nodes e n.level n.costs read.names ends (is_node_line form read))
+
+  fault : (said : RootLine) → (g : CheckFault) → l ++ 10 ∷ [] ≡ root_text said → RootWrong said ts p g → g ≡ faults.Line p.line
+  fault said _ text (no_derivation {r = r} over) = absurd (no_roots r (subst (RootOver ts r) (sym text) (root_over over)))
+  fault said _ text (no_root none) = refl
+
+  at : (o : Option NodeLine) → node_line l ≡ o → (r : Option RootLine) → root_line l ≡ r → within_step h l p st ≡ Err (faults.Line p.line)
+  at (Some n) i r j =
+      node_so h l p st n t i
+      ∙ ap (λ r. r >>= (λ ts. Ok (record st { stage = at_nodes h; trees = ts; nodes = st.nodes + 1 })))
+      (decision n i (node_decided n ts st.trees p (kept T ts st.trees.marks st.trees.facts st.trees.expressions st.trees.derivations stands)))
+  at None i (Some said) j =
+      let read = root_read l said j in
+      root_so h l p st said i j
+      ∙ ap (λ x. x >>= (λ y. Ok (record st { stage = at_code h y; trees = no_trees })))
+      (either (root_step said p st.trees) (faults.Line p.line) (λ y k. let right = root_right ts said st.trees p y stands read.1 k in no_roots right.root (subst (RootOver ts right.root) (sym read.0) (root_over right.over)))
+      (λ g k. fault said g read.0 (root_wrong T ts said st.trees p g stands read.1 k)))
+  at None i None j = no_line_so h l p st i j
+
+wrong_at : {js : List Judged} {text : List ℕ} {p : Place} (ts : List Grown) → StandsBehind text js (length (all_shown ts)) p → faults.WrongRule p.entry p.node ≡ faults.WrongRule (length js) (length (all_shown ts))
+wrong_at {p = p} ts place = ap (faults.WrongRule p.entry) place.node ∙ ap (λ x. faults.WrongRule x (length (all_shown ts))) place.entry
+
+pub within_fails : (text : List ℕ) (T : Table) (js : List Judged) (ts : List Grown) (st : State) (h : Head) (l m : List ℕ) (p : Place) (f : CheckFault) → StandsBehind text js (length (all_shown ts)) p → st.table ≡ T → StackStands T ts st.trees
+    → m ≡ l ++ 10 ∷ [] → LineFault text (nodes T js h ts) m f → within_step h l p st ≡ Err f
+within_fails text T js ts st h l m p f place t stands i (no_form no_nodes no_roots) =
+    no_form_fails ts st h l p t stands (λ e s c names ends is. no_nodes e s c names ends (subst (IsNodeLine e s c names) (sym i) is)) (λ r over. no_roots r (subst (RootOver ts r) (sym i) over))
+    ∙ ap (λ x. Err (faults.Line x)) place.line
+within_fails text T js ts st h l m p f place t stands i (too_deep {e = e} {s = s} {c = c} {names = names} ends is deep) =
+    too_deep_fails ts st h l p t stands ends (subst (IsNodeLine e s c names) i is) deep ∙ ap (λ x. Err (faults.TooDeep x)) place.line
+within_fails text T js ts st h l m p f place t stands i (wrong_cost {e = e} {s = s} {c = c} {names = names} ends is depth not_least) =
+    wrong_cost_fails ts st h l p t stands ends (subst (IsNodeLine e s c names) i is) depth not_least
+    ∙ ap (λ x. Err (faults.WrongCost p.entry x)) place.node ∙ ap (λ x. Err (faults.WrongCost x (length (all_shown ts)))) place.entry
+within_fails text T js ts st h l m p f place t stands i (wrong_rule {e = e} {s = s} {c = c} {names = names} ends is depth least none) =
+    wrong_rule_fails ts st h l p t stands ends (subst (IsNodeLine e s c names) i is) depth least none ∙ ap (λ x. Err x) (wrong_at ts place)
+within_fails text T js ts st h l m p f place t stands i (wrong_root {r = r} over none) =
+    wrong_root_fails ts st h l p stands (subst (RootOver ts r) i over) (λ d is. none d (subst (λ x. RootStands T r (all_shown ts) x d) (sym i) is)) ∙ ap (λ x. Err x) (wrong_at ts place)
