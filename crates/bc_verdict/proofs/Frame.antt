@@ -22,19 +22,12 @@ use Rattle.bc_verdict.specs.Entries.{IsNumber, NodeHasRoom, PieceHasRoom, pieces
 use Rattle.bc_verdict.specs.Faults.{HeadHasRoom, head_line, Grown, all_shown, Ends, StandsBy, node, grown, IsCode, judged, RootOver, RootStands, Stage, the_header, between, nodes, code, the_end, Reaches, header, entry, node_line, root_line, code_line, last_line, lines, LineFault, no_header, no_entry, behind}
 use Rattle.bc_verdict.specs.Judging.{State, counted, place_of, step_at, line_step, begun, ended, entered, within_step, code_step}
 use Rattle.bc_verdict.specs.Judging.{Stage as Kind, the_header as at_header, between as at_entries, nodes as at_nodes, code as at_code, the_end as at_end}
-use Rattle.bc_verdict.proofs.OneLine.{StackStands, rooted_by, StandsBehind, WithinTaken, a_node, a_root, next_of, Known}
 use Rattle.bc_verdict.proofs.Read.{header_read, header_back, entry_read, entry_back, end_read, end_back, end_no_entry}
 use Rattle.bc_verdict.proofs.Results.{StandsBehind, ok_same, err_same}
 use Rattle.bc_verdict.proofs.Keeping.{StackStands}
-use Rattle.bc_verdict.proofs.Node.{new_stands, depth_is, no_rules, right_rules}
-use Rattle.bc_verdict.proofs.NodeSteps.{RulesAtNodes}
 use Rattle.bc_verdict.proofs.WithinSteps.{WithinTaken, a_node, a_root, within_taken, within_fault, within_node, within_root, within_fails}
 use Rattle.bc_verdict.proofs.CodeSteps.{rooted_by, code_taken, code_fault, code_made as code_goes, code_fails}
 use Rattle.bc_verdict.proofs.Said.{shown_with, no_text}
-
--- the rules at one node
-rules_stand : RulesAtNodes
-rules_stand = record { new_stands = new_stands; depth_is = depth_is; no_rules = no_rules; right_rules = right_rules }
 
 -- what the checker keeps at each stage
 pub record AtHeader (st : State) : Type 0 where
@@ -149,7 +142,7 @@ module _ (text : List ℕ) (T : Table) (js : List Judged) (st next : State) (l :
         })
 
   within_right : (h : Head) (ts : List Grown) → Reaches text (nodes T js h ts) → Related text (nodes T js h ts) st → within_step h l (place_of (counted st)) (counted st) ≡ Ok next → Leads (text ++ (l ++ 10 ∷ [])) next
-  within_right h ts r k i = at (within_taken rules_stand T ts (counted st) next h l (place_of (counted st)) k.at.own.table k.at.trees i) where
+  within_right h ts r k i = at (within_taken T ts (counted st) next h l (place_of (counted st)) k.at.own.table k.at.trees i) where
     counts : st.lines + 1 ≡ lines (text ++ (l ++ 10 ∷ []))
     counts = ap (λ m. m + 1) k.lines ∙ sym (one_more text l u)
 
@@ -236,7 +229,7 @@ pub line_wrong : (text : List ℕ) (stage : Stage) (st : State) (l : List ℕ) (
 line_wrong text the_header st l f h k = header_wrong text st l f (sym (step_from at_header l st h.at.stage) ∙ k)
 line_wrong text (between T js) st l f h k = entry_wrong text T js st l f h (sym (step_from at_entries l st h.at.stage) ∙ k)
 line_wrong text (nodes T js e ts) st l f h k =
-    within_fault rules_stand text T js ts (counted st) e l (place_of (counted st)) f (stands text js (length (all_shown ts)) st h.lines h.at.own.entries h.at.nodes) h.at.own.table h.at.trees (sym (step_from (at_nodes e) l st h.at.own.stage) ∙ k)
+    within_fault text T js ts (counted st) e l (place_of (counted st)) f (stands text js (length (all_shown ts)) st h.lines h.at.own.entries h.at.nodes) h.at.own.table h.at.trees (sym (step_from (at_nodes e) l st h.at.own.stage) ∙ k)
 line_wrong text (code T js e x d) st l f h k =
     code_fault text js st.nodes (counted st) d e l (place_of (counted st)) f (stands text js st.nodes st h.lines h.at.entries refl) h.at.table (sym (step_from (at_code e (rooted_by d)) l st h.at.stage) ∙ k)
 line_wrong text (the_end T js) st l f h k =
@@ -281,7 +274,7 @@ line_fails text the_header st l m f h is k = step_from at_header l st h.at.stage
 line_fails text (between T js) st l m f h is k = step_from at_entries l st h.at.stage ∙ entry_fails text T js st l m f h is k
 line_fails text (nodes T js e ts) st l m f h is k =
     step_from (at_nodes e) l st h.at.own.stage
-    ∙ within_fails rules_stand text T js ts (counted st) e l m (place_of (counted st)) f (stands text js (length (all_shown ts)) st h.lines h.at.own.entries h.at.nodes) h.at.own.table h.at.trees is k
+    ∙ within_fails text T js ts (counted st) e l m (place_of (counted st)) f (stands text js (length (all_shown ts)) st h.lines h.at.own.entries h.at.nodes) h.at.own.table h.at.trees is k
 line_fails text (code T js e x d) st l m f h is k =
     step_from (at_code e (rooted_by d)) l st h.at.stage
     ∙ code_fails text js st.nodes (counted st) d e l m (place_of (counted st)) f (stands text js st.nodes st h.lines h.at.entries refl) h.at.table is k
@@ -313,7 +306,7 @@ module _ (text : List ℕ) (T : Table) (js : List Judged) (st : State) (l m : Li
       → Related text (nodes T js h ts) st → Made (text ++ m) (nodes T js h (ends.before ++ grown e s rules ends.own ∷ [])) (line_step l st)
   node_made h ts e s rules ends room stand i k =
       let all : all_shown ts ++ node e s rules ∷ [] ≡ all_shown (ends.before ++ grown e s rules ends.own ∷ []) = sym (shown_with e s rules ts ends) in
-      let x = within_node rules_stand T ts (counted st) h l (place_of (counted st)) e s rules k.at.own.table k.at.trees ends room stand (sym is ∙ i) in
+      let x = within_node T ts (counted st) h l (place_of (counted st)) e s rules k.at.own.table k.at.trees ends room stand (sym is ∙ i) in
       record {
         next = record (counted st) { stage = at_nodes h; trees = x.0; nodes = st.nodes + 1 };
         is = step_from (at_nodes h) l st k.at.own.stage ∙ x.1.1;
