@@ -1,8 +1,8 @@
 -- What a code line comes to, against what it may say.
-use Rattle.std.proofs.Common.{◌≡◌, ℕ, ◌+◌, ◌==◌, ◌≤◌, Bool, true, false, cond, List, [], ◌∷◌, ◌++◌, length, Option, Some, None, Result, Ok, Err, refl, ap, sym, subst, ◌∙◌}
+use Rattle.std.proofs.Common.{◌≡◌, ℕ, ◌+◌, ◌==◌, Bool, true, false, cond, List, [], ◌∷◌, ◌++◌, length, Option, Some, None, Result, Ok, Err, refl, ap, sym, subst, ◌∙◌}
 use Rattle.std.specs.Prelude.{◌&&◌, nat_eq, nat_le}
 use Rattle.std.specs.List.{AllZip, AllByRecursion}
-use Rattle.std.proofs.lemmas.Bool.{eqb-true, and_parts}
+use Rattle.std.proofs.lemmas.Bool.{eqb-true}
 use Rattle.bc_against.proofs.Items.{same as same_items}
 use Rattle.bc_certificate.specs.declared.check_fault.CheckFault.{CheckFault}
 use Rattle.bc_certificate.specs.declared.check_fault.CheckFault.TheVariants as faults
@@ -20,7 +20,7 @@ use Rattle.bc_derive.specs.declared.piece.Piece.{Piece}
 use Rattle.bc_derive.specs.declared.piece.Piece.TheVariants as pieces
 use Rattle.bc_derive.specs.declared.rule.Table.{Table}
 use Rattle.bc_derive.specs.Rules.{RootDerives, root_shape}
-use Rattle.bc_derive.specs.ByShape.{root_code_by, root_labels_by}
+use Rattle.bc_derive.specs.ByShape.{root_code_by}
 use Rattle.bc_derive.specs.Code.{root_code, root_labels, root_cost}
 use Rattle.bc_derive.specs.Piece.{words}
 use Rattle.bc_derive.proofs.ByShape.{root_labels_same, root_code_same}
@@ -32,10 +32,10 @@ use Rattle.bc_lines.specs.Lines.{code_of_line}
 use Rattle.bc_stack.specs.declared.place.Place.{Place}
 use Rattle.bc_stack.specs.Stacks.{◌>>=◌, with_whole, Rooted}
 use Rattle.bc_verdict.specs.Entries.{PieceHasRoom, pieces_line, SamePiece}
-use Rattle.bc_verdict.specs.Faults.{Stage, code, judged, IsCode, LineFault, no_pieces, wrong_code, wrong_words}
-use Rattle.bc_verdict.specs.Judging.{State, between, same_item, same_piece, same_code, judged_with, code_against, against_right, right_of, code_fits, code_step}
+use Rattle.bc_verdict.specs.Faults.{code, judged, IsCode, LineFault, no_pieces, wrong_code, wrong_words}
+use Rattle.bc_verdict.specs.Judging.{State, between, same_item, same_piece, same_code, judged_with, against_right, right_of, code_fits, code_step}
 use Rattle.bc_verdict.proofs.Read.{code_read, code_back}
-use Rattle.bc_verdict.proofs.Results.{StandsBehind, ok_same, err_same, both_true, equal_true, equal_false, not_equal, at_most_true, at_most, not_at_most, at_most_false}
+use Rattle.bc_verdict.proofs.Results.{StandsBehind, ok_same, err_same, both_true, equal_true, equal_false, not_equal, at_most_true, at_most, not_at_most}
 
 -- what the checker keeps of a root, by its derivation
 abbrev pub rooted_by : {T : Table} {r : Root} → RootDerives T r → Rooted

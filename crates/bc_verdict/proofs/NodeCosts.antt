@@ -1,6 +1,5 @@
 -- The numbers of a node line are the least words just where the test says so.
-use Rattle.std.proofs.Common.{◌≡◌, ℕ, ◌+◌, ◌==◌, ◌≤◌, Bool, true, false, map, List, [], ◌∷◌, ◌++◌, Option, Some, None, IfSome, refl, ap, sym, subst, ◌∙◌, arith}
-use Rattle.std.specs.Prelude.{◌&&◌}
+use Rattle.std.proofs.Common.{◌≡◌, ℕ, ◌+◌, true, false, List, [], ◌∷◌, ◌++◌, Option, Some, None, refl, ap, sym, subst, ◌∙◌, arith}
 use Rattle.std.proofs.lemmas.Bool.{eqb-true, and_parts}
 use Rattle.bc_core.specs.Tree.{Exp, Num, Frame, Glob, Place, Load, Neg, Not, Bin, Cond, Call, Valof, Args, no_argument, argument, count}
 use Rattle.bc_derive.specs.declared.rule.Table.{Table}
@@ -8,7 +7,6 @@ use Rattle.bc_derive.specs.declared.rule.Mode.TheVariants.{Any, Push}
 use Rattle.bc_derive.specs.declared.rule.Aim.{Aim}
 use Rattle.bc_derive.specs.declared.rule.Aim.TheVariants.{Gets, Jumps}
 use Rattle.bc_derive.specs.Rules.{Derives, Tree}
-use Rattle.bc_derive.specs.Code.{cost}
 use Rattle.bc_least.specs.Least.{AreLeastWords}
 use Rattle.bc_least.specs.Choices.{choices, words_for}
 use Rattle.bc_least.specs.Chosen.{some_value, some_test}
@@ -16,7 +14,7 @@ use Rattle.bc_least.proofs.Words.{choices_are_least}
 use Rattle.bc_recipe.specs.declared.costs.Costs.{Costs}
 use Rattle.bc_recipe.specs.declared.facts.Facts.{Facts}
 use Rattle.bc_recipe.specs.Costs.{cost_of, same_words, are_costs}
-use Rattle.bc_recipe.specs.Node.{least_words_of, least_any, least_push, least_on}
+use Rattle.bc_recipe.specs.Node.{least_words_of}
 use Rattle.bc_recipe.specs.Parts.{AreLeast, IsPart, AreCallParts, AreParts, node_over}
 use Rattle.bc_recipe.specs.Recipe.{words_of_operand_of}
 use Rattle.bc_recipe.proofs.Least.{least_is}

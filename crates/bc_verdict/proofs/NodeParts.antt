@@ -1,5 +1,5 @@
 -- The last trees are the parts of an expression, just where the tests of levels, of their number and of the whole say so.
-use Rattle.std.proofs.Common.{◌≡◌, ℕ, zero, suc, ◌+◌, ◌-◌, ◌==◌, ◌≤◌, Bool, true, false, cond, map, List, [], ◌∷◌, ◌++◌, length, Option, Some, None, refl, ap, sym, subst, ◌∙◌, arith, add-zero}
+use Rattle.std.proofs.Common.{◌≡◌, ℕ, zero, suc, ◌+◌, ◌==◌, Bool, true, false, cond, map, List, [], ◌∷◌, ◌++◌, length, Option, Some, None, refl, ap, sym, subst, ◌∙◌, arith, add-zero}
 use Rattle.std.proofs.lemmas.Bool.{eqb-true}
 use Rattle.bc_core.specs.Tree.{Exp, Num, Frame, Glob, Place, Load, Neg, Not, Bin, Cond, Call, Valof, Args, no_argument, argument, count}
 use Rattle.bc_word.specs.declared.operator.Op.{Op}
@@ -9,12 +9,12 @@ use Rattle.bc_recipe.specs.declared.facts.Facts.{Facts}
 use Rattle.bc_recipe.specs.declared.form.Form.{Form}
 use Rattle.bc_recipe.specs.declared.form.Form.TheVariants as forms
 use Rattle.bc_recipe.specs.Form.{parts_of}
-use Rattle.bc_recipe.specs.Parts.{IsPart, AreCallParts, AreParts, form_of}
+use Rattle.bc_recipe.specs.Parts.{form_of}
 use Rattle.bc_entries.specs.Lines.{form_field}
 use Rattle.bc_stack.specs.declared.mark.Mark.{Mark}
-use Rattle.bc_stack.specs.Marks.{first_level, levels_from, levels_fit}
+use Rattle.bc_stack.specs.Marks.{first_level, levels_from}
 use Rattle.bc_stack.specs.Wholes.{leaf, one_of, with_one, two_of, three_of, with_argument, called_of, whole}
-use Rattle.bc_verdict.specs.Entries.{IsSmall, HasSmallNumber}
+use Rattle.bc_verdict.specs.Entries.{HasSmallNumber}
 use Rattle.bc_verdict.specs.Faults.{Grown, all_parts, parts}
 use Rattle.bc_verdict.specs.Standing.{form_text, FormIsSmall}
 use Rattle.bc_verdict.proofs.Results.{some_same, equal_true}

@@ -1,6 +1,6 @@
 -- What a node line comes to over trees that stand, against what it may say.
-use Rattle.std.proofs.Common.{◌≡◌, ℕ, zero, suc, ◌+◌, ◌-◌, ◌==◌, ◌≤◌, ◌<◌, Bool, true, false, cond, map, List, [], ◌∷◌, ◌++◌, length, take, drop, Option, Some, None, Result, Ok, Err, refl, ap, sym, subst, ◌∙◌, arith}
-use Rattle.std.specs.Prelude.{◌&&◌, nat_lt, nat_le}
+use Rattle.std.proofs.Common.{◌≡◌, ℕ, ◌+◌, ◌-◌, ◌≤◌, ◌<◌, Bool, true, false, cond, map, List, [], ◌∷◌, ◌++◌, length, take, drop, Some, Result, Ok, Err, refl, ap, sym, subst, ◌∙◌, arith}
+use Rattle.std.specs.Prelude.{nat_lt, nat_le}
 use Rattle.std.proofs.lemmas.List.{length-map, length-append, length-drop, take-append-drop}
 use Rattle.std.proofs.Math.Seq.{take-append_seam, drop-append_seam}
 use Rattle.bc_certificate.specs.declared.check_fault.CheckFault.{CheckFault}
@@ -8,29 +8,25 @@ use Rattle.bc_certificate.specs.declared.check_fault.CheckFault.TheVariants as f
 use Rattle.bc_core.specs.Tree.{Exp}
 use Rattle.bc_derive.specs.declared.rule.Table.{Table}
 use Rattle.bc_derive.specs.declared.rule.Rule.{Rule}
-use Rattle.bc_derive.specs.Rules.{Tree}
 use Rattle.bc_recipe.specs.declared.facts.Facts.{Facts}
-use Rattle.bc_recipe.specs.declared.form.Form.{Form}
 use Rattle.bc_recipe.specs.Costs.{are_costs}
 use Rattle.bc_recipe.specs.Form.{parts_of}
 use Rattle.bc_recipe.specs.Node.{least_words_of}
 use Rattle.bc_recipe.specs.Parts.{AreLeast}
 use Rattle.bc_lines.specs.declared.lines.NodeLine.{NodeLine}
 use Rattle.bc_lines.specs.declared.chain.Rules.{Rules}
-use Rattle.bc_lines.specs.declared.chain.Rules.TheVariants.{Taken, Named, Wrong}
 use Rattle.bc_stack.specs.declared.mark.Mark.{Mark}
 use Rattle.bc_stack.specs.declared.mark.Shown.{Shown}
 use Rattle.bc_stack.specs.declared.place.Place.{Place}
-use Rattle.bc_stack.specs.Derived.{derived}
 use Rattle.bc_stack.specs.Marks.{levels_fit, depth_over}
-use Rattle.bc_stack.specs.Showing.{shown_for, shown_with, judged}
-use Rattle.bc_stack.specs.Stacks.{◌>>=◌, Stack, second_zero, line_node, new_mark, new_facts, with_whole, fitting, without_expressions, put_over, node_judged_over, node_whole, node_from, node_step}
+use Rattle.bc_stack.specs.Showing.{shown_for, shown_with}
+use Rattle.bc_stack.specs.Stacks.{◌>>=◌, Stack, line_node, with_whole, without_expressions, put_over, node_judged_over, node_whole, node_from, node_step}
 use Rattle.bc_stack.specs.Wholes.{whole}
 use Rattle.bc_verdict.specs.Entries.{nested}
 use Rattle.bc_verdict.specs.Faults.{Grown, all_shown, parts, Ends, Name, name, StandsBy, node, grown}
-use Rattle.bc_verdict.specs.Standing.{AreNamed, no_name, named, wrong, chain_rules, Stands, AllStand, IsOver, ShowsRules, no_rule, by_chain}
+use Rattle.bc_verdict.specs.Standing.{AreNamed, no_name, named, wrong, chain_rules, IsOver, ShowsRules, no_rule, by_chain}
 use Rattle.bc_verdict.proofs.Node.{depth_is, new_stands, no_rules, right_rules}
-use Rattle.bc_verdict.proofs.Results.{some_same, ok_same, err_same, at_most_true, at_most, not_at_most, at_most_false}
+use Rattle.bc_verdict.proofs.Results.{ok_same, err_same, at_most_true, at_most, not_at_most}
 use Rattle.bc_verdict.proofs.Keeping.{StackStands, Kept, all_stand, kept_front, kept_behind, kept_more, kept_lengths}
 use Rattle.bc_verdict.proofs.NodeParts.{placed, expressions, levels_right, expressions_are, levels_are, own_form, right_levels, right_whole, right_length, parts_right, whole_form, whole_made}
 use Rattle.bc_verdict.proofs.NodeCosts.{own_parts, costs_are_least, least_are_costs}

@@ -1,5 +1,5 @@
 -- What comes of steps one after another, and tests as what they say.
-use Rattle.std.proofs.Common.{◌≡◌, ℕ, ◌==◌, ◌≤◌, Bool, true, false, cond, List, ◌++◌, length, Option, Some, None, Result, Ok, Err, refl, ap, arith}
+use Rattle.std.proofs.Common.{◌≡◌, ℕ, ◌==◌, ◌≤◌, Bool, true, false, cond, List, length, Option, Some, None, Result, Ok, Err, refl, ap, arith}
 use Rattle.std.specs.Prelude.{◌+◌, ◌&&◌, nat_le}
 use Rattle.bc_certificate.specs.declared.check_fault.CheckFault.{CheckFault}
 use Rattle.bc_certificate.specs.Verdict.{Judged}

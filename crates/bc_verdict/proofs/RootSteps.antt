@@ -1,6 +1,6 @@
 -- What a root line comes to, against what it may say.
-use Rattle.std.proofs.Common.{◌≡◌, ℕ, zero, suc, ◌+◌, ◌*◌, ◌==◌, ◌≤◌, ◌<◌, Bool, true, false, cond, map, List, [], ◌∷◌, ◌++◌, length, flat_map, Option, Some, None, Result, Ok, Err, refl, ap, sym, subst, ◌∙◌, append-nil, arith, IsTrue}
-use Rattle.std.specs.Prelude.{◌&&◌, is_some}
+use Rattle.std.proofs.Common.{◌≡◌, ℕ, ◌+◌, ◌*◌, ◌==◌, ◌≤◌, ◌<◌, Bool, true, false, cond, List, [], ◌∷◌, ◌++◌, length, Option, Some, None, Result, Ok, Err, refl, ap, sym, subst, ◌∙◌, append-nil, arith, IsTrue}
+use Rattle.std.specs.Prelude.{◌&&◌}
 use Rattle.std.specs.Fmt.{decimal}
 use Rattle.std.proofs.lemmas.Bool.{eqb-true, and_parts}
 use Rattle.std.proofs.lemmas.List.{length-map}
@@ -9,9 +9,8 @@ use Rattle.bc_certificate.specs.declared.check_fault.CheckFault.{CheckFault}
 use Rattle.bc_certificate.specs.declared.check_fault.CheckFault.TheVariants as faults
 use Rattle.bc_core.specs.declared.operands.Operand.{Operand}
 use Rattle.bc_core.specs.Tree.{Exp, Root, Value, Test, Assign}
-use Rattle.bc_core.specs.Operand.{operand_of, is_operand}
+use Rattle.bc_core.specs.Operand.{operand_of}
 use Rattle.bc_core.specs.Level.{side_level}
-use Rattle.bc_core.specs.Value.{has_call}
 use Rattle.bc_derive.specs.declared.rule.Table.{Table}
 use Rattle.bc_derive.specs.declared.rule.Mode.TheVariants.{Any}
 use Rattle.bc_derive.specs.declared.rule.Aim.{Aim}
@@ -23,7 +22,6 @@ use Rattle.bc_derive.specs.Rules.{Derives, RootDerives, value, test, a1, a2, a3,
 use Rattle.bc_derive.specs.Code.{cost, root_cost}
 use Rattle.bc_derive.specs.Piece.{w, operand_words}
 use Rattle.bc_least.specs.Least.{AreLeastWords}
-use Rattle.bc_least.specs.Nodes.{in_order}
 use Rattle.bc_least.specs.Choices.{choices, words_for}
 use Rattle.bc_least.proofs.Words.{choices_are_least}
 use Rattle.bc_recipe.specs.declared.costs.Costs.{Costs}
@@ -31,21 +29,20 @@ use Rattle.bc_recipe.specs.declared.facts.Facts.{Facts}
 use Rattle.bc_recipe.specs.Costs.{cost_of}
 use Rattle.bc_recipe.specs.Parts.{AreLeast, IsPart}
 use Rattle.bc_recipe.specs.Recipe.{words_of_operand, free}
-use Rattle.bc_entries.specs.Shown.{Shown, shown, bare, root_shown}
-use Rattle.bc_entries.specs.Lines.{line, sense_field, rule_name, root_line as line_of_root}
+use Rattle.bc_entries.specs.Shown.{Shown, shown, bare}
+use Rattle.bc_entries.specs.Lines.{line}
 use Rattle.bc_entries.proofs.Texts.{nodes_in_order}
 use Rattle.bc_lines.specs.declared.lines.RootLine.{RootLine}
 use Rattle.bc_lines.specs.declared.lines.RootLine.TheVariants as lines
-use Rattle.bc_lines.specs.Lines.{root_line}
 use Rattle.bc_stack.specs.declared.mark.Mark.{Mark}
 use Rattle.bc_stack.specs.declared.place.Place.{Place}
 use Rattle.bc_stack.specs.Marks.{has_aim}
 use Rattle.bc_stack.specs.Sides.{words_at, words_by, least_of, same}
 use Rattle.bc_stack.specs.Stacks.{◌>>=◌, Stack, with_whole, One, one_among, one_tree, two_among, two_trees, Rooted, wrong_rule, value_root, test_root, words_on, side, sides_show, assigned, with_least, assign_root, root_step}
 use Rattle.bc_verdict.specs.Entries.{IsLevel}
-use Rattle.bc_verdict.specs.Faults.{Grown, all_shown, IsAssignment, first, second, third, RootOver, value as over_value, test as over_test, assign as over_assign, RootStands}
-use Rattle.bc_verdict.specs.Standing.{root_text, RootLineIsSmall, IsFewest, Shows, Stands, AllStand}
-use Rattle.bc_verdict.proofs.Results.{some_same, ok_same, err_same, passed, both_true, equal_true, equal_false}
+use Rattle.bc_verdict.specs.Faults.{Grown, all_shown, IsAssignment, first, second, third, RootStands}
+use Rattle.bc_verdict.specs.Standing.{root_text, RootLineIsSmall, IsFewest, Stands}
+use Rattle.bc_verdict.proofs.Results.{some_same, err_same, passed, both_true, equal_true}
 use Rattle.bc_verdict.proofs.Sides.{sides_least, least_is_cost, cost_is_least, side_is, level_of_operand, level_of_none, words_are, free_is}
 use Rattle.bc_verdict.proofs.CodeSteps.{rooted_by}
 use Rattle.bc_verdict.proofs.Keeping.{StackStands, Kept, nothing, further, kept}

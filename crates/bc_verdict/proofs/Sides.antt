@@ -1,5 +1,5 @@
 -- The least words of an assignment, from what is kept of its sides.
-use Rattle.std.proofs.Common.{◌≡◌, ℕ, ◌+◌, ◌*◌, ◌≤◌, Bool, true, false, cond, Option, Some, None, List, [], ◌∷◌, refl, ap, sym, subst, ◌∙◌, IsTrue, arith}
+use Rattle.std.proofs.Common.{◌≡◌, ℕ, ◌+◌, ◌*◌, ◌≤◌, Bool, true, false, cond, Option, Some, None, [], ◌∷◌, refl, ap, sym, ◌∙◌, arith}
 use Rattle.std.specs.Prelude.{is_some}
 use Rattle.bc_core.specs.declared.operands.Operand.{Operand}
 use Rattle.bc_core.specs.Tree.{Exp, Root, Assign}
@@ -17,7 +17,7 @@ use Rattle.bc_derive.specs.Code.{root_cost}
 use Rattle.bc_derive.specs.Piece.{w, operand_words}
 use Rattle.bc_least.specs.Options.{plus, sum, given, words_of, candidate, better, least_from}
 use Rattle.bc_least.specs.Choices.{choices, words_for, node_of, free as free_nodes}
-use Rattle.bc_least.specs.Chosen.{assign_choice, root_choice, chosen, chosen_words, chosen_is_least}
+use Rattle.bc_least.specs.Chosen.{assign_choice, chosen, chosen_words, chosen_is_least}
 use Rattle.bc_recipe.specs.declared.costs.Costs.{Costs}
 use Rattle.bc_recipe.specs.declared.facts.Facts.{Facts}
 use Rattle.bc_recipe.specs.Node.{lesser}
@@ -26,7 +26,6 @@ use Rattle.bc_recipe.specs.Recipe.{facts_of, words_of_operand, free}
 use Rattle.bc_recipe.proofs.Minima.{better_words}
 use Rattle.bc_stack.specs.Sides.{words_at, words_by, least_of}
 use Rattle.bc_stack.specs.Stacks.{side}
-use Rattle.bc_verdict.proofs.Results.{some_same}
 
 abbrev least_at : Option ℕ → ℕ → Facts → Facts → Option ℕ
 least_at o s v a = lesser (words_at o s v a A1) (lesser (words_at o s v a A2) (words_at o s v a A3))

@@ -1,7 +1,6 @@
 -- What a line within an entry comes to, node line or root line, against what it may say.
-use Rattle.std.proofs.Common.{◌≡◌, ℕ, ◌+◌, ◌≤◌, ◌<◌, Bool, true, false, map, List, [], ◌∷◌, ◌++◌, length, Option, Some, None, IfSome, Result, Ok, Err, refl, ap, sym, subst, ◌∙◌, arith}
+use Rattle.std.proofs.Common.{◌≡◌, ℕ, ◌+◌, ◌≤◌, ◌<◌, true, false, map, List, [], ◌∷◌, ◌++◌, length, Option, Some, None, IfSome, Result, Ok, Err, refl, ap, sym, subst, ◌∙◌, arith}
 use Rattle.std.specs.Fmt.{decimal}
-use Rattle.std.specs.List.{AllByRecursion}
 use Rattle.bc_certificate.specs.declared.check_fault.CheckFault.{CheckFault}
 use Rattle.bc_certificate.specs.declared.check_fault.CheckFault.TheVariants as faults
 use Rattle.bc_certificate.specs.Verdict.{Judged}
@@ -15,7 +14,7 @@ use Rattle.bc_derive.specs.Rules.{RootDerives}
 use Rattle.bc_recipe.specs.declared.costs.Costs.{Costs}
 use Rattle.bc_recipe.specs.Costs.{cost_of}
 use Rattle.bc_recipe.specs.Parts.{AreLeast}
-use Rattle.bc_entries.specs.Lines.{line, words_field, least_words, rules_field, form_field, node_line as line_of_node}
+use Rattle.bc_entries.specs.Lines.{line, words_field, form_field, node_line as line_of_node}
 use Rattle.bc_lines.specs.declared.lines.Head.{Head}
 use Rattle.bc_lines.specs.declared.lines.NodeLine.{NodeLine}
 use Rattle.bc_lines.specs.declared.lines.RootLine.{RootLine}
@@ -27,14 +26,14 @@ use Rattle.bc_verdict.specs.Entries.{IsNumber, nested, NodeHasRoom}
 use Rattle.bc_verdict.specs.Faults.{Grown, all_shown, Ends, Name, name, names_field, CostsHaveRoom, IsNodeLine, AreLeastCosts, StandsBy, RootOver, value, test, assign, RootStands, node, grown, nodes, LineFault, no_form, too_deep, wrong_cost, wrong_rule, wrong_root}
 use Rattle.bc_verdict.specs.Judging.{State, nodes as at_nodes, code as at_code, rooted, noded, within_step}
 use Rattle.bc_verdict.specs.Standing.{AreNamed, form_text, root_text, RootLineIsSmall, FormIsSmall}
-use Rattle.bc_verdict.proofs.Read.{NodeRead, node_read, NodeBack, node_back, root_read, root_back, node_no_root, rules_are_names, rules_field_is}
+use Rattle.bc_verdict.proofs.Read.{NodeRead, node_read, node_back, root_read, root_back, node_no_root, rules_are_names, rules_field_is}
 use Rattle.bc_verdict.proofs.Results.{StandsBehind, bound, some_same, ok_same, err_same}
 use Rattle.bc_verdict.proofs.CodeSteps.{rooted_by}
 use Rattle.bc_verdict.proofs.Keeping.{StackStands, kept}
 use Rattle.bc_verdict.proofs.RootSteps.{IsRootOf, of_value, of_test, of_assignment, RootRight, RootWrong, no_derivation, no_root, root_made, root_right, root_wrong}
 use Rattle.bc_verdict.proofs.NodeParts.{own_form, form_text_is, small_form, small_number}
 use Rattle.bc_verdict.proofs.NodeCosts.{by_derivations, by_choices, least_costs}
-use Rattle.bc_verdict.proofs.NodeSteps.{NodeFits, fits_of_ends, NodeDecision, fits, misfit, node_decided, NodeRight, NodeWrong, is_deep, is_cost, is_rule, node_right, node_wrong, NodeMade, node_made}
+use Rattle.bc_verdict.proofs.NodeSteps.{fits_of_ends, NodeDecision, fits, misfit, node_decided, NodeRight, NodeWrong, is_deep, is_cost, is_rule, node_right, node_wrong, node_made}
 
 -- what a line within an entry was, and what comes behind it
 pub data WithinTaken (T : Table) (ts : List Grown) (h : Head) (l : List ℕ) (st after : State) : Type 0 where
@@ -125,7 +124,7 @@ record ReadSo (l : List ℕ) (e : Exp) (s : ℕ) (c : Costs) (names : List Name)
 read_so : {l : List ℕ} {e : Exp} {s : ℕ} {c : Costs} {names : List Name} → IsNodeLine e s c names (l ++ 10 ∷ []) → ReadSo l e s c names
 read_so {l = l} {e = e} {s = s} {c = c} {names = names} h =
     let back = node_back l s (own_form e) c names h.level (small_form e h.number) h.costs h.all_names
-        (h.is ∙ ap (λ t. line (decimal s) (t ∷ decimal c.any ∷ words_field c.push ∷ decimal c.on_false ∷ decimal c.on_true ∷ names_field names ∷ [])) (sym (form_text_is e))) in
+    (h.is ∙ ap (λ t. line (decimal s) (t ∷ decimal c.any ∷ words_field c.push ∷ decimal c.on_false ∷ decimal c.on_true ∷ names_field names ∷ [])) (sym (form_text_is e))) in
     record { said = back.node; is = back.is; level = back.level; form = back.form; costs = back.costs; rules = back.rules }
 
 ends_at : {e : Exp} {s k : ℕ} {ts : List Grown} → k ≡ s → Ends e s ts → Ends e k ts
