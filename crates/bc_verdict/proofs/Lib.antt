@@ -26,3 +26,13 @@ mod NodeParts
 mod NodeCosts
 mod NodeSteps
 mod WithinSteps
+mod Fewest
+mod Growth
+mod Listing
+mod Said
+mod Rooms
+mod Accepted
+mod Longer
+mod Frame
+pub mod Whole
+mod Answers

@@ -1,5 +1,7 @@
 pub mod Judging
 pub mod Entries
 pub mod Faults
+pub mod Laws
 pub mod Standing
 pub mod Examples
+pub mod Sample
