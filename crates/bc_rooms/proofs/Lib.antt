@@ -1,1 +1,2 @@
 mod Depth
+mod Commands
