@@ -1,2 +1,3 @@
 mod Depth
 mod Commands
+mod Things
