@@ -8,7 +8,7 @@ use Rattle.bc_core.specs.Level.{level_in_for}
 use Rattle.bc_scoping.specs.Scope.{Env, Numbers, behind_labels}
 use Rattle.bc_scoping.specs.Numbering.{behind, behind_all, behind_declarations, behind_declaration, behind_definition, behind_command, behind_block, labels_of, labels_in}
 use Rattle.bc_scoping.specs.Scoping.{before_let, in_let, in_declaration, in_declarations, cells_in, level_behind, in_for, in_list}
-use Rattle.bc_scoping.specs.Translation.{Forms, forms, core_arguments, forms_of_all, assignments, assignment, initials, core_definition, core_definitions, core_declarations, core_labels, core_block, core_items, core_command}
+use Rattle.bc_scoping.specs.Translation.{Forms, forms, forms_of_all, assignments, assignment, initials, core_definition, core_definitions, core_declarations, core_labels, core_block, core_items, core_command}
 use Rattle.bc_verdict.specs.Entries.{nested}
 use Rattle.bc_rooms.proofs.Depth.{AreNested, forms_nested, arguments_nested}
 
@@ -119,9 +119,10 @@ declarations_low E at s (tree.declaration (tree.Constants k es) ds) h =
     let d : tree.Declaration = tree.Constants k es in
     declarations_low (in_declaration E at s d) (behind_declaration at d) (s + cells_in E d) ds (omega arith)
 declarations_low E at s (tree.declaration (tree.Let defs) ds) h =
-    let d : tree.Declaration = tree.Let defs in
-    (definitions_low (in_let E at s defs) (before_let defs E) at defs (omega arith),
-    declarations_low (in_declaration E at s d) (behind_declaration at d) (s + cells_in E d) ds (omega arith))
+    let d : tree.Declaration = tree.Let defs in (
+      definitions_low (in_let E at s defs) (before_let defs E) at defs (omega arith),
+      declarations_low (in_declaration E at s d) (behind_declaration at d) (s + cells_in E d) ds (omega arith),
+    )
 
 -- Commands
 
@@ -135,9 +136,10 @@ mutual
   pub block_low : (E : Env) (at : Numbers) (b : tree.Block) (s : ℕ) → block_height b ≤ 200 → BlockLow (core_block E at b s)
   block_low E at (tree.block ds is) s h =
       let at1 = behind_declarations at ds in
-      let k = at1.label in
-      (declarations_low E at s ds (omega arith),
-      items_low (in_list k is (in_declarations E at s ds)) k (behind_labels at1 (labels_in is)) is (level_behind E at s ds) (omega arith))
+      let k = at1.label in (
+        declarations_low E at s ds (omega arith),
+        items_low (in_list k is (in_declarations E at s ds)) k (behind_labels at1 (labels_in is)) is (level_behind E at s ds) (omega arith),
+      )
 
   items_low : (E : Env) (k : ℕ) (at : Numbers) (is : tree.Items) (s : ℕ) → items_height is ≤ 200 → ItemsLow (core_items E k at is s)
   items_low E k at tree.no_items s h = tt

@@ -1,3 +1,4 @@
 mod Depth
 mod Commands
 mod Things
+pub mod Shallow

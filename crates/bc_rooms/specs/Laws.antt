@@ -1,8 +1,7 @@
 -- The roots of a section without fault have room in the lines of a certificate.
-use Rattle.std.specs.Prelude.{◌≡◌, ℕ, ◌+◌, ◌≤◌, List, None}
+use Rattle.std.specs.Prelude.{◌≡◌, ◌≤◌, None}
 use Rattle.std.specs.List.{AllByRecursion}
-use Rattle.bc_core.specs.Tree.{Exp, Root, Value, Test, Assign}
-use Rattle.bc_core.specs.Commands.{Core}
+use Rattle.bc_core.specs.Tree.{Root, Value, Test, Assign}
 use Rattle.bc_least.specs.Nodes.{root_in_order}
 use Rattle.bc_tree.specs.Tree.{Declarations}
 use Rattle.bc_tree.specs.Height.{declarations_height}
@@ -20,7 +19,7 @@ IsShallow (Assign s v a) = (nested v ≤ 400) × (nested a ≤ 400)
 
 -- a section that nests at most 200 deep, as each one that is parsed, has no root with more
 abbrev pub RootsAreShallow : Type 0
-RootsAreShallow = (coding : Coding) (ds : Declarations) → declarations_height ds ≤ 200 → section_fault ds ≡ None → AllByRecursion IsShallow (section_roots coding (core_of ds))
+RootsAreShallow = (coding : Coding) (ds : Declarations) → declarations_height ds ≤ 200 → AllByRecursion IsShallow (section_roots coding (core_of ds))
 
 -- each node of a root stands at a level of at most 32,768
 abbrev pub HasLevels : Root → Type 0
