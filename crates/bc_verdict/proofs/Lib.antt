@@ -36,3 +36,4 @@ mod Longer
 mod Frame
 pub mod Whole
 mod Answers
+mod Least

@@ -1,17 +1,20 @@
 -- What holds of the certificates that are accepted, and of the first faults of other bytes.
 use Rattle.std.specs.Prelude.{◌≡◌, ℕ, ◌+◌, ◌≤◌, ◌⊎◌, ◌↔◌, List, [], ◌∷◌, ◌++◌, map, length, Ok, Err}
-use Rattle.std.specs.List.{AllByRecursion}
+use Rattle.std.specs.List.{AllByRecursion, AllZip}
 use Rattle.bc_derive.specs.declared.piece.Piece.{Piece}
 use Rattle.bc_derive.specs.declared.piece.Piece.TheVariants.{Item, Body}
+use Rattle.bc_derive.specs.declared.rule.Table.{Table}
 use Rattle.bc_derive.specs.declared.rule.Table.TheVariants.{Two}
+use Rattle.bc_derive.specs.Entry.{Entry}
 use Rattle.bc_derive.specs.Rules.{RootDerives}
 use Rattle.bc_derive.specs.Code.{root_code, root_labels, root_cost}
 use Rattle.bc_certificate.specs.declared.check_fault.CheckFault.{CheckFault}
 use Rattle.bc_certificate.specs.declared.check_fault.CheckFault.TheVariants.{Header, Truncated}
 use Rattle.bc_certificate.specs.Verdict.{Judged, Verdict}
 use Rattle.bc_entries.specs.Shown.{root_shown}
-use Rattle.bc_entries.specs.Certificate.{Derived, certificate}
-use Rattle.bc_verdict.specs.Entries.{IsNumber, IsSmall, NodeHasRoom, RootHasRoom, Says}
+use Rattle.bc_rules.specs.Derivation.{IsDerivation}
+use Rattle.bc_entries.specs.Certificate.{Derived, entry_of, certificate}
+use Rattle.bc_verdict.specs.Entries.{IsNumber, IsSmall, NodeHasRoom, RootHasRoom, Says, SamePiece}
 use Rattle.bc_verdict.specs.Faults.{IsUnended, Lacks}
 use Rattle.bc_verdict.specs.Judging.{judged}
 
@@ -77,3 +80,17 @@ abbrev pub CertificateIsSaid : Type 0
 CertificateIsSaid =
     (ds : List Derived) → AllByRecursion HasFewest ds → AllByRecursion HasRoom ds → IsNumber (length ds)
     → Says (certificate ds) (record { table = Two; entries = map judged_of ds })
+
+-- the entry's code is that of a derivation of its root, with these words, and no derivation of the root has fewer
+pub record IsLeastCode (T : Table) (j : Judged) : Type 0 where
+  pub derivation : RootDerives T j.root
+  pub code : AllZip SamePiece j.code (root_code derivation j.target j.first)
+  pub words : root_cost derivation ≡ j.words
+  pub fewest : (other : RootDerives T j.root) → j.words ≤ root_cost other
+
+abbrev pub AcceptedIsLeast : Type 0
+AcceptedIsLeast = (bytes : List ℕ) (v : Verdict) → Says bytes v → AllByRecursion (IsLeastCode v.table) v.entries
+
+-- entries whose rules are derivations of their roots by table 2 are those of some derivations, and so have a certificate
+abbrev pub HaveCertificate : Type 0
+HaveCertificate = (es : List Entry) → AllByRecursion (λ (e : Entry). IsDerivation Two e.root e.derivation) es → (ds : List Derived) × (es ≡ map entry_of ds)
