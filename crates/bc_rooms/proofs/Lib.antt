@@ -1,0 +1,4 @@
+mod Marks
+mod Frames
+mod Named
+mod Framed
