@@ -2,3 +2,5 @@ mod Marks
 mod Frames
 mod Named
 mod Framed
+mod Tables
+mod Sections

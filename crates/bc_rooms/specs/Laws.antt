@@ -8,7 +8,9 @@ use Rattle.bc_tree.specs.Tree.{Declarations}
 use Rattle.bc_tree.specs.Height.{declarations_height}
 use Rattle.bc_scoping.specs.Faults.{section_fault}
 use Rattle.bc_scoping.specs.Found.{core_of}
-use Rattle.bc_emit.specs.Bodies.{Coding}
+use Rattle.bc_derive.specs.declared.rule.Table.{Table}
+use Rattle.bc_derive.specs.Rules.{RootDerives}
+use Rattle.bc_emit.specs.Bodies.{Coding, coding_of}
 use Rattle.bc_emit.specs.Entries.{section_roots}
 use Rattle.bc_verdict.specs.Entries.{nested}
 
@@ -26,5 +28,6 @@ RootsAreShallow = (coding : Coding) (ds : Declarations) → declarations_height 
 abbrev pub HasLevels : Root → Type 0
 HasLevels r = AllByRecursion (λ n. n.1 ≤ 32768) (root_in_order r)
 
+-- in code that is made of derivations
 abbrev pub RootsHaveLevels : Type 0
-RootsHaveLevels = (coding : Coding) (ds : Declarations) → section_fault ds ≡ None → AllByRecursion HasLevels (section_roots coding (core_of ds))
+RootsHaveLevels = (T : Table) (choice : (r : Root) → RootDerives T r) (ds : Declarations) → section_fault ds ≡ None → AllByRecursion HasLevels (section_roots (coding_of choice) (core_of ds))
