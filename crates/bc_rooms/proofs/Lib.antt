@@ -4,3 +4,4 @@ mod Named
 mod Framed
 mod Tables
 mod Sections
+mod Labels

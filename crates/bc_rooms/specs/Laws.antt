@@ -10,8 +10,10 @@ use Rattle.bc_scoping.specs.Faults.{section_fault}
 use Rattle.bc_scoping.specs.Found.{core_of}
 use Rattle.bc_derive.specs.declared.rule.Table.{Table}
 use Rattle.bc_derive.specs.Rules.{RootDerives}
+use Rattle.bc_derive.specs.Entry.{Entry}
 use Rattle.bc_emit.specs.Bodies.{Coding, coding_of}
-use Rattle.bc_emit.specs.Entries.{section_roots}
+use Rattle.bc_emit.specs.Section.{labels_suffice}
+use Rattle.bc_emit.specs.Entries.{section_entries, section_roots}
 use Rattle.bc_verdict.specs.Entries.{nested}
 
 -- at most 400 nodes of a root stand one within another
@@ -31,3 +33,7 @@ HasLevels r = AllByRecursion (λ n. n.1 ≤ 32768) (root_in_order r)
 -- in code that is made of derivations
 abbrev pub RootsHaveLevels : Type 0
 RootsHaveLevels = (T : Table) (choice : (r : Root) → RootDerives T r) (ds : Declarations) → section_fault ds ≡ None → AllByRecursion HasLevels (section_roots (coding_of choice) (core_of ds))
+
+-- where the labels of a section suffice, those of each root end at the last one
+abbrev pub LabelsHaveRoom : Type 0
+LabelsHaveRoom = (coding : Coding) (core : Core) → labels_suffice coding core → AllByRecursion (λ (e : Entry). e.first + coding.labels e.root ≤ 20001) (section_entries coding core)
