@@ -1,5 +1,5 @@
 -- Where the labels of a section suffice, those of each root do.
-use Rattle.std.proofs.Common.{ℕ, ◌+◌, ◌≤◌, ◌≡◌, ◌==◌, Bool, true, false, not, List, [], ◌∷◌, length, ap, subst, sym, arith}
+use Rattle.std.proofs.Common.{ℕ, ◌+◌, ◌≤◌, ◌==◌, Bool, true, false, not, List, [], ◌∷◌, length, ap, subst, sym}
 use Rattle.bc_core.specs.Tree.{Frame, Root, Value, Test, Assign}
 use Rattle.bc_core.specs.Commands.{Variable, Initial, Vector, Command, Block, block, Items, no_item, command, case, default, label, Body, Gives, Does, Place, Valof, Core}
 use Rattle.bc_core.specs.Commands as commands
@@ -12,7 +12,7 @@ use Rattle.bc_emit.specs.Bodies.{BodiesCode, Coding, fill, label_ahead, body_exi
 use Rattle.bc_emit.specs.Section.{emit_routines}
 use Rattle.bc_emit.specs.Entries.{Mark, Marked, Plain, marked_over, marked_code}
 use Rattle.bc_emit.proofs.Plainly.{section_plain}
-use Rattle.bc_gen.proofs.Rises.{Rising, Growing, upto, less, variables_up, declarations_up, block_up, items_up, command_up, fill_up, marked_up, bodies_up, routines_up}
+use Rattle.bc_gen.proofs.Rises.{Rising, Growing, upto, less, variables_up, declarations_up, block_up, items_up, fill_up, marked_up, bodies_up, routines_up}
 use Rattle.bc_rooms.specs.Laws.{LabelsHaveRoom}
 use Rattle.bc_rooms.proofs.Marks.{AllMarks, marks_both, table_marks, entries_of_marks}
 

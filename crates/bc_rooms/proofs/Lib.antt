@@ -5,3 +5,4 @@ mod Framed
 mod Tables
 mod Sections
 mod Labels
+mod Numbers

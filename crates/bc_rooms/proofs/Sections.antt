@@ -1,24 +1,21 @@
 -- The roots of a section without fault stand within the frames of its routines.
-use Rattle.std.proofs.Common.{ℕ, zero, suc, ◌+◌, ◌<◌, ◌≤◌, ◌==◌, ◌≡◌, ◌∙◌, cond, Bool, true, false, Option, Some, None, List, [], ◌∷◌, ◌++◌, length, refl, sym, ap, subst, arith}
-use Rattle.std.specs.Prelude.{max, nat_le}
+use Rattle.std.proofs.Common.{ℕ, suc, ◌+◌, ◌<◌, ◌≤◌, ◌==◌, ◌≡◌, ◌∙◌, cond, Bool, true, false, Option, Some, None, List, [], ◌∷◌, length, refl, sym, ap, subst, arith}
+use Rattle.std.specs.Prelude.{nat_le}
 use Rattle.bc_core.specs.Tree.{Root}
 use Rattle.bc_core.specs.Commands as core
 use Rattle.bc_core.specs.Level.{level_behind_parameters}
 use Rattle.bc_core.specs.Layout.{Bodies, cells_of_block, cells_of_body}
-use Rattle.bc_tree.specs.Tree.{Declarations}
-use Rattle.bc_derive.specs.declared.rule.Table.{Table}
-use Rattle.bc_derive.specs.Rules.{RootDerives}
 use Rattle.bc_scoping.specs.Found.{Found, FoundRoutine, RoutineBody, Gives, Does, Thing, AValof, ARoutine, Data, AStatic, ATable, AText, valofs_of, places_of, core_body, core_routine, found_in_section, core_of, section_start}
 use Rattle.bc_scoping.specs.Translation.{core_block}
-use Rattle.bc_scoping.specs.Frames.{width_of_block, width_of_body, frame_of}
-use Rattle.bc_scoping.specs.Faults.{Fault, AFrameTooLarge, or_else, unless, frames_fault, places_fault, declarations_fault, section_fault}
+use Rattle.bc_scoping.specs.Frames.{width_of_body, frame_of}
+use Rattle.bc_scoping.specs.Faults.{Fault, AFrameTooLarge, or_else, unless, frames_fault, places_fault, declarations_fault}
 use Rattle.bc_translation.proofs.Table.{same_number, other_number}
 use Rattle.bc_translation.proofs.Numbered.{Nested, body_of, routine_body, found_in_routine, all_nested}
 use Rattle.bc_translation.proofs.Widths.{AllWide, block_wide, exp_wide, first_wide}
-use Rattle.bc_emit.specs.Emit.{Roots, emit_block}
+use Rattle.bc_emit.specs.Emit.{Roots}
 use Rattle.bc_emit.specs.Bodies.{coding_of, bodies_from, emit_body, level_of}
 use Rattle.bc_emit.specs.Section.{emit_routines}
-use Rattle.bc_emit.specs.Entries.{Mark, Marked, Plain, marked_over, marked_code, section_entries}
+use Rattle.bc_emit.specs.Entries.{Marked, Plain, marked_over, marked_code, section_entries}
 use Rattle.bc_rooms.specs.Laws.{HasLevels, RootsHaveLevels}
 use Rattle.bc_rooms.proofs.Marks.{AllMarks, marks_both, entries_of_marks, roots_of_entries}
 use Rattle.bc_rooms.proofs.Frames.{most, left_most, right_most, RootFits}
@@ -66,7 +63,7 @@ table_wide levels n q (AValof f ∷ fs) h g =
     let rest = table_wide levels (n + 1) q fs h.2 g.1 in
     let of_body = first_wide inner (body_of f) h.1.0 (subst (λ gs. AllWide inner gs) h.1.1 rest) in
     let here : cond (levels f.number == f.level) (table levels n (valofs_of (AValof f ∷ fs)) f.number f.level) 32769 ≡ table levels n (valofs_of (AValof f ∷ fs)) f.number f.level =
-        ap (λ (b : Bool). cond b (table levels n (valofs_of (AValof f ∷ fs)) f.number f.level) 32769) (same_number f.level (levels f.number) g.0) in (
+    ap (λ (b : Bool). cond b (table levels n (valofs_of (AValof f ∷ fs)) f.number f.level) 32769) (same_number f.level (levels f.number) g.0) in (
       here ∙ ap (λ (b : Bool). elim b [ true ↦ cells_of_block inner body f.level | false ↦ V f.number f.level ]) (same_number n f.number h.0) ∙ block_wide inner f.names f.numbers f.body f.level of_body,
       lifted levels n (n + 1) q f vs (record { level = f.level; body = body }) fs (omega arith) h.2 rest,
     )

@@ -1,5 +1,5 @@
 -- The bodies of VALOFs, each within the frame at its own level and nowhere else.
-use Rattle.std.proofs.Common.{ℕ, ◌+◌, ◌≤◌, ◌==◌, ◌≡◌, cond, Bool, true, false, List, [], ◌∷◌, ◌++◌, refl, sym, subst, arith}
+use Rattle.std.proofs.Common.{ℕ, ◌+◌, ◌≤◌, ◌==◌, ◌≡◌, cond, Bool, true, false, List, [], ◌∷◌, refl, sym, subst, arith}
 use Rattle.std.proofs.lemmas.Bool.{eqb-true}
 use Rattle.bc_core.specs.Tree.{Root}
 use Rattle.bc_core.specs.Commands.{Valof}
@@ -9,13 +9,13 @@ use Rattle.bc_derive.specs.declared.piece.Piece.TheVariants as pieces
 use Rattle.bc_derive.specs.declared.rule.Table.{Table}
 use Rattle.bc_derive.specs.Rules.{RootDerives}
 use Rattle.bc_derive.specs.Code.{root_code}
-use Rattle.bc_emit.specs.Emit.{Code, Roots, emit_block}
-use Rattle.bc_emit.specs.Bodies.{BodiesCode, Coding, coding_of, fill, label_ahead, body_exits, emit_valof, bodies_from}
+use Rattle.bc_emit.specs.Emit.{Code, emit_block}
+use Rattle.bc_emit.specs.Bodies.{BodiesCode, coding_of, fill, label_ahead, body_exits, emit_valof, bodies_from}
 use Rattle.bc_emit.specs.Entries.{Mark, Marked, Plain, marked_over}
 use Rattle.bc_rooms.specs.Laws.{HasLevels}
 use Rattle.bc_rooms.proofs.Marks.{AllMarks, marks_both}
 use Rattle.bc_rooms.proofs.Frames.{most, RootFits, root_levels}
-use Rattle.bc_rooms.proofs.Named.{AllNamed, Names, root_names}
+use Rattle.bc_rooms.proofs.Named.{AllNamed, root_names}
 use Rattle.bc_rooms.proofs.Framed.{block_framed}
 
 -- a VALOF that stands at another level than its own takes more than there is
