@@ -1,5 +1,5 @@
 -- A main that went through all parts.
-use Rattle.std.proofs.Common.{◌≡◌, ◌∙◌, ℕ, ◌≤◌, List, map, length, Ok, sym, ap, subst, arith}
+use Rattle.std.proofs.Common.{◌≡◌, ◌∙◌, ℕ, ◌≤◌, List, map, length, Ok, refl, sym, ap, subst, arith}
 use Rattle.std.specs.Prelude.{None, Result}
 use Rattle.bc_token.specs.Token.{Lexeme}
 use Rattle.bc_item.specs.declared.item.Item.{Item}
@@ -17,6 +17,9 @@ use Rattle.bc_scoping.specs.Found.{core_of}
 use Rattle.bc_emit.specs.Section.{section_items, labels_suffice}
 use Rattle.bc_emit.specs.Entries.{section_entries}
 use Rattle.bc_gen.specs.Chosen.{coding}
+use Rattle.bc_gen.specs.declared.gen_error.GenError.{GenError}
+use Rattle.bc_gen.specs.declared.gen_error.GenError.TheVariants.{TooManyLabels, Memory}
+use Rattle.bc_build.specs.Refused.{IsGenFault}
 use Rattle.bc_build.specs.Compiled.{IsSection, IsAccepted}
 use Rattle.bc_build.specs.Code.{IsCompiled}
 
@@ -50,3 +53,9 @@ compiled_from files main tokens section core items entries p faultless is i e l 
   items_are = i ∙ ap (section_items coding) is;
   entries_are = e ∙ ap (section_entries coding) is;
 }
+
+-- a section without code
+pub gen_fault : (section : Declarations) (core : Core) (e : GenError) → section_fault section ≡ None → core ≡ core_of section
+    → (e ≡ TooManyLabels → ¬ labels_suffice coding core) → IsGenFault section e
+gen_fault section core TooManyLabels faultless is h = (faultless, λ l. h refl (subst (labels_suffice coding) (sym is) l))
+gen_fault section core Memory faultless is h = tt

@@ -9,6 +9,9 @@ use Rattle.bc_parse.specs.declared.error.ParseError.TheVariants as parse_errors
 use Rattle.bc_parse.specs.Parsing.{parsed}
 use Rattle.bc_scoping.specs.Faults as scopes
 use Rattle.bc_scoping.specs.Faults.{Fault, section_fault}
+use Rattle.bc_scoping.specs.Found.{core_of}
+use Rattle.bc_emit.specs.Section.{labels_suffice}
+use Rattle.bc_gen.specs.Chosen.{coding}
 use Rattle.bc_gen.specs.declared.gen_error.GenError.{GenError}
 use Rattle.bc_gen.specs.declared.gen_error.GenError.TheVariants as gen_errors
 use Rattle.bc_link.specs.Refusals.{refusal_of}
@@ -35,9 +38,9 @@ IsScopeFault due faults.FrameTooLarge = due ≡ Some scopes.AFrameTooLarge
 IsScopeFault due faults.CaseTwice = due ≡ Some scopes.ACaseTwice
 IsScopeFault due faults.TooManyPlaces = due ≡ Some scopes.ATooManyPlaces
 
--- a section that has no code has no fault of its scopes
+-- a section that has no code has no fault of its scopes, and its labels don't suffice
 abbrev pub IsGenFault : Declarations → GenError → Type 0
-IsGenFault section gen_errors.TooManyLabels = section_fault section ≡ None
+IsGenFault section gen_errors.TooManyLabels = (section_fault section ≡ None) × ¬ labels_suffice coding (core_of section)
 IsGenFault section gen_errors.Memory = Unit {0}
 
 -- the refusal of this main

@@ -9,16 +9,23 @@ mod devices;
 mod failure;
 mod loading;
 mod output;
+#[cfg(test)]
+mod program_tests;
 mod refusals;
+#[cfg(test)]
+mod stored_certificate;
 #[cfg(test)]
 mod tests;
 
 use crate::commands::command;
 use std::process::ExitCode;
-use std::{env, io};
+use std::{env, fs, io};
 
 /// Does what the words behind the program's name ask for.
 fn status(rt: &HostRuntime) -> io::Result<u8> {
+    // The system gives the number of a standard stream that is closed to the next file that is opened: to these, which can
+    // be neither read nor written.
+    let _held = [fs::open(rt, "/"), fs::open(rt, "/"), fs::open(rt, "/")];
     let words: Vec<String> = env::args(rt)?.skip(1).collect(rt.alloc())?;
     let mut texts = Vec::new(rt.alloc());
     for word in &words {

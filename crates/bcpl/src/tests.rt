@@ -14,7 +14,7 @@ const COPY: &[u8] =
     b"1 LL8 SP4 LIG15 K2 SP4 LIG11 K2 LL9 SP4 LIG16 K2 SP4 LIG12 K2 2 LIG13 K2 SP2 A1 FL3 LIP2 SP5 LIG14 K3 JL2 3 X4 8 C4 C68 C65 C84 C65 9 C4 C67 C79 C80 C89 G1L1 Z";
 
 /// The path of a file of this name with these bytes.
-fn file(rt: &HostRuntime, name: &str, bytes: &[u8]) -> Result<String, Fail> {
+pub fn file(rt: &HostRuntime, name: &str, bytes: &[u8]) -> Result<String, Fail> {
     let folder = env::temp_dir(rt)?;
     let path = format!(in rt.alloc(); "{}/bcpl-test-{name}", folder.display())?;
     fs::write(rt, path.as_str(), bytes)?;
@@ -55,7 +55,7 @@ fn texts_on_standard_input(rt: HostRuntime) -> Result<(), Fail> {
 }
 
 /// Whether the words answer this, with `in` as standard input.
-fn answers<'a>(
+pub fn answers<'a>(
     rt: &HostRuntime,
     words: &'a [&'a str],
     status: u8,
