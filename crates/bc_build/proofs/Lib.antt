@@ -1,5 +1,6 @@
 pub mod Compiling
 pub mod Small
+pub mod Arguments
 pub mod Coded
 pub mod Running
 pub mod Fitting

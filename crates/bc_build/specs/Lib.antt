@@ -3,6 +3,7 @@ pub mod Code
 pub mod Built
 pub mod Refused
 pub mod Steps
+pub mod Ranges
 pub mod Runs
 pub mod Least
 pub mod Size
