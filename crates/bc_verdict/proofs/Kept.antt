@@ -89,15 +89,15 @@ last_is (x ∷ xs) (u ∷ us) y v h =
     (ap (λ z. z ∷ xs) here ∙ ap (λ l. u ∷ l) c.0, c.1)
 
 -- nodes without rules
-two_true : (b c : Bool) → cond b c false ≡ true → (b ≡ true) × (c ≡ true)
+pub two_true : (b c : Bool) → cond b c false ≡ true → (b ≡ true) × (c ≡ true)
 two_true true c h = (refl, h)
 two_true false c h = cc
 
-true_two : (b c : Bool) → b ≡ true → c ≡ true → cond b c false ≡ true
+pub true_two : (b c : Bool) → b ≡ true → c ≡ true → cond b c false ≡ true
 true_two true c h i = i
 true_two false c h i = cc
 
-pair_of : (xs ys us vs : List Shown) → xs ≡ us → ys ≡ vs → xs ++ ys ≡ us ++ vs
+pub pair_of : (xs ys us vs : List Shown) → xs ≡ us → ys ≡ vs → xs ++ ys ≡ us ++ vs
 pair_of xs ys us vs h i = ap (λ l. l ++ ys) h ∙ ap (λ l. us ++ l) i
 
 bare_arguments : {T : Table} {es : Args} {f : Exp} {s : ℕ} {ns : List Shown} {ms : List Mark} {ps : List Facts} {xs : List Tree} → AreArguments T es f s ns ms ps xs → all_bare ms ≡ true → ns ≡ all_bare_from es s ++ bare f (s + count es)

@@ -4,6 +4,9 @@ mod Parts
 mod Others
 mod TwoParts
 mod Pairs
+mod Begun
+mod Chained
+mod Node
 mod Numbers
 mod Fields
 mod Forms
@@ -14,3 +17,23 @@ mod Pieces
 mod Roots
 mod Written
 mod Read
+mod Results
+mod CodeSteps
+mod Keeping
+mod Sides
+mod RootSteps
+mod NodeParts
+mod NodeCosts
+mod NodeSteps
+mod WithinSteps
+mod Fewest
+mod Growth
+mod Listing
+mod Said
+mod Rooms
+mod Accepted
+mod Longer
+mod Frame
+pub mod Whole
+mod Answers
+mod Least

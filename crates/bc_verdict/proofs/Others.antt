@@ -4,13 +4,13 @@ use Rattle.std.specs.Prelude.{◌&&◌, not}
 use Rattle.std.proofs.lemmas.Bool.{and_parts, and_from}
 use Rattle.bc_core.specs.declared.operands.Operand.{Operand}
 use Rattle.bc_core.specs.Operand.{operand_of}
-use Rattle.bc_core.specs.Tree.{Exp, Num, Load, Neg, Not, Cond, Call, Valof, Args, no_argument, argument, count}
+use Rattle.bc_core.specs.Tree.{Exp, Num, Load, Neg, Not, Cond, Call, Valof, Args, count}
 use Rattle.bc_derive.specs.declared.rule.Table.{Table}
 use Rattle.bc_derive.specs.declared.rule.Mode.TheVariants.{Any, Push}
 use Rattle.bc_derive.specs.declared.rule.Aim.{Aim}
 use Rattle.bc_derive.specs.declared.rule.Aim.TheVariants.{Gets, Jumps}
 use Rattle.bc_derive.specs.declared.rule.Rule.{Rule}
-use Rattle.bc_derive.specs.declared.rule.Rule.TheVariants.{V0, V1, V2, V3, V4, V20, V21, V22, J1, J6, J7}
+use Rattle.bc_derive.specs.declared.rule.Rule.TheVariants.{V1, V2, V3, V4, V20, V21, V22, J1, J6, J7}
 use Rattle.bc_derive.specs.Free.{jumps_at}
 use Rattle.bc_derive.specs.Piece.{w, operand_words}
 use Rattle.bc_derive.specs.Rules.{Derives, v0, v1, v2, v3, v4, v20, v21, v22, v22_valof, j1, j6, j7, DerivesAll, no_more, one_more, Tree, Trees, by, no_part, part, one, end_with, shape, shapes}
@@ -23,16 +23,16 @@ use Rattle.bc_recipe.specs.declared.form.Form.TheVariants as forms
 use Rattle.bc_recipe.specs.declared.recipe.Takes.TheVariants as takes
 use Rattle.bc_recipe.specs.Costs.{cost_of}
 use Rattle.bc_recipe.specs.Node.{Node, more_words, words_from, no_parts}
-use Rattle.bc_recipe.specs.Recipe.{words_of_operand, words_of_operand_of, of_operand, of_form, of_number, of_load, of_neg, of_not, of_cond, of_call, of_valof}
+use Rattle.bc_recipe.specs.Recipe.{words_of_operand, words_of_operand_of, of_operand, of_number, of_load, of_neg, of_not, of_cond, of_call, of_valof}
 use Rattle.bc_stack.specs.declared.mark.Mark.{Mark}
-use Rattle.bc_stack.specs.Marks.{has_aim, all_bare}
+use Rattle.bc_stack.specs.Marks.{all_bare}
 use Rattle.bc_stack.specs.Showing.{has_words, agree, makes_by, makes}
 use Rattle.bc_stack.specs.Derived.{trees}
 use Rattle.bc_entries.specs.Shown.{Shown, below_bare, rules_of_value, rules_at, below, all_shown, shown}
 use Rattle.bc_verdict.specs.Standing.{IsFewest, Begins, begun}
-use Rattle.bc_verdict.proofs.Over.{StandsAt, AreArguments, routine, next, Over, num, frame, glob, place, valof, load, neg, not as not_over, bin, choice, call}
-use Rattle.bc_verdict.proofs.Kept.{bare_to, bare_from, cut}
-use Rattle.bc_verdict.proofs.Parts.{shown_order, Part, part_to, Has, part_from, some_same, words_are, are_words}
+use Rattle.bc_verdict.proofs.Over.{some_same, StandsAt, AreArguments, routine, next, Over, num, valof, load, neg, not as not_over, choice, call}
+use Rattle.bc_verdict.proofs.Kept.{two_true, true_two, pair_of, bare_to, bare_from, cut}
+use Rattle.bc_verdict.proofs.Parts.{shown_order, part_to, part_from, words_are, are_words}
 
 abbrev pub node_at : Table → ℕ → Form → Exp → List Facts → Node
 node_at T s form e ps = record { table = T; level = s; form = form; operand = words_of_operand_of e; parts = ps }
@@ -45,16 +45,8 @@ value_rules : {T : Table} {e : Exp} {aim : Aim} (d : Derives T e aim) → rules_
 value_rules (v0 d) h = cc
 value_rules d h = cc
 
-not_tested : {T : Table} {e : Exp} (d : Derives T e (Gets Any)) → J6 ∷ rules_of_value d ≡ J6 ∷ [] → ⊥
+pub not_tested : {T : Table} {e : Exp} (d : Derives T e (Gets Any)) → J6 ∷ rules_of_value d ≡ J6 ∷ [] → ⊥
 not_tested d g = let k : rules_of_value d ≡ [] = cc in value_rules d k
-
-two_true : (b c : Bool) → cond b c false ≡ true → (b ≡ true) × (c ≡ true)
-two_true true c h = (refl, h)
-two_true false c h = cc
-
-true_two : (b c : Bool) → b ≡ true → c ≡ true → cond b c false ≡ true
-true_two true c h i = i
-true_two false c h i = cc
 
 -- an operand
 nothing_more : (s n at : ℕ) (ps : List Facts) → words_from takes.Nothing s (Some n) at ps ≡ Some n
@@ -66,7 +58,7 @@ agree_bare : (at : ℕ) (ms : List Mark) → agree takes.Nothing at ms ≡ all_b
 agree_bare at [] = refl
 agree_bare at (m ∷ ms) = ap (λ b. cond m.is_bare b false) (agree_bare (at + 1) ms)
 
-operand_begins : {T : Table} {s : ℕ} {form : Form} {ns : List Shown} {ms : List Mark} {ps : List Facts} {xs : List Tree} {e : Exp} → Over T s form ns ms ps xs e → (aim : Aim) (k : ℕ) (o : Option Operand) → operand_of e ≡ o
+pub operand_begins : {T : Table} {s : ℕ} {form : Form} {ns : List Shown} {ms : List Mark} {ps : List Facts} {xs : List Tree} {e : Exp} → Over T s form ns ms ps xs e → (aim : Aim) (k : ℕ) (o : Option Operand) → operand_of e ≡ o
     → makes_by (node_at T s form e ps) ms (Some k) (of_operand aim (words_of_operand o)) ≡ true → Begins T e aim s V1 k ns
 operand_begins i (Gets Push) k None g h = cc
 operand_begins {s = s} {ms = ms} {ps = ps} i (Gets Push) k (Some o) g h =
@@ -76,13 +68,12 @@ operand_begins {s = s} {ms = ms} {ps = ps} i (Gets Push) k (Some o) g h =
 operand_begins i (Gets Any) k o g h = cc
 operand_begins i (Jumps sense) k o g h = cc
 
-operand_makes : {T : Table} {s : ℕ} {form : Form} {ns : List Shown} {ms : List Mark} {ps : List Facts} {xs : List Tree} {e : Exp} {o : Operand} → Over T s form ns ms ps xs e → operand_of e ≡ Some o → below_bare e s ≡ ns
+pub operand_makes : {T : Table} {s : ℕ} {form : Form} {ns : List Shown} {ms : List Mark} {ps : List Facts} {xs : List Tree} {e : Exp} {o : Operand} → Over T s form ns ms ps xs e → operand_of e ≡ Some o → below_bare e s ≡ ns
     → (makes (node_at T s form e ps) ms V1 (Gets Push) (Some (operand_words o)) ≡ true) × (by V1 no_part ≡ begun V1 ps xs)
 operand_makes {T = T} {s = s} {form = form} {ms = ms} {ps = ps} {e = e} {o = o} i g b =
-    let same : operand_words o + 0 ≡ operand_words o = omega arith in
-    (
+    let same : operand_words o + 0 ≡ operand_words o = omega arith in (
       ap (λ x. makes_by (node_at T s form e ps) ms (Some (operand_words o)) (of_operand (Gets Push) (words_of_operand x))) g
-      ∙ and_from _ _ (are_words _ _ (nothing_more s (operand_words o + 0) 0 ps ∙ ap Some same)) (agree_bare 0 ms ∙ bare_from i (sym b)),
+          ∙ and_from _ _ (are_words _ _ (nothing_more s (operand_words o + 0) 0 ps ∙ ap Some same)) (agree_bare 0 ms ∙ bare_from i (sym b)),
       refl,
     )
 
@@ -110,31 +101,31 @@ one_from {s = s} {p = p} {aim = aim} h d k n e b f =
     (and_from _ _ (are_words _ n (one_words s p aim k _ o.counted ∙ ap Some e)) (true_two _ _ o.agrees refl), o.shape)
 
 -- what the rules of a form make
-load_to : {T : Table} {a : Exp} {s : ℕ} {ns : List Shown} {m : Mark} {p : Facts} {x : Tree} → StandsAt T a s ns m p x → (r : Rule) (aim : Aim) (k : ℕ) → makes_by (node_at T s forms.Load (Load a) (p ∷ [])) (m ∷ []) (Some k) (of_load r aim) ≡ true
+pub load_to : {T : Table} {a : Exp} {s : ℕ} {ns : List Shown} {m : Mark} {p : Facts} {x : Tree} → StandsAt T a s ns m p x → (r : Rule) (aim : Aim) (k : ℕ) → makes_by (node_at T s forms.Load (Load a) (p ∷ [])) (m ∷ []) (Some k) (of_load r aim) ≡ true
     → Begins T (Load a) aim s r k ns
 load_to h V2 (Gets m) k g = let o = one_to h (Gets m) 1 k g in record { derivation = v2 o.derivation; first = refl; counted = o.words; parts = o.parts }
 load_to h r aim k g = cc
 
-load_from : {T : Table} {a : Exp} {s : ℕ} {ns : List Shown} {m : Mark} {p : Facts} {x : Tree} {aim : Aim} → StandsAt T a s ns m p x → (d : Derives T (Load a) aim) → Alone d → below d s ≡ ns → IsFewest d s
+pub load_from : {T : Table} {a : Exp} {s : ℕ} {ns : List Shown} {m : Mark} {p : Facts} {x : Tree} {aim : Aim} → StandsAt T a s ns m p x → (d : Derives T (Load a) aim) → Alone d → below d s ≡ ns → IsFewest d s
     → (makes (node_at T s forms.Load (Load a) (p ∷ [])) (m ∷ []) (first_rule d) aim (Some (cost d s)) ≡ true) × (shape d ≡ begun (first_rule d) (p ∷ []) (x ∷ []))
 load_from h (v0 d) g b f = cc
 load_from h (v1 i) g b f = operand_makes (load h) i b
 load_from {s = s} h (v2 d) g b f = let o = one_from h d 1 _ refl b (λ other. let i = f (v2 other) in omega arith) in (o.0, ap (λ t. by V2 (one t)) o.1)
 load_from h (j6 i d) g b f = absurd (not_tested d g)
 
-neg_to : {T : Table} {a : Exp} {s : ℕ} {ns : List Shown} {m : Mark} {p : Facts} {x : Tree} → StandsAt T a s ns m p x → (r : Rule) (aim : Aim) (k : ℕ) → makes_by (node_at T s forms.Neg (Neg a) (p ∷ [])) (m ∷ []) (Some k) (of_neg r aim) ≡ true
+pub neg_to : {T : Table} {a : Exp} {s : ℕ} {ns : List Shown} {m : Mark} {p : Facts} {x : Tree} → StandsAt T a s ns m p x → (r : Rule) (aim : Aim) (k : ℕ) → makes_by (node_at T s forms.Neg (Neg a) (p ∷ [])) (m ∷ []) (Some k) (of_neg r aim) ≡ true
     → Begins T (Neg a) aim s r k ns
 neg_to h V3 (Gets m) k g = let o = one_to h (Gets m) 1 k g in record { derivation = v3 o.derivation; first = refl; counted = o.words; parts = o.parts }
 neg_to h r aim k g = cc
 
-neg_from : {T : Table} {a : Exp} {s : ℕ} {ns : List Shown} {m : Mark} {p : Facts} {x : Tree} {aim : Aim} → StandsAt T a s ns m p x → (d : Derives T (Neg a) aim) → Alone d → below d s ≡ ns → IsFewest d s
+pub neg_from : {T : Table} {a : Exp} {s : ℕ} {ns : List Shown} {m : Mark} {p : Facts} {x : Tree} {aim : Aim} → StandsAt T a s ns m p x → (d : Derives T (Neg a) aim) → Alone d → below d s ≡ ns → IsFewest d s
     → (makes (node_at T s forms.Neg (Neg a) (p ∷ [])) (m ∷ []) (first_rule d) aim (Some (cost d s)) ≡ true) × (shape d ≡ begun (first_rule d) (p ∷ []) (x ∷ []))
 neg_from h (v0 d) g b f = cc
 neg_from h (v1 i) g b f = operand_makes (neg h) i b
 neg_from {s = s} h (v3 d) g b f = let o = one_from h d 1 _ refl b (λ other. let i = f (v3 other) in omega arith) in (o.0, ap (λ t. by V3 (one t)) o.1)
 neg_from h (j6 i d) g b f = absurd (not_tested d g)
 
-not_to : {T : Table} {a : Exp} {s : ℕ} {ns : List Shown} {m : Mark} {p : Facts} {x : Tree} → StandsAt T a s ns m p x → (r : Rule) (aim : Aim) (k : ℕ) → makes_by (node_at T s forms.Not (Not a) (p ∷ [])) (m ∷ []) (Some k) (of_not r aim) ≡ true
+pub not_to : {T : Table} {a : Exp} {s : ℕ} {ns : List Shown} {m : Mark} {p : Facts} {x : Tree} → StandsAt T a s ns m p x → (r : Rule) (aim : Aim) (k : ℕ) → makes_by (node_at T s forms.Not (Not a) (p ∷ [])) (m ∷ []) (Some k) (of_not r aim) ≡ true
     → Begins T (Not a) aim s r k ns
 not_to h V4 (Gets m) k g = let o = one_to h (Gets m) 1 k g in record { derivation = v4 o.derivation; first = refl; counted = o.words; parts = o.parts }
 not_to h J1 (Jumps sense) k g =
@@ -143,7 +134,7 @@ not_to h J1 (Jumps sense) k g =
     record { derivation = j1 o.derivation; first = refl; counted = omega arith; parts = o.parts }
 not_to h r aim k g = cc
 
-not_from : {T : Table} {a : Exp} {s : ℕ} {ns : List Shown} {m : Mark} {p : Facts} {x : Tree} {aim : Aim} → StandsAt T a s ns m p x → (d : Derives T (Not a) aim) → Alone d → below d s ≡ ns → IsFewest d s
+pub not_from : {T : Table} {a : Exp} {s : ℕ} {ns : List Shown} {m : Mark} {p : Facts} {x : Tree} {aim : Aim} → StandsAt T a s ns m p x → (d : Derives T (Not a) aim) → Alone d → below d s ≡ ns → IsFewest d s
     → (makes (node_at T s forms.Not (Not a) (p ∷ [])) (m ∷ []) (first_rule d) aim (Some (cost d s)) ≡ true) × (shape d ≡ begun (first_rule d) (p ∷ []) (x ∷ []))
 not_from h (v0 d) g b f = cc
 not_from h (v1 i) g b f = operand_makes (not_over h) i b
@@ -152,21 +143,21 @@ not_from {s = s} h (j1 d) g b f = let o = one_from h d 0 (cost d s) (omega arith
 not_from h (j6 i d) g b f = absurd (not_tested d g)
 
 -- a number, and a VALOF
-number_to : (T : Table) (s n : ℕ) (r : Rule) (aim : Aim) (k : ℕ) → makes_by (node_at T s (forms.Num n) (Num n) []) [] (Some k) (of_number r aim n) ≡ true → Begins T (Num n) aim s r k []
+pub number_to : (T : Table) (s n : ℕ) (r : Rule) (aim : Aim) (k : ℕ) → makes_by (node_at T s (forms.Num n) (Num n) []) [] (Some k) (of_number r aim n) ≡ true → Begins T (Num n) aim s r k []
 number_to T s n J7 (Jumps sense) k g = record { derivation = j7; first = refl; counted = some_same (words_are (Some (cond (jumps_at sense n) 2 0)) k (and_parts _ _ g).0); parts = refl }
 number_to T s n r aim k g = cc
 
-number_from : {T : Table} {n : ℕ} {aim : Aim} (s : ℕ) (d : Derives T (Num n) aim) → Alone d → below d s ≡ [] → (makes (node_at T s (forms.Num n) (Num n) []) [] (first_rule d) aim (Some (cost d s)) ≡ true) × (shape d ≡ begun (first_rule d) [] [])
+pub number_from : {T : Table} {n : ℕ} {aim : Aim} (s : ℕ) (d : Derives T (Num n) aim) → Alone d → below d s ≡ [] → (makes (node_at T s (forms.Num n) (Num n) []) [] (first_rule d) aim (Some (cost d s)) ≡ true) × (shape d ≡ begun (first_rule d) [] [])
 number_from s (v0 d) g b = cc
 number_from {T = T} {n = n} s (v1 i) g b = operand_makes {T = T} {s = s} (num {n = n}) i b
 number_from s (j6 i d) g b = absurd (not_tested d g)
 number_from s j7 g b = (and_from _ _ (are_words _ _ refl) refl, refl)
 
-valof_to : (T : Table) (s n : ℕ) (r : Rule) (aim : Aim) (k : ℕ) → makes_by (node_at T s (forms.Valof n) (Valof n) []) [] (Some k) (of_valof r aim) ≡ true → Begins T (Valof n) aim s r k []
+pub valof_to : (T : Table) (s n : ℕ) (r : Rule) (aim : Aim) (k : ℕ) → makes_by (node_at T s (forms.Valof n) (Valof n) []) [] (Some k) (of_valof r aim) ≡ true → Begins T (Valof n) aim s r k []
 valof_to T s n V22 (Gets Any) k g = record { derivation = v22_valof; first = refl; counted = some_same (words_are (Some 0) k (and_parts _ _ g).0); parts = refl }
 valof_to T s n r aim k g = cc
 
-valof_from : {T : Table} {n : ℕ} {aim : Aim} (s : ℕ) (d : Derives T (Valof n) aim) → Alone d → below d s ≡ [] → (makes (node_at T s (forms.Valof n) (Valof n) []) [] (first_rule d) aim (Some (cost d s)) ≡ true) × (shape d ≡ begun (first_rule d) [] [])
+pub valof_from : {T : Table} {n : ℕ} {aim : Aim} (s : ℕ) (d : Derives T (Valof n) aim) → Alone d → below d s ≡ [] → (makes (node_at T s (forms.Valof n) (Valof n) []) [] (first_rule d) aim (Some (cost d s)) ≡ true) × (shape d ≡ begun (first_rule d) [] [])
 valof_from s (v0 d) g b = cc
 valof_from {T = T} {n = n} s (v1 i) g b = operand_makes {T = T} {s = s} (valof {n = n}) i b
 valof_from s (j6 i d) g b = absurd (not_tested d g)
@@ -189,9 +180,6 @@ record OnThree (T : Table) (s : ℕ) (sense : Bool) (a b c : Exp) (ns : List Sho
   parts : (shown condition s ++ shown this s) ++ shown that s ≡ ns
   words : cost condition s + cost this s + cost that s + k ≡ n
 
-both : (xs ys us vs : List Shown) → xs ≡ us → ys ≡ vs → xs ++ ys ≡ us ++ vs
-both xs ys us vs h i = ap (λ l. l ++ ys) h ∙ ap (λ l. us ++ l) i
-
 three_to : {T : Table} {a b c : Exp} {s : ℕ} {ks ns os : List Shown} {l m n : Mark} {o p q : Facts} {x y z : Tree} → StandsAt T a s ks l o x → StandsAt T b s ns m p y → StandsAt T c s os n q z → (sense : Bool) (k j : ℕ)
     → has_words (words_from (takes.Choice sense) s (Some k) 0 (o ∷ p ∷ q ∷ [])) (Some j) && agree (takes.Choice sense) 0 (l ∷ m ∷ n ∷ []) ≡ true → OnThree T s sense a b c ((ks ++ ns) ++ os) k j
 three_to {s = s} {ks = ks} {ns = ns} {os = os} {o = o} {p = p} {q = q} h i j sense k n g =
@@ -200,7 +188,7 @@ three_to {s = s} {ks = ks} {ns = ns} {os = os} {o = o} {p = p} {q = q} h i j sen
     let d = part_to h (Jumps sense) u.0 in
     let e = part_to i (Gets Any) v.0 in
     let f = part_to j (Gets Any) (two_true _ _ v.1).0 in
-    record { condition = d.derivation; this = e.derivation; that = f.derivation; parts = both _ _ (ks ++ ns) os (both _ _ ks ns d.shown e.shown) f.shown; words = some_same (sym (three_words s o p q sense k _ _ _ d.counted e.counted f.counted) ∙ words_are _ n c.0) }
+    record { condition = d.derivation; this = e.derivation; that = f.derivation; parts = pair_of _ _ (ks ++ ns) os (pair_of _ _ ks ns d.shown e.shown) f.shown; words = some_same (sym (three_words s o p q sense k _ _ _ d.counted e.counted f.counted) ∙ words_are _ n c.0) }
 
 record HasThree (s : ℕ) (sense : Bool) (l m n : Mark) (o p q : Facts) (x y z t u v : Tree) (k j : ℕ) : Type 0 where
   makes : has_words (words_from (takes.Choice sense) s (Some k) 0 (o ∷ p ∷ q ∷ [])) (Some j) && agree (takes.Choice sense) 0 (l ∷ m ∷ n ∷ []) ≡ true
@@ -219,7 +207,7 @@ three_from {s = s} {ks = ks} {ns = ns} {os = os} {o = o} {p = p} {q = q} {sense 
     let t = part_from j f rest.1 ff in
     record { makes = and_from _ _ (are_words _ n (three_words s o p q sense k _ _ _ u.counted v.counted t.counted ∙ ap Some w)) (true_two _ _ u.agrees (true_two _ _ v.agrees (true_two _ _ t.agrees refl))); condition = u.shape; this = v.shape; that = t.shape }
 
-choice_to : {T : Table} {a b c : Exp} {s : ℕ} {ks ns os : List Shown} {l m n : Mark} {o p q : Facts} {x y z : Tree} → StandsAt T a s ks l o x → StandsAt T b s ns m p y → StandsAt T c s os n q z → (r : Rule) (aim : Aim) (k : ℕ)
+pub choice_to : {T : Table} {a b c : Exp} {s : ℕ} {ks ns os : List Shown} {l m n : Mark} {o p q : Facts} {x y z : Tree} → StandsAt T a s ks l o x → StandsAt T b s ns m p y → StandsAt T c s os n q z → (r : Rule) (aim : Aim) (k : ℕ)
     → makes_by (node_at T s forms.Cond (Cond a b c) (o ∷ p ∷ q ∷ [])) (l ∷ m ∷ n ∷ []) (Some k) (of_cond r aim) ≡ true → Begins T (Cond a b c) aim s r k ((ks ++ ns) ++ os)
 choice_to h i j V20 (Gets Any) k g = let o = three_to h i j false 2 k g in record { derivation = v20 o.condition o.this o.that; first = refl; counted = o.words; parts = o.parts }
 choice_to h i j V21 (Gets Any) k g =
@@ -231,7 +219,7 @@ choice_to h i j r aim k g = cc
 two_more : (t u v x y z : Tree) → t ≡ x → u ≡ y → v ≡ z → part t (part u (one v)) ≡ part x (part y (one z))
 two_more t u v x y z h i j = ap (λ a. part a (part u (one v))) h ∙ ap (λ a. part x (part a (one v))) i ∙ ap (λ a. part x (part y (one a))) j
 
-choice_from : {T : Table} {a b c : Exp} {s : ℕ} {ks ns os : List Shown} {l m n : Mark} {o p q : Facts} {x y z : Tree} {aim : Aim} → StandsAt T a s ks l o x → StandsAt T b s ns m p y → StandsAt T c s os n q z → (d : Derives T (Cond a b c) aim) → Alone d
+pub choice_from : {T : Table} {a b c : Exp} {s : ℕ} {ks ns os : List Shown} {l m n : Mark} {o p q : Facts} {x y z : Tree} {aim : Aim} → StandsAt T a s ks l o x → StandsAt T b s ns m p y → StandsAt T c s os n q z → (d : Derives T (Cond a b c) aim) → Alone d
     → below d s ≡ (ks ++ ns) ++ os → IsFewest d s
     → (makes (node_at T s forms.Cond (Cond a b c) (o ∷ p ∷ q ∷ [])) (l ∷ m ∷ n ∷ []) (first_rule d) aim (Some (cost d s)) ≡ true) × (shape d ≡ begun (first_rule d) (o ∷ p ∷ q ∷ []) (x ∷ y ∷ z ∷ []))
 choice_from h i j (v0 d) g b f = cc
@@ -280,17 +268,17 @@ all_to {f = f} {l = l} (next {es = es} {ns = ns} {os = os} {p = p} {ps = ps} h i
       arguments = one_more d.derivation ds.arguments;
       routine = ds.routine;
       parts =
-        append_assoc (shown d.derivation l) (all_shown ds.arguments (l + 1)) (shown ds.routine (l + (1 + count es)))
-        ∙ both _ _ ns os d.shown (ap (λ n. all_shown ds.arguments (l + 1) ++ shown ds.routine n) (sym level) ∙ ds.parts);
+          append_assoc (shown d.derivation l) (all_shown ds.arguments (l + 1)) (shown ds.routine (l + (1 + count es)))
+          ∙ pair_of _ _ ns os d.shown (ap (λ n. all_shown ds.arguments (l + 1) ++ shown ds.routine n) (sym level) ∙ ds.parts);
       words = λ k.
-        argument_words s at k _ p ps d.counted (some_parts i)
-        ∙ ds.words (k + (cost d.derivation l + w (s + 2 + at)))
-        ∙ ap (λ n. Some (all_cost ds.arguments (l + 1) + cost ds.routine n + (k + (cost d.derivation l + w (s + 2 + at))))) level
-        ∙ ap (λ n. Some (all_cost ds.arguments (l + 1) + cost ds.routine (l + (1 + count es)) + (k + (cost d.derivation l + n)))) held
-        ∙ ap Some (omega arith);
+          argument_words s at k _ p ps d.counted (some_parts i)
+          ∙ ds.words (k + (cost d.derivation l + w (s + 2 + at)))
+          ∙ ap (λ n. Some (all_cost ds.arguments (l + 1) + cost ds.routine n + (k + (cost d.derivation l + w (s + 2 + at))))) level
+          ∙ ap (λ n. Some (all_cost ds.arguments (l + 1) + cost ds.routine (l + (1 + count es)) + (k + (cost d.derivation l + n)))) held
+          ∙ ap Some (omega arith);
     }
 
-call_to : (n : ℕ) {T : Table} {es : Args} {f : Exp} {s : ℕ} {ns : List Shown} {ms : List Mark} {ps : List Facts} {xs : List Tree} → AreArguments T es f (s + 2) ns ms ps xs → (r : Rule) (aim : Aim) (k : ℕ)
+pub call_to : (n : ℕ) {T : Table} {es : Args} {f : Exp} {s : ℕ} {ns : List Shown} {ms : List Mark} {ps : List Facts} {xs : List Tree} → AreArguments T es f (s + 2) ns ms ps xs → (r : Rule) (aim : Aim) (k : ℕ)
     → makes_by (node_at T s (forms.Call n) (Call es f) ps) ms (Some k) (of_call r aim s) ≡ true → Begins T (Call es f) aim s r k ns
 call_to n {s = s} h V22 (Gets Any) k g =
     let level : s + 2 ≡ s + 2 + 0 = omega arith in
@@ -324,15 +312,15 @@ all_from {T = T} {f = f} {l = l} (next {es = es} {ns = ns} {os = os} {p = p} {ps
     record {
       agrees = true_two _ _ o.agrees rest.agrees;
       counted = λ k.
-        argument_words s at k _ p ps o.counted (some_parts i)
-        ∙ rest.counted (k + (cost d l + w (s + 2 + at)))
-        ∙ ap (λ n. Some (all_cost ds (l + 1) + cost r n + (k + (cost d l + w (s + 2 + at))))) level
-        ∙ ap (λ n. Some (all_cost ds (l + 1) + cost r (l + (1 + count es)) + (k + (cost d l + n)))) held
-        ∙ ap Some (omega arith);
+          argument_words s at k _ p ps o.counted (some_parts i)
+          ∙ rest.counted (k + (cost d l + w (s + 2 + at)))
+          ∙ ap (λ n. Some (all_cost ds (l + 1) + cost r n + (k + (cost d l + w (s + 2 + at))))) level
+          ∙ ap (λ n. Some (all_cost ds (l + 1) + cost r (l + (1 + count es)) + (k + (cost d l + n)))) held
+          ∙ ap Some (omega arith);
       shapes = ap (λ t. part t (end_with (shapes ds) (shape r))) o.shape ∙ ap (λ ts. part x ts) rest.shapes;
     }
 
-call_from : (n : ℕ) {T : Table} {es : Args} {f : Exp} {s : ℕ} {ns : List Shown} {ms : List Mark} {ps : List Facts} {xs : List Tree} {aim : Aim} → AreArguments T es f (s + 2) ns ms ps xs → (d : Derives T (Call es f) aim) → Alone d → below d s ≡ ns → IsFewest d s
+pub call_from : (n : ℕ) {T : Table} {es : Args} {f : Exp} {s : ℕ} {ns : List Shown} {ms : List Mark} {ps : List Facts} {xs : List Tree} {aim : Aim} → AreArguments T es f (s + 2) ns ms ps xs → (d : Derives T (Call es f) aim) → Alone d → below d s ≡ ns → IsFewest d s
     → (makes (node_at T s (forms.Call n) (Call es f) ps) ms (first_rule d) aim (Some (cost d s)) ≡ true) × (shape d ≡ begun (first_rule d) ps xs)
 call_from n h (v0 d) g b f = cc
 call_from n h (v1 k) g b f = operand_makes (call {n = n} h) k b
@@ -340,8 +328,3 @@ call_from n {s = s} h (v22 ds r) g b f =
     let o = all_from h s 0 (omega arith) ds r b (λ others other. let k = f (v22 others other) in omega arith) in
     (and_from _ _ (are_words _ _ (o.counted (w s))) o.agrees, ap (by V22) o.shapes)
 call_from n h (j6 k d) g b f = absurd (not_tested d g)
-
--- a leaf that is an operand alone
-leaf_from : {T : Table} {s : ℕ} {form : Form} {e : Exp} {aim : Aim} → Over T s form [] [] [] [] e → (d : Derives T e aim) → Alone d → first_rule d ≡ V1 → below d s ≡ [] → (makes (node_at T s form e []) [] (first_rule d) aim (Some (cost d s)) ≡ true) × (shape d ≡ begun (first_rule d) [] [])
-leaf_from i (v1 k) g r b = operand_makes i k b
-leaf_from i d g r b = cc

@@ -1,28 +1,19 @@
 -- A node over the trees of its parts, taken apart by its form.
-use Rattle.std.proofs.Common.{◌≡◌, ℕ, ◌+◌, ◌==◌, max, Bool, true, false, cond, Option, Some, None, List, [], ◌∷◌, ◌++◌, map, flat_map, refl, ap, sym, subst, ◌∙◌, arith, append-nil, append_assoc}
-use Rattle.std.specs.Prelude.{◌||◌}
+use Rattle.std.proofs.Common.{◌≡◌, ℕ, ◌+◌, ◌==◌, Bool, true, false, cond, Option, Some, None, List, [], ◌∷◌, ◌++◌, refl, ap, sym, subst, ◌∙◌, arith, append-nil, append_assoc}
 use Rattle.std.proofs.lemmas.Bool.{eqb-true}
 use Rattle.bc_word.specs.declared.operator.Op.{Op}
-use Rattle.bc_core.specs.Tree.{Exp, Num, Frame, Glob, Place, Load, Neg, Not, Bin, Cond, Call, Valof, Args, no_argument, argument, count}
-use Rattle.bc_core.specs.Value.{has_call}
+use Rattle.bc_core.specs.Tree.{Exp, Num, Frame, Glob, Place, Load, Neg, Not, Bin, Cond, Call, Valof, Args, no_argument, argument}
 use Rattle.bc_derive.specs.declared.rule.Table.{Table}
-use Rattle.bc_derive.specs.declared.rule.Rule.{Rule}
-use Rattle.bc_derive.specs.Free as free
 use Rattle.bc_derive.specs.Rules.{Tree}
-use Rattle.bc_least.specs.Nodes.{in_order, all_in_order}
 use Rattle.bc_recipe.specs.declared.facts.Facts.{Facts}
 use Rattle.bc_recipe.specs.declared.form.Form.{Form}
 use Rattle.bc_recipe.specs.declared.form.Form.TheVariants as forms
-use Rattle.bc_recipe.specs.Form.{calls_itself, is_plain}
 use Rattle.bc_lines.specs.declared.lines.NodeLine.{NodeLine}
 use Rattle.bc_stack.specs.declared.mark.Mark.{Mark}
-use Rattle.bc_stack.specs.Marks.{levels_from, levels_fit, depth_from, depth_over, all_bare}
-use Rattle.bc_stack.specs.Stacks.{any_calls}
+use Rattle.bc_stack.specs.Marks.{levels_from, levels_fit}
 use Rattle.bc_stack.specs.Wholes.{leaf, one_of, with_one, two_of, three_of, with_argument, called_of, whole}
-use Rattle.bc_entries.specs.Shown as shown
-use Rattle.bc_entries.specs.Shown.{Shown, ended, below_bare, bare}
-use Rattle.bc_verdict.specs.Entries.{nested, all_nested}
-use Rattle.bc_verdict.specs.Faults.{Grown, all_shown, node}
+use Rattle.bc_entries.specs.Shown.{Shown}
+use Rattle.bc_verdict.specs.Faults.{Grown, all_shown}
 use Rattle.bc_verdict.specs.Standing.{Stands, AllStand, IsOver}
 
 -- a tree with these lines stands
@@ -76,7 +67,7 @@ levelled T step s (t ∷ ts) (m ∷ ms) (p ∷ ps) (e ∷ es) (x ∷ xs) h l =
     some (stands_at T t m p e x s at.0 h.0) (levelled T step (s + step) ts ms ps es xs h.1 at.1)
 levelled T step s _ _ _ _ _ h l = absurd h
 
-some_same : {A : Type 0} {x y : A} → ◌≡◌ {A = Option A} (Some x) (Some y) → x ≡ y
+pub some_same : {A : Type 0} {x y : A} → ◌≡◌ {A = Option A} (Some x) (Some y) → x ≡ y
 some_same h = cc
 
 at_level : {T : Table} {a : Exp} {l s : ℕ} {ns : List Shown} {m : Mark} {p : Facts} {x : Tree} → l ≡ s → StandsAt T a l ns m p x → StandsAt T a s ns m p x
@@ -141,7 +132,7 @@ call_over T s ns ms ps es xs e (some {ns = us} {os = vs} {m = m} {ms = ns'} {p =
     let last : c.routine ≡ w.routine = cc in
     record { arguments = argument a c.arguments; routine = c.routine; is = ap (λ u. Call (argument a u) c.routine) args ∙ ap (λ u. Call (argument a w.arguments) u) last ∙ w.is; parts = next h c.parts }
 
-over_levelled : (T : Table) (s : ℕ) (form : Form) (ts : List Grown) (ms : List Mark) (ps : List Facts) (es : List Exp) (xs : List Tree) (e : Exp) → AllStand T ts ms ps es xs → levels_fit s form ms ≡ true → whole form es ≡ Some e → Over T s form (all_shown ts) ms ps xs e
+pub over_levelled : (T : Table) (s : ℕ) (form : Form) (ts : List Grown) (ms : List Mark) (ps : List Facts) (es : List Exp) (xs : List Tree) (e : Exp) → AllStand T ts ms ps es xs → levels_fit s form ms ≡ true → whole form es ≡ Some e → Over T s form (all_shown ts) ms ps xs e
 over_levelled T s (forms.Num n) ts ms ps es xs e h l k = leaf_over T s 0 (s + 0) _ _ ms ps es xs (Num n) e (levelled T 0 (s + 0) ts ms ps es xs h l) k num
 over_levelled T s (forms.Frame n) ts ms ps es xs e h l k = leaf_over T s 0 (s + 0) _ _ ms ps es xs (Frame n) e (levelled T 0 (s + 0) ts ms ps es xs h l) k frame
 over_levelled T s (forms.Glob n) ts ms ps es xs e h l k = leaf_over T s 0 (s + 0) _ _ ms ps es xs (Glob n) e (levelled T 0 (s + 0) ts ms ps es xs h l) k glob

@@ -1,5 +1,5 @@
 -- What a part gives a rule that takes it, and what it has of a derivation that shows its lines.
-use Rattle.std.proofs.Common.{◌≡◌, ℕ, ◌+◌, ◌≤◌, ◌==◌, Bool, true, false, cond, Option, Some, None, List, [], ◌∷◌, ◌++◌, map, refl, ap, sym, subst, ◌∙◌, arith}
+use Rattle.std.proofs.Common.{◌≡◌, ℕ, true, Option, Some, None, List, [], ◌∷◌, ◌++◌, refl, ap, sym, subst, ◌∙◌, arith}
 use Rattle.std.proofs.lemmas.Bool.{eqb-true, eq-eqb}
 use Rattle.bc_core.specs.Tree.{Exp, Value, Test}
 use Rattle.bc_derive.specs.declared.rule.Table.{Table}
@@ -76,9 +76,6 @@ pub part_from : {T : Table} {a : Exp} {s : ℕ} {ns : List Shown} {m : Mark} {p 
 part_from {aim = aim} h d k f = let o = h.has aim d (sym k) f in record { agrees = o.0; counted = counted_of h.part.costs d f; shape = o.1 }
 
 -- the words of a recipe
-pub some_same : {A : Type 0} {x y : A} → ◌≡◌ {A = Option A} (Some x) (Some y) → x ≡ y
-some_same h = cc
-
 pub words_are : (x : Option ℕ) (n : ℕ) → has_words x (Some n) ≡ true → x ≡ Some n
 words_are None n h = cc
 words_are (Some m) n h = ap Some (eqb-true m n h)

@@ -1,13 +1,13 @@
 -- Worked examples: faults of short bytes, and a certificate of no entries.
-use Rattle.std.specs.Prelude.{◌≡◌, ℕ, ◌+◌, List, [], ◌∷◌, ◌++◌, refl}
+use Rattle.std.specs.Prelude.{◌≡◌, List, [], ◌∷◌, ◌++◌, refl}
 use Rattle.std.proofs.Common.{arith}
 use Rattle.bc_derive.specs.declared.rule.Table.{Table}
 use Rattle.bc_derive.specs.declared.rule.Table.TheVariants.{One, Two}
-use Rattle.bc_certificate.specs.declared.check_fault.CheckFault.TheVariants.{Header, Line, Truncated}
+use Rattle.bc_certificate.specs.declared.check_fault.CheckFault.TheVariants.{Header, Truncated}
 use Rattle.bc_certificate.specs.Text.{header_line, end_line}
 use Rattle.bc_certificate.specs.Verdict.{Judged}
-use Rattle.bc_verdict.specs.Entries.{Says, AllListed, none}
-use Rattle.bc_verdict.specs.Faults.{Stage, the_header, between, the_end, Lacks, at_line, in_header, in_lines, Reaches, nothing, header, no_header}
+use Rattle.bc_verdict.specs.Entries.{Says, none}
+use Rattle.bc_verdict.specs.Faults.{the_header, between, the_end, Lacks, at_line, in_header, in_lines, nothing, header, no_header}
 
 is_behind : {T : Table} {js : List Judged} → ¬ (between T js ≡ the_header)
 is_behind h = cc

@@ -1,5 +1,5 @@
 -- The first fault of bytes that are no accepted certificate.
-use Rattle.std.specs.Prelude.{◌≡◌, ℕ, ◌+◌, ◌==◌, ◌≤◌, ◌<◌, Bool, true, false, cond, List, [], ◌∷◌, ◌++◌, map, length, flat_map, Option, Some, IfSome}
+use Rattle.std.specs.Prelude.{◌≡◌, ℕ, ◌+◌, ◌==◌, ◌≤◌, ◌<◌, Bool, true, false, cond, List, [], ◌∷◌, ◌++◌, map, length, flat_map, Some, IfSome}
 use Rattle.std.specs.List.{AllByRecursion, AllZip}
 use Rattle.std.specs.Fmt.{decimal}
 use Rattle.bc_core.specs.Tree.{Exp, Load, Neg, Not, Bin, Cond, Call, Args, no_argument, argument, count, Root, Value, Test, Assign}
@@ -11,18 +11,18 @@ use Rattle.bc_derive.specs.declared.rule.Aim.{Aim}
 use Rattle.bc_derive.specs.declared.rule.Aim.TheVariants.{Gets, Jumps}
 use Rattle.bc_derive.specs.declared.rule.Rule.{Rule}
 use Rattle.bc_derive.specs.declared.rule.Rule.TheVariants.{A1, A2, A3}
-use Rattle.bc_derive.specs.Rules.{Derives, RootDerives, root_shape}
+use Rattle.bc_derive.specs.Rules.{Derives, RootDerives}
 use Rattle.bc_derive.specs.Code.{cost, root_code, root_labels, root_cost}
-use Rattle.bc_least.specs.Least.{rule_number, top, AreLeastWords}
+use Rattle.bc_least.specs.Least.{rule_number, AreLeastWords}
 use Rattle.bc_certificate.specs.declared.check_fault.CheckFault.{CheckFault}
 use Rattle.bc_certificate.specs.declared.check_fault.CheckFault.TheVariants.{Header, Line, Truncated, WrongCost, WrongRule, WrongCode, WrongWords, TooDeep}
 use Rattle.bc_certificate.specs.Text.{header_line, end_line}
 use Rattle.bc_certificate.specs.Verdict.{Judged}
 use Rattle.bc_entries.specs.Shown.{Shown, shown, root_shown}
-use Rattle.bc_entries.specs.Lines.{line, line_end, rule_letter, rule_name, form_field, words_field, sense_field, entry_line, node_line as line_of_node, root_line as line_of_root}
+use Rattle.bc_entries.specs.Lines.{line, rule_letter, rule_name, form_field, words_field, sense_field, entry_line, node_line as line_of_node, root_line as line_of_root}
 use Rattle.bc_recipe.specs.declared.costs.Costs.{Costs}
 use Rattle.bc_lines.specs.declared.lines.Head.{Head}
-use Rattle.bc_verdict.specs.Entries.{IsNumber, IsSmall, IsLevel, HasSmallNumber, nested, NodeHasRoom, piece_field, PieceHasRoom, pieces_line, SamePiece, RootHasRoom, Listed, AllListed}
+use Rattle.bc_verdict.specs.Entries.{IsNumber, IsSmall, IsLevel, HasSmallNumber, nested, NodeHasRoom, PieceHasRoom, pieces_line, SamePiece}
 
 -- the numbers of an entry's first line have room
 pub record HeadHasRoom (h : Head) : Type 0 where

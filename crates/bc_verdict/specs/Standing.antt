@@ -1,5 +1,5 @@
 -- For proofs: when what the checker keeps of trees is true of the trees that the lines show.
-use Rattle.std.specs.Prelude.{◌≡◌, ℕ, ◌≤◌, Bool, true, false, cond, List, [], ◌∷◌, ◌++◌, map, Option, Some, None}
+use Rattle.std.specs.Prelude.{◌≡◌, ℕ, ◌≤◌, Bool, true, false, List, [], ◌∷◌, map, Some}
 use Rattle.std.specs.Fmt.{decimal}
 use Rattle.bc_word.specs.Words.{number_of}
 use Rattle.bc_core.specs.Tree.{Exp}
@@ -10,7 +10,6 @@ use Rattle.bc_derive.specs.declared.rule.Rule.TheVariants.{V0, J6}
 use Rattle.bc_derive.specs.Rules.{Derives, Tree, by, shape}
 use Rattle.bc_derive.specs.Code.{cost}
 use Rattle.bc_least.specs.Nodes.{in_order}
-use Rattle.bc_recipe.specs.declared.costs.Costs.{Costs}
 use Rattle.bc_recipe.specs.declared.facts.Facts.{Facts}
 use Rattle.bc_recipe.specs.declared.form.Form.{Form}
 use Rattle.bc_recipe.specs.declared.form.Form.TheVariants as forms

@@ -1,0 +1,4 @@
+mod Depth
+mod Commands
+mod Things
+pub mod Shallow
