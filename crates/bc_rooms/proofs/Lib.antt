@@ -2,3 +2,11 @@ mod Depth
 mod Commands
 mod Things
 pub mod Shallow
+mod Marks
+mod Frames
+mod Named
+mod Framed
+mod Tables
+mod Sections
+mod Labels
+mod Numbers
