@@ -4,5 +4,6 @@ pub mod Arguments
 pub mod Coded
 pub mod Running
 pub mod Fitting
+pub mod Certifying
 pub mod Reading
 pub mod Facts

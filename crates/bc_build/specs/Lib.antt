@@ -6,5 +6,6 @@ pub mod Steps
 pub mod Ranges
 pub mod Runs
 pub mod Least
+pub mod Certified
 pub mod Size
 pub mod Text

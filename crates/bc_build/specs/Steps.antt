@@ -12,6 +12,7 @@ use Rattle.bc_link.specs.Refusals.{refusal_of}
 use Rattle.bc_link.specs.Linked.{image_of, IsRefusal}
 use Rattle.bc_run.specs.Runs.{behind}
 use Rattle.bc_text.specs.Printed.{IsItem}
+use Rattle.bc_build.specs.Ranges.{IsSmallEntry}
 use Rattle.bc_build.specs.Refused.{IsScopeFault, IsFirstRefusal}
 use Rattle.bc_build.specs.declared.building.Built.{Built}
 use Rattle.bc_build.specs.declared.build_error.BuildError.{BuildError}
@@ -31,6 +32,7 @@ pub record IsLinked (segments : List (List Item)) (entries : List code.Entry) (b
   pub image_is : built.image ≡ image_of (behind segments)
   pub words : (i : ℕ) → slice_index built.image.words i < 65536
   pub items : All (All IsItem) segments
+  pub small : All IsSmallEntry entries
 
 -- why segments were not linked
 abbrev pub IsLinkRefusal : List (List Item) → BuildError → Type 0
