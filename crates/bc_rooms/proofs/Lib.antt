@@ -1,5 +1,7 @@
+mod Throughout
 mod Depth
 mod Commands
+mod Emitted
 mod Things
 pub mod Shallow
 mod Marks
