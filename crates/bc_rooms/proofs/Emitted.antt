@@ -1,5 +1,5 @@
 -- What holds of each expression of a core holds of each root that its code marks.
-use Rattle.std.proofs.Common.{ℕ, ◌+◌, ◌==◌, Bool, true, false, not, List, [], ◌∷◌, ◌++◌, length, arith}
+use Rattle.std.proofs.Common.{ℕ, ◌+◌, ◌==◌, Bool, true, false, not, List, [], ◌∷◌, ◌++◌, length}
 use Rattle.std.specs.List.{AllByRecursion}
 use Rattle.bc_item.specs.declared.item.Item.{Item}
 use Rattle.bc_derive.specs.declared.piece.Piece.{Piece}
@@ -16,7 +16,7 @@ use Rattle.bc_emit.specs.Entries.{Marked, Plain, marked_over, marked_code, secti
 use Rattle.bc_rooms.proofs.Marks.{AllMarks, marks_both, table_marks, entries_of_marks, roots_of_entries}
 use Rattle.bc_rooms.proofs.Throughout.{OfVariables, OfDeclarations, OfCommand, OfBlock, OfItems, OfBody, OfPlaces, OfValofs}
 
--- what holds of expressions holds of the roots that are made of them, and it holds of what a code adds of its own
+-- what holds of expressions leads to what holds of roots, and holds of the expressions that the code adds
 pub record Suits (P : Root → Type 0) (L : Exp → Type 0) : Type 0 where
   pub value : (s : ℕ) (e : Exp) → L e → P (Value s e)
   pub test : (s : ℕ) (sense : Bool) (e : Exp) → L e → P (Test s sense e)

@@ -12,3 +12,5 @@ mod Tables
 mod Sections
 mod Labels
 mod Numbers
+mod Few
+mod Words
