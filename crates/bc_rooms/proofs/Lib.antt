@@ -9,8 +9,8 @@ mod Frames
 mod Named
 mod Framed
 mod Tables
-mod Sections
-mod Labels
-mod Numbers
-mod Few
-mod Words
+pub mod Sections
+pub mod Labels
+pub mod Numbers
+pub mod Few
+pub mod Words
