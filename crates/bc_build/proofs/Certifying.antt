@@ -1,5 +1,5 @@
 -- The certificate of the entries of sections is accepted.
-use Rattle.std.proofs.Common.{◌≡◌, ℕ, ◌+◌, ◌^◌, ◌≤◌, ◌<◌, Bool, List, [], ◌∷◌, ◌++◌, map, length, refl, sym, ap, subst, ◌∙◌, arith}
+use Rattle.std.proofs.Common.{◌≡◌, ℕ, ◌+◌, ◌^◌, ◌≤◌, ◌<◌, List, [], ◌∷◌, ◌++◌, map, length, refl, sym, ap, subst, ◌∙◌, arith}
 use Rattle.std.specs.Prelude.{All, None}
 use Rattle.std.specs.List.{AllByRecursion}
 use Rattle.std.proofs.lemmas.List.{length-map}
@@ -7,7 +7,6 @@ use Rattle.std.proofs.lemmas.List.Elements.{recursion_from_All}
 use Rattle.bc_item.specs.declared.item.Item.{Item}
 use Rattle.bc_core.specs.Tree.{Exp, Num, Frame, Glob, Place, Load, Neg, Not, Bin, Cond, Call, Valof, Args, no_argument, argument, count, Root, Value, Test, Assign}
 use Rattle.bc_core.specs.Level.{side_level}
-use Rattle.bc_core.specs.Commands.{Core}
 use Rattle.bc_tree.specs.Tree.{Declarations}
 use Rattle.bc_tree.specs.Size.{declarations_size}
 use Rattle.bc_tree.specs.Height.{declarations_height}
@@ -20,35 +19,32 @@ use Rattle.bc_derive.specs.View.{entry as entry_view}
 use Rattle.bc_derive.specs.Entry.{Entry}
 use Rattle.bc_derive.specs.Rules.{root_shape}
 use Rattle.bc_derive.specs.Code.{root_labels}
-use Rattle.bc_least.specs.Nodes.{in_order, all_in_order, root_in_order, root_nodes}
+use Rattle.bc_least.specs.Nodes.{in_order, all_in_order, root_nodes}
 use Rattle.bc_least.specs.Chosen.{chosen, chosen_is_least}
 use Rattle.bc_emit.specs.Section.{labels_suffice, section_items}
-use Rattle.bc_emit.specs.Entries.{section_entries, section_roots}
+use Rattle.bc_emit.specs.Entries.{section_entries}
 use Rattle.bc_emit.specs.Laws.{AllStandAt}
 use Rattle.bc_emit.proofs.Standing.{entries_stand}
 use Rattle.bc_entries.specs.Certificate.{Derived, entry_of, certificate}
 use Rattle.bc_verdict.specs.Entries.{Says}
 use Rattle.bc_verdict.specs.Written.{judged_of, HasRoom, HasFewest}
-use Rattle.bc_verdict.specs.Laws.{CertificateIsSaid}
-use Rattle.bc_rooms.specs.Laws.{IsShallow, HasLevels, HasSmallForm, HasSmallForms, RootsAreShallow, RootsHaveLevels, RootsHaveFewNodes, LabelsHaveRoom, NodesHaveRoom, RootWordsHaveRoom}
+use Rattle.bc_verdict.proofs.Accepted.{certificate_is_said}
+use Rattle.bc_rooms.specs.Laws.{IsShallow, HasLevels, HasSmallForm, HasSmallForms}
+use Rattle.bc_rooms.proofs.Shallow.{roots_are_shallow}
+use Rattle.bc_rooms.proofs.Sections.{roots_have_levels}
+use Rattle.bc_rooms.proofs.Few.{roots_have_few_nodes}
+use Rattle.bc_rooms.proofs.Labels.{labels_have_room}
+use Rattle.bc_rooms.proofs.Numbers.{nodes_have_room}
+use Rattle.bc_rooms.proofs.Words.{root_words_have_room}
 use Rattle.bc_gen.specs.Chosen.{coding}
 use Rattle.bc_build.specs.Ranges.{AreSmall, AllAreSmall, RootIsSmall, EntryIsSmall, IsSmallEntry}
-use Rattle.bc_build.specs.Compiled.{IsAccepted, AreAccepted}
+use Rattle.bc_build.specs.Compiled.{AreAccepted}
 use Rattle.bc_build.specs.Code.{in_segment, entries_of, entries_from}
 use Rattle.bc_build.specs.Least.{judged}
 use Rattle.bc_build.specs.Certified.{IsCertified}
 use Rattle.bc_build.specs.Built.{IsBuilt}
+use Rattle.bc_build.specs.Steps.{IsLinked}
 use Rattle.bc_build.specs.declared.building.Built.{Built}
-
--- what the laws say of roots and labels
-pub record Laws : Type 0 where
-  pub shallow : RootsAreShallow
-  pub levels : RootsHaveLevels
-  pub few : RootsHaveFewNodes
-  pub labels : LabelsHaveRoom
-  pub nodes : NodesHaveRoom
-  pub words : RootWordsHaveRoom
-  pub said : CertificateIsSaid
 
 -- ---- Numbers of nodes
 
@@ -110,46 +106,46 @@ known_each items k (e ∷ es) stand shallow levels few labels = (
   known_each items k es stand.1 shallow.1 levels.1 few.1 labels.1,
 )
 
-section_known : Laws → (k : ℕ) (ds : Declarations) → section_fault ds ≡ None → declarations_size ds ≤ 60000 → declarations_height ds ≤ 200 → labels_suffice coding (core_of ds) → AllByRecursion IsKnown (entries_of k ds)
+section_known : (k : ℕ) (ds : Declarations) → section_fault ds ≡ None → declarations_size ds ≤ 60000 → declarations_height ds ≤ 200 → labels_suffice coding (core_of ds) → AllByRecursion IsKnown (entries_of k ds)
 unfolding coding
-section_known laws k ds faultless small nests labelled =
+section_known k ds faultless small nests labelled =
     let core = core_of ds in
-    known_each (section_items coding core) k (section_entries coding core) (entries_stand coding core) (laws.shallow coding ds nests)
-    (laws.levels Two (chosen Two) ds faultless) (laws.few Two (chosen Two) ds faultless (omega (arith, small))) (laws.labels coding core labelled)
+    known_each (section_items coding core) k (section_entries coding core) (entries_stand coding core) (roots_are_shallow coding ds nests)
+    (roots_have_levels Two (chosen Two) ds faultless) (roots_have_few_nodes Two (chosen Two) ds faultless (omega (arith, small))) (labels_have_room coding core labelled)
 
-sections_known : Laws → (files : List File) (mains : List ℕ) (k : ℕ) (sections : List Declarations) → AreAccepted files mains sections → AllByRecursion IsKnown (entries_from k sections)
-sections_known laws files [] k [] h = tt
-sections_known laws files [] k (ds ∷ sections) h = absurd h
-sections_known laws files (main ∷ mains) k [] h = absurd h
-sections_known laws files (main ∷ mains) k (ds ∷ sections) h =
+sections_known : (files : List File) (mains : List ℕ) (k : ℕ) (sections : List Declarations) → AreAccepted files mains sections → AllByRecursion IsKnown (entries_from k sections)
+sections_known files [] k [] h = tt
+sections_known files [] k (ds ∷ sections) h = absurd h
+sections_known files (main ∷ mains) k [] h = absurd h
+sections_known files (main ∷ mains) k (ds ∷ sections) h =
     let a = h.0 in
-    both IsKnown (entries_of k ds) (entries_from (k + 1) sections) (section_known laws k ds a.faultless a.is_section.small a.is_section.nests a.labelled) (sections_known laws files mains (k + 1) sections h.1)
+    both IsKnown (entries_of k ds) (entries_from (k + 1) sections) (section_known k ds a.faultless a.is_section.small a.is_section.nests a.labelled) (sections_known files mains (k + 1) sections h.1)
 
 -- ---- The certificate
 
 derived_of : Entry → Derived
 derived_of e = record { segment = e.segment; item = e.item; target = e.target; first = e.first; root = e.root; derivation = chosen Two e.root; bodies = e.bodies }
 
-has_room : Laws → (e : Entry) → IsKnown e → EntryIsSmall e → HasRoom (derived_of e)
+has_room : (e : Entry) → IsKnown e → EntryIsSmall e → HasRoom (derived_of e)
 unfolding derived_of
-has_room laws e k s =
-    let nodes = laws.nodes Two e.root (chosen Two e.root) k.levels (root_forms e.root s.root) k.shallow k.few in
+has_room e k s =
+    let nodes = nodes_have_room Two e.root (chosen Two e.root) k.levels (root_forms e.root s.root) k.shallow k.few in
     let l = k.labels in
     record {
       segment = s.segment;
       item = s.item;
       target = s.target;
       first = s.first;
-      words = laws.words e.root k.few;
+      words = root_words_have_room e.root k.few;
       labels = omega (arith, l);
       nodes = nodes.0;
       root = nodes.1;
       bodies = recursion_from_All (λ n. n < 2 ^ 64) e.bodies s.bodies;
     }
 
-rooms : Laws → (es : List Entry) → AllByRecursion IsKnown es → AllByRecursion EntryIsSmall es → AllByRecursion HasRoom (map derived_of es)
-rooms laws [] k s = tt
-rooms laws (e ∷ es) k s = (has_room laws e k.0 s.0, rooms laws es k.1 s.1)
+rooms : (es : List Entry) → AllByRecursion IsKnown es → AllByRecursion EntryIsSmall es → AllByRecursion HasRoom (map derived_of es)
+rooms [] k s = tt
+rooms (e ∷ es) k s = (has_room e k.0 s.0, rooms es k.1 s.1)
 
 fewest : (es : List Entry) → AllByRecursion HasFewest (map derived_of es)
 unfolding derived_of
@@ -170,14 +166,16 @@ small_each : (es : List code.Entry) → AllByRecursion IsSmallEntry es → AllBy
 small_each [] h = tt
 small_each (e ∷ es) h = (h.0, small_each es h.1)
 
-certified : Laws → (es : List Entry) → AllByRecursion IsKnown es → AllByRecursion EntryIsSmall es → length es < 2 ^ 64 → IsCertified es
-certified laws es k s n =
+certified : (es : List Entry) → AllByRecursion IsKnown es → AllByRecursion EntryIsSmall es → length es < 2 ^ 64 → IsCertified es
+certified es k s n =
     let long : length (map derived_of es) < 2 ^ 64 = subst (λ m. m < 2 ^ 64) (sym (length-map es derived_of)) n in
-    let said = laws.said (map derived_of es) (fewest es) (rooms laws es k s) long in
+    let said = certificate_is_said (map derived_of es) (fewest es) (rooms es k s) long in
     record { derived = map derived_of es; named = named_all es k; said = subst (λ js. Says (certificate (map derived_of es)) (record { table = Two; entries = js })) (judged_all es) said }
 
-pub built_certified : Laws → (files : List File) (mains : List ℕ) (built : Built) → IsBuilt files mains built → All IsSmallEntry built.entries.items → length built.entries.items < 2 ^ 64 → IsCertified (map entry_view built.entries.items)
-built_certified laws files mains built b small n =
-    let known = subst (AllByRecursion IsKnown) (sym b.entries) (sections_known laws files mains 0 b.sections b.accepted) in
-    let long : length (map entry_view built.entries.items) < 2 ^ 64 = subst (λ m. m < 2 ^ 64) (sym (length-map built.entries.items entry_view)) n in
-    certified laws (map entry_view built.entries.items) known (small_each built.entries.items (recursion_from_All IsSmallEntry built.entries.items small)) long
+-- of what was linked
+pub built_certified : (files : List File) (mains : List ℕ) (built : Built) → IsBuilt files mains built → (segments : List (List Item)) (entries : List code.Entry) → IsLinked segments entries built → IsCertified (map entry_view built.entries.items)
+built_certified files mains built b segments entries l =
+    let known = subst (AllByRecursion IsKnown) (sym b.entries) (sections_known files mains 0 b.sections b.accepted) in
+    let small : All IsSmallEntry built.entries.items = subst (All IsSmallEntry) (sym l.entries_are) l.small in
+    let long : length (map entry_view built.entries.items) < 2 ^ 64 = subst (λ m. m < 2 ^ 64) (sym (length-map built.entries.items entry_view ∙ ap length l.entries_are)) l.number in
+    certified (map entry_view built.entries.items) known (small_each built.entries.items (recursion_from_All IsSmallEntry built.entries.items small)) long

@@ -1,5 +1,5 @@
 -- That entries are code of least words, and that it stands in the segments.
-use Rattle.std.specs.Prelude.{ℕ, ◌≡◌, List, map, All}
+use Rattle.std.specs.Prelude.{◌≡◌, List, map, All}
 use Rattle.bc_item.specs.declared.item.Item.{Item}
 use Rattle.bc_derive.specs.declared.rule.Table.TheVariants.{Two}
 use Rattle.bc_derive.specs.Rules.{RootDerives, root_shape}

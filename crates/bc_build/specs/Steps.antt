@@ -1,5 +1,5 @@
 -- For proofs: how far a program was built.
-use Rattle.std.specs.Prelude.{ℕ, ◌≡◌, ◌<◌, List, ◌++◌, map, length, slice_index, All, Option, None}
+use Rattle.std.specs.Prelude.{ℕ, ◌≡◌, ◌<◌, ◌^◌, List, ◌++◌, map, length, slice_index, All, Option, None}
 use Rattle.bc_item.specs.declared.item.Item.{Item}
 use Rattle.bc_derive.specs.View.{entry as entry_view}
 use Rattle.bc_derive.specs.declared.entry.Entry as code
@@ -33,6 +33,7 @@ pub record IsLinked (segments : List (List Item)) (entries : List code.Entry) (b
   pub words : (i : ℕ) → slice_index built.image.words i < 65536
   pub items : All (All IsItem) segments
   pub small : All IsSmallEntry entries
+  pub number : length entries < 2 ^ 64
 
 -- why segments were not linked
 abbrev pub IsLinkRefusal : List (List Item) → BuildError → Type 0

@@ -68,7 +68,10 @@ fn expression_is_small(e: &CoreExp)
         CoreExp::Num(number) => {
             let _number = number.get();
         }
-        CoreExp::Frame(number) | CoreExp::Glob(number) | CoreExp::Place(number) | CoreExp::Valof(number) => {
+        CoreExp::Frame(number)
+        | CoreExp::Glob(number)
+        | CoreExp::Place(number)
+        | CoreExp::Valof(number) => {
             let _number = *number;
         }
         CoreExp::Load(part) | CoreExp::Neg(part) | CoreExp::Not(part) => expression_is_small(part),
@@ -101,7 +104,9 @@ fn root_is_small(root: &Root)
     ensures { RootIsSmall (root_view root.now) }
 {
     match root {
-        Root::Value { expression, .. } | Root::Test { expression, .. } => expression_is_small(expression),
+        Root::Value { expression, .. } | Root::Test { expression, .. } => expression_is_small(
+            expression,
+        ),
         Root::Assign { value, address, .. } => {
             expression_is_small(value);
             expression_is_small(address);

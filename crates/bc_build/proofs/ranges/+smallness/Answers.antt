@@ -1,5 +1,4 @@
 use Rattle.std.proofs.Common.{sym, ap, subst, ◌∙◌}
-use Rattle.std.proofs.lemmas.List.{take_all}
 use Rattle.bc_core.specs.View.{exp, args}
 use Rattle.bc_core.proofs.Rows.{call_view}
 use Rattle.bc_build.specs.Ranges.{AreSmall, AllAreSmall}
@@ -8,8 +7,7 @@ use Rattle.bc_build.proofs.ranges.+smallness.Goals as goal
 
 pub expression_is_small-returns-in-Call : goal.expression_is_small-returns-in-Call
 expression_is_small-returns-in-Call t c =
-    subst AreSmall (sym (ap exp c.in-Call.is ∙ call_view c.in-Call.arguments c.in-Call.routine))
-    (
+    subst AreSmall (sym (ap exp c.in-Call.is ∙ call_view c.in-Call.arguments c.in-Call.routine)) (
       subst (λ es. AllAreSmall (args es)) c.deref-in-Call.ensures.value c.arguments_are_small.ensures,
       subst (λ e. AreSmall (exp e)) c.deref-in-Call-2.ensures c.expression_is_small-in-Call.ensures,
     )
