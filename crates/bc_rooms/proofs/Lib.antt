@@ -1,5 +1,7 @@
+mod Throughout
 mod Depth
 mod Commands
+mod Emitted
 mod Things
 pub mod Shallow
 mod Marks
@@ -7,6 +9,8 @@ mod Frames
 mod Named
 mod Framed
 mod Tables
-mod Sections
-mod Labels
-mod Numbers
+pub mod Sections
+pub mod Labels
+pub mod Numbers
+pub mod Few
+pub mod Words
