@@ -1,28 +1,15 @@
 #!/usr/bin/env bash
 # The time of `lex` over a generated source of a million bytes, beside that of a C loop that only classifies the
 # bytes, and over one of half the length: the best of forty runs of each, taken in turn. Prints the rates and ratios.
-#
-# The program is built in a workspace of its own outside the repository, with copies of the crates, since it is
-# no crate of the repository: in $BENCH_WORK, or else in a folder of the system's for temporary files.
 set -eu
 cd "$(dirname "$0")"
-work=${BENCH_WORK:-${TMPDIR:-/tmp}/lex-bench}
-mkdir -p "$work/crates/lex_bench/src" "$work/crates/lex_bench/specs"
-for crate in bc_library bc_token bc_lex; do
-    mkdir -p "$work/crates/$crate"
-    cp -r ../../crates/"$crate"/. "$work/crates/$crate/"
-done
-cp lex.rt.in "$work/crates/lex_bench/src/main.rt"
-touch "$work/crates/lex_bench/specs/Lib.antt"
-cp ../../HANDLES "$work/"
-grep -E '^(bc_library|bc_token|bc_lex):' ../../crates.txt >"$work/crates.txt"
-echo 'lex_bench: anyhow bc_lex' >>"$work/crates.txt"
+. ../workspace.sh
+make_workspace lex_bench lex.rt.in anyhow bc_lex
 cc -O2 -o "$work/classify" classify.c
 python3 make_source.py 1000000 >"$work/whole"
 python3 make_source.py 500000 >"$work/half"
-(cd "$work/crates/lex_bench" && rt run <"$work/half" >"$work/log" 2>&1) || { cat "$work/log"; exit 1; }
+build_program <"$work/half"
 
-program="$work/crates/lex_bench/out/lex_bench"
 tokens=$("$program" <"$work/whole" | cut -d' ' -f2)
 whole=0 half=0 loop=0
 for _ in $(seq 40); do

@@ -2,29 +2,14 @@
 # The time of `parse` and of `spell` over a generated program of almost 60,000 tokens and over one of half as many: the
 # best of forty runs of each, taken in turn. Prints the rates and the ratios, then how much stack the deepest programs
 # that are accepted take, and then how many random programs the parser and the grammar answer otherwise (against_grammar.py).
-#
-# The program is built in a workspace of its own outside the repository, with copies of the crates, since it is
-# no crate of the repository: in $BENCH_WORK, or else in a folder of the system's for temporary files.
 set -eu
 cd "$(dirname "$0")"
-work=${BENCH_WORK:-${TMPDIR:-/tmp}/parse-bench}
-crates="bc_word bc_token bc_library bc_lex bc_tree bc_close bc_reading bc_canonical bc_parse bc_spell"
-mkdir -p "$work/crates/parse_bench/src" "$work/crates/parse_bench/specs"
-: >"$work/crates.txt"
-for crate in $crates; do
-    mkdir -p "$work/crates/$crate"
-    cp -r ../../crates/"$crate"/. "$work/crates/$crate/"
-    grep "^$crate:" ../../crates.txt >>"$work/crates.txt"
-done
-cp parse.rt.in "$work/crates/parse_bench/src/main.rt"
-touch "$work/crates/parse_bench/specs/Lib.antt"
-cp ../../HANDLES "$work/"
-echo 'parse_bench: anyhow bc_lex bc_parse bc_spell' >>"$work/crates.txt"
+. ../workspace.sh
+make_workspace parse_bench parse.rt.in anyhow bc_lex bc_parse bc_spell
 python3 make_program.py 59900 >"$work/whole"
 python3 make_program.py 29950 >"$work/half"
-(cd "$work/crates/parse_bench" && rt run <"$work/half" >"$work/log" 2>&1) || { cat "$work/log"; exit 1; }
+build_program <"$work/half"
 
-program="$work/crates/parse_bench/out/parse_bench"
 best="0 0 0 0"
 for _ in $(seq 40); do
     best=$(echo "$best $("$program" <"$work/whole") $("$program" <"$work/half")" | awk '{

@@ -1,21 +1,107 @@
 -- Names that are known, oldest first in the code and newest first in the definitions.
-use Rattle.std.proofs.Common.{◌≡◌, ℕ, ◌+◌, ◌<◌, refl, ap, ◌∙◌, sym, List, [], ◌∷◌, ◌++◌, length, get_or, take, true, false, nat_eq, ◌==◌, ◌&&◌}
-use Rattle.std.proofs.lemmas.List.{take_more}
-use Rattle.std.specs.Cmp.Lexicographic.{pointwise}
+use Rattle.std.proofs.Common.{◌≡◌, ℕ, ◌+◌, ◌<◌, refl, ap, ◌∙◌, sym, List, [], ◌∷◌, ◌++◌, length, get_or, take, ◌==◌, ◌&&◌, false, suc, arith}
+use Rattle.std.proofs.Math.Bool.{and-true, and-false, and_assoc}
+use Rattle.std.proofs.lemmas.List.{take_more, length-take-le}
+use Rattle.bc_names.specs.declared.scope.Border.{Border}
+use Rattle.bc_names.specs.declared.scope.Border.TheVariants as border
+use Rattle.bc_names.specs.declared.scope.Group.{Group}
 use Rattle.bc_names.specs.declared.scope.Named.{Named}
-use Rattle.bc_names.specs.View.{named_view, known_behind, meant_view}
-use Rattle.bc_names.specs.Crossing.{outer, outside}
+use Rattle.bc_names.specs.View.{known_over, groups_over, meant_view}
+use Rattle.bc_names.specs.Crossing.{outer, outside, over, joined, all_over}
 use Rattle.bc_scoping.specs.Scope.{Env, Name, is_name, meant_by, Meant, Constant, Pending, Static, Global, Routine, Variable, Label, OuterVariable, OuterLabel, LabelOutside, Undeclared}
 use Rattle.bc_scoping.specs.Scoping.{in_routine, in_valof}
 
-pub known_push : (E : Env) (ns : List Named) (n : Named) → known_behind E (ns ++ n ∷ []) ≡ named_view n ∷ known_behind E ns
-known_push E [] n = refl
-known_push E (m ∷ ns) n = known_push (named_view m ∷ E) ns n
+pub known_push : (b : Border) (E : Env) (ns : List Named) (n : Named) → known_over b E (ns ++ n ∷ []) ≡ (n.name.now, over b (meant_view n.meant)) ∷ known_over b E ns
+known_push b E [] n = refl
+known_push b E (m ∷ ns) n = known_push b ((m.name.now, over b (meant_view m.meant)) ∷ E) ns n
 
-pub known_take : (ns : List Named) (i : ℕ) (n : Named) → i < length ns → known_behind [] (take (i + 1) ns) ≡ named_view (get_or ns i n) ∷ known_behind [] (take i ns)
-known_take ns i n h = ap (known_behind []) (take_more ns i n h) ∙ known_push [] (take i ns) (get_or ns i n)
+pub known_take : (b : Border) (E : Env) (ns : List Named) (i : ℕ) (n : Named) → i < length ns → known_over b E (take (i + 1) ns) ≡ ((get_or ns i n).name.now, over b (meant_view (get_or ns i n).meant)) ∷ known_over b E (take i ns)
+known_take b E ns i n h = ap (known_over b E) (take_more ns i n h) ∙ known_push b E (take i ns) (get_or ns i n)
 
-pub routine_entry : (n : Name) (m : Meant) (E : Env) → in_routine ((n, m) ∷ E) ≡ (n, outer m) ∷ in_routine E
+pub groups_push : (E : Env) (gs : List Group) (g : Group) → groups_over E (gs ++ g ∷ []) ≡ known_over g.border (groups_over E gs) g.names.value.items
+groups_push E [] g = refl
+groups_push E (h ∷ gs) g = groups_push (known_over h.border E h.names.value.items) gs g
+
+pub groups_take : (gs : List Group) (i : ℕ) (g : Group) → i < length gs → groups_over [] (take (i + 1) gs) ≡ known_over (get_or gs i g).border (groups_over [] (take i gs)) (get_or gs i g).names.value.items
+groups_take gs i g h = ap (groups_over []) (take_more gs i g h) ∙ groups_push [] (take i gs) (get_or gs i g)
+
+-- what a name means by the groups up to one, where it is known what it means by that one
+pub group_found : (gs : List Group) (i : ℕ) (g : Group) (ns : List Named) (n : Name) (m : Meant) → i < length gs → g ≡ get_or gs i g → ns ≡ g.names.value.items → meant_by (known_over g.border (groups_over [] (take i gs)) ns) n ≡ m → meant_by (groups_over [] (take (i + 1) gs)) n ≡ m
+group_found gs i g ns n m h eg ens e =
+    let E = groups_over [] (take i gs) in
+    ap (λ F. meant_by F n) (groups_take gs i g h) ∙ ap (λ y. meant_by (known_over y.border E y.names.value.items) n) (sym eg) ∙ ap (λ l. meant_by (known_over g.border E l) n) (sym ens) ∙ e
+
+-- a border over which nothing more is seen otherwise
+outer_outer : (m : Meant) → outer (outer m) ≡ outer m
+outer_outer (Constant w) = refl
+outer_outer Pending = refl
+outer_outer (Static w) = refl
+outer_outer (Global w) = refl
+outer_outer (Routine w) = refl
+outer_outer (Variable w) = refl
+outer_outer (Label w) = refl
+outer_outer OuterVariable = refl
+outer_outer OuterLabel = refl
+outer_outer LabelOutside = refl
+outer_outer Undeclared = refl
+
+outer_outside : (m : Meant) → outer (outside m) ≡ outer m
+outer_outside (Constant w) = refl
+outer_outside Pending = refl
+outer_outside (Static w) = refl
+outer_outside (Global w) = refl
+outer_outside (Routine w) = refl
+outer_outside (Variable w) = refl
+outer_outside (Label w) = refl
+outer_outside OuterVariable = refl
+outer_outside OuterLabel = refl
+outer_outside LabelOutside = refl
+outer_outside Undeclared = refl
+
+outside_outer : (m : Meant) → outside (outer m) ≡ outer m
+outside_outer (Constant w) = refl
+outside_outer Pending = refl
+outside_outer (Static w) = refl
+outside_outer (Global w) = refl
+outside_outer (Routine w) = refl
+outside_outer (Variable w) = refl
+outside_outer (Label w) = refl
+outside_outer OuterVariable = refl
+outside_outer OuterLabel = refl
+outside_outer LabelOutside = refl
+outside_outer Undeclared = refl
+
+outside_outside : (m : Meant) → outside (outside m) ≡ outside m
+outside_outside (Constant w) = refl
+outside_outside Pending = refl
+outside_outside (Static w) = refl
+outside_outside (Global w) = refl
+outside_outside (Routine w) = refl
+outside_outside (Variable w) = refl
+outside_outside (Label w) = refl
+outside_outside OuterVariable = refl
+outside_outside OuterLabel = refl
+outside_outside LabelOutside = refl
+outside_outside Undeclared = refl
+
+pub over_joined : (b c : Border) (m : Meant) → over c (over b m) ≡ over (joined b c) m
+over_joined border.Open c m = refl
+over_joined border.Valof border.Open m = refl
+over_joined border.Valof border.Valof m = outside_outside m
+over_joined border.Valof border.Routine m = outer_outside m
+over_joined border.Routine border.Open m = refl
+over_joined border.Routine border.Valof m = outside_outer m
+over_joined border.Routine border.Routine m = outer_outer m
+
+pub known_carried : (b c : Border) (E : Env) (ns : List Named) → known_over (joined b c) (all_over c E) ns ≡ all_over c (known_over b E ns)
+known_carried b c E [] = refl
+known_carried b c E (n ∷ ns) = ap (λ m. known_over (joined b c) ((n.name.now, m) ∷ all_over c E) ns) (sym (over_joined b c (meant_view n.meant))) ∙ known_carried b c ((n.name.now, over b (meant_view n.meant)) ∷ E) ns
+
+pub all_open : (E : Env) → all_over border.Open E ≡ E
+all_open [] = refl
+all_open (e ∷ E) = ap (λ F. e ∷ F) (all_open E)
+
+routine_entry : (n : Name) (m : Meant) (E : Env) → in_routine ((n, m) ∷ E) ≡ (n, outer m) ∷ in_routine E
 routine_entry n (Constant w) E = refl
 routine_entry n Pending E = refl
 routine_entry n (Static w) E = refl
@@ -28,7 +114,7 @@ routine_entry n OuterLabel E = refl
 routine_entry n LabelOutside E = refl
 routine_entry n Undeclared E = refl
 
-pub valof_entry : (n : Name) (m : Meant) (E : Env) → in_valof ((n, m) ∷ E) ≡ (n, outside m) ∷ in_valof E
+valof_entry : (n : Name) (m : Meant) (E : Env) → in_valof ((n, m) ∷ E) ≡ (n, outside m) ∷ in_valof E
 valof_entry n (Constant w) E = refl
 valof_entry n Pending E = refl
 valof_entry n (Static w) E = refl
@@ -41,17 +127,26 @@ valof_entry n OuterLabel E = refl
 valof_entry n LabelOutside E = refl
 valof_entry n Undeclared E = refl
 
-pub same_name : (cs bs : List ℕ) → is_name cs bs ≡ pointwise nat_eq cs bs
-same_name [] [] = refl
-same_name [] (b ∷ bs) = refl
-same_name (a ∷ cs) [] = refl
-same_name (a ∷ cs) (b ∷ bs) = ap (λ t. (a == b) && t) (same_name cs bs)
+pub all_outer : (E : Env) → all_over border.Routine E ≡ in_routine E
+all_outer [] = refl
+all_outer (e ∷ E) = ap (λ F. (e.0, outer e.1) ∷ F) (all_outer E) ∙ sym (routine_entry e.0 e.1 E)
 
-pub newest : (ns : List Named) (i : ℕ) (n : Name) (x : Named) → i < length ns → x ≡ get_or ns i x → meant_by (known_behind [] (take (i + 1) ns)) n ≡ meant_by (named_view x ∷ known_behind [] (take i ns)) n
-newest ns i n x h e = ap (λ E. meant_by E n) (known_take ns i x h) ∙ ap (λ y. meant_by (named_view y ∷ known_behind [] (take i ns)) n) (sym e)
+pub all_outside : (E : Env) → all_over border.Valof E ≡ in_valof E
+all_outside [] = refl
+all_outside (e ∷ E) = ap (λ F. (e.0, outside e.1) ∷ F) (all_outside E) ∙ sym (valof_entry e.0 e.1 E)
 
-pub met_name : (E : Env) (n : Name) (x : Named) → pointwise nat_eq x.name.now n ≡ true → meant_by (named_view x ∷ E) n ≡ meant_view x.meant
-met_name E n x e = rw (same_name x.name.now n ∙ e) refl
+spelled_push : (a b : Name) (p q : ℕ) → length a ≡ length b → is_name (a ++ p ∷ []) (b ++ q ∷ []) ≡ (is_name a b && (p == q))
+spelled_push [] [] p q h = and-true (p == q)
+spelled_push [] (y ∷ b) p q h = absurd (omega arith)
+spelled_push (x ∷ a) [] p q h = absurd (omega arith)
+spelled_push (x ∷ a) (y ∷ b) p q h = ap (λ t. (x == y) && t) (spelled_push a b p q (omega arith)) ∙ sym (and_assoc (x == y) (is_name a b) (p == q))
 
-pub other_name : (E : Env) (n : Name) (x : Named) → pointwise nat_eq x.name.now n ≡ false → meant_by (named_view x ∷ E) n ≡ meant_by E n
-other_name E n x e = rw (same_name x.name.now n ∙ e) refl
+pub spelled_take : (a b : Name) (i : ℕ) → i < length a → length a ≡ length b → is_name (take (i + 1) a) (take (i + 1) b) ≡ (is_name (take i a) (take i b) && (get_or a i 0 == get_or b i 0))
+spelled_take a b i h e =
+    ap (λ t. is_name t (take (i + 1) b)) (take_more a i 0 h) ∙ ap (λ t. is_name (take i a ++ get_or a i 0 ∷ []) t) (take_more b i 0 (omega arith)) ∙ spelled_push (take i a) (take i b) (get_or a i 0) (get_or b i 0) (length-take-le i a (omega arith) ∙ sym (length-take-le i b (omega arith)))
+
+pub other_length : (a b : Name) → ¬ (length a ≡ length b) → is_name a b ≡ false
+other_length [] [] h = absurd (h refl)
+other_length [] (y ∷ b) h = refl
+other_length (x ∷ a) [] h = refl
+other_length (x ∷ a) (y ∷ b) h = ap (λ t. (x == y) && t) (other_length a b (λ e. h (ap suc e))) ∙ and-false (x == y)

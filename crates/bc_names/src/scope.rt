@@ -1,11 +1,16 @@
-ghost use Rattle.std.specs.Prelude.{◌≡◌, [], ◌∷◌, IfOk};
-ghost use Rattle.bc_scoping.specs.Scope.{meant_by};
+ghost use Rattle.std.specs.Prelude.{◌≡◌, [], ◌∷◌, IfOk, List};
+ghost use Rattle.bc_scoping.specs.Scope.{Env, is_name, meant_by};
 ghost use Rattle.bc_scoping.specs.Scoping.{in_routine, in_valof};
-ghost use Rattle.bc_names.specs.View.{meant_view, scope_view};
-ghost use Rattle.bc_names.specs.Crossing.{outer, outside};
+ghost use Rattle.bc_names.specs.View.{meant_view, scope_view, known_over, groups_over, found_or};
+ghost use Rattle.bc_names.specs.Crossing.{outer, outside, joined, over, all_over};
 
 use bc_word::Memory;
 use std::alloc::Global;
+use std::mem;
+use std::rc::Rc;
+
+/// How many of its newest names a scope has for itself. The older ones are shared with the scopes that it was copied from.
+const OWN: usize = 32;
 
 /// What a name means where it stands.
 #[derive(Clone, Copy, Debug, PartialEq, Eq)]
@@ -39,11 +44,27 @@ pub struct Named<'s> {
     pub meant: Meant,
 }
 
+/// What stands between a name and the place where it is seen.
+#[derive(Clone, Copy, Debug, PartialEq, Eq)]
+enum Border {
+    Open,
+    Valof,
+    Routine,
+}
+
+/// Names that scopes share, oldest first, and what stands between them and this scope's place.
+#[derive(Drop)]
+struct Group<'s> {
+    names: Rc<Vec<Named<'s>>>,
+    border: Border,
+}
+
 /// The names that are known at a place, oldest first; a later one hides an earlier one.
-#[derive(Debug, Drop)]
+#[derive(Drop)]
 pub struct Scope<'s> {
     alloc: Global,
-    names: Vec<Named<'s>>,
+    groups: Vec<Group<'s>>,
+    newest: Vec<Named<'s>>,
 }
 
 impl<'s> Scope<'s> {
@@ -54,7 +75,8 @@ impl<'s> Scope<'s> {
     {
         Scope {
             alloc,
-            names: Vec::new(alloc),
+            groups: Vec::new(alloc),
+            newest: Vec::new(alloc),
         }
     }
 
@@ -63,75 +85,169 @@ impl<'s> Scope<'s> {
         self.alloc
     }
 
+    /// The newest names become a group that may be shared.
+    #[tactic(auto, unfolding(crate::specs::View::scope_view), using(crate::proofs::Names::groups_push))]
+    fn share(&mut self) -> Result<(), Memory>
+        ensures { IfOk result (λ _. scope_view self.new ≡ scope_view self.old) }
+    {
+        let none = Vec::with_capacity(self.alloc, OWN)?;
+        let names = mem::replace(&mut self.newest, none);
+        self.groups.push(Group {
+            names: Rc::new(self.alloc, names)?,
+            border: Border::Open,
+        })?;
+        Ok(())
+    }
+
     /// One name more.
     #[tactic(auto, unfolding(crate::specs::View::scope_view), using(crate::proofs::Names::known_push))]
     pub fn declare(&mut self, name: &'s [u8], meant: Meant) -> Result<(), Memory>
         ensures { IfOk result (λ _. scope_view self.new ≡ (name.entry.now, meant_view meant) ∷ scope_view self.old) }
     {
-        Ok(self.names.push(Named { name, meant })?)
+        if self.newest.len() >= OWN {
+            self.share()?;
+        }
+        Ok(self.newest.push(Named { name, meant })?)
     }
 
     /// What a name means.
-    #[tactic(auto, unfolding(crate::specs::View::scope_view), using(crate::proofs::Names::known_take))]
+    #[tactic(auto, unfolding(crate::specs::View::scope_view), using(crate::proofs::Names::groups_take))]
     pub fn meant_by(&self, name: &[u8]) -> Meant
         ensures { meant_view result ≡ meant_by (scope_view self.now) name.now }
     {
-        let mut i = self.names.len();
+        if let Some(meant) = find(&self.newest, Border::Open, name) {
+            return meant;
+        }
+        let mut i = self.groups.len();
         while i > 0 {
             i -= 1;
-            let named = self.names[i];
-            if named.name == name {
-                return named.meant;
+            let group = &self.groups[i];
+            if let Some(meant) = find(&group.names, group.border, name) {
+                return meant;
             }
         }
         Meant::Undeclared
     }
 
-    /// The same names once more.
+    /// The shared names as they are seen over a border more.
+    #[tactic(auto, using(crate::proofs::Names::groups_push, crate::proofs::Names::groups_take, crate::proofs::Names::known_carried))]
+    fn groups_over(&self, border: Border) -> Result<Vec<Group<'s>>, Memory>
+        ensures { IfOk result (λ gs. groups_over [] gs.items ≡ all_over border (groups_over [] self.now.groups.items)) }
+    {
+        let mut groups = Vec::with_capacity(self.alloc, self.groups.len())?;
+        for group in &self.groups {
+            groups.push(Group {
+                names: group.names.clone()?,
+                border: joined(group.border, border),
+            })?;
+        }
+        Ok(groups)
+    }
+
+    /// The newest names as they are seen over a border.
+    #[tactic(auto, using(crate::proofs::Names::known_push, crate::proofs::Names::known_take))]
+    fn newest_over(&self, border: Border) -> Result<Vec<Named<'s>>, Memory>
+        ensures { IfOk result (λ ns. (E : Env) → known_over Border.Open (all_over border E) ns.items ≡ all_over border (known_over Border.Open E self.now.newest.items)) }
+    {
+        let mut newest = Vec::with_capacity(self.alloc, OWN)?;
+        for named in &self.newest {
+            newest.push(Named {
+                name: named.name,
+                meant: meant_over(border, named.meant),
+            })?;
+        }
+        Ok(newest)
+    }
+
+    /// The same names as they are seen over a border.
     #[tactic(auto, unfolding(crate::specs::View::scope_view))]
+    fn seen_over(&self, border: Border) -> Result<Scope<'s>, Memory>
+        ensures { IfOk result (λ s. scope_view s ≡ all_over border (scope_view self.now)) }
+    {
+        Ok(Scope {
+            alloc: self.alloc,
+            groups: self.groups_over(border)?,
+            newest: self.newest_over(border)?,
+        })
+    }
+
+    /// The same names once more.
+    #[tactic(auto, using(crate::proofs::Names::all_open))]
     pub fn copied(&self) -> Result<Scope<'s>, Memory>
         ensures { IfOk result (λ s. scope_view s ≡ scope_view self.now) }
     {
-        Ok(Scope {
-            alloc: self.alloc,
-            names: Vec::from_slice(self.alloc, &self.names)?,
-        })
+        self.seen_over(Border::Open)
     }
 
     /// The same names as they are known in a routine that stands here.
-    #[tactic(auto, unfolding(crate::specs::View::scope_view), using(crate::proofs::Names::known_push, crate::proofs::Names::known_take, crate::proofs::Names::routine_entry))]
+    #[tactic(auto, using(crate::proofs::Names::all_outer))]
     pub fn in_routine(&self) -> Result<Scope<'s>, Memory>
         ensures { IfOk result (λ s. scope_view s ≡ in_routine (scope_view self.now)) }
     {
-        let mut names = Vec::with_capacity(self.alloc, self.names.len())?;
-        for named in &self.names {
-            names.push(Named {
-                name: named.name,
-                meant: meant_in_routine(named.meant),
-            })?;
-        }
-        Ok(Scope {
-            alloc: self.alloc,
-            names,
-        })
+        self.seen_over(Border::Routine)
     }
 
     /// The same names as they are known in a VALOF that stands here.
-    #[tactic(auto, unfolding(crate::specs::View::scope_view), using(crate::proofs::Names::known_push, crate::proofs::Names::known_take, crate::proofs::Names::valof_entry))]
+    #[tactic(auto, using(crate::proofs::Names::all_outside))]
     pub fn in_valof(&self) -> Result<Scope<'s>, Memory>
         ensures { IfOk result (λ s. scope_view s ≡ in_valof (scope_view self.now)) }
     {
-        let mut names = Vec::with_capacity(self.alloc, self.names.len())?;
-        for named in &self.names {
-            names.push(Named {
-                name: named.name,
-                meant: meant_in_valof(named.meant),
-            })?;
+        self.seen_over(Border::Valof)
+    }
+}
+
+/// What the newest of these names that is spelled so means, seen over a border.
+#[tactic(auto, using(crate::proofs::Names::known_take))]
+fn find(names: &[Named<'_>], border: Border, name: &[u8]) -> Option<Meant>
+    ensures { (E : Env) → meant_by (known_over border E names.now) name.now ≡ found_or (meant_by E name.now) result }
+{
+    let mut i = names.len();
+    while i > 0 {
+        i -= 1;
+        let named = names[i];
+        if is_spelled(named.name, name) {
+            return Some(meant_over(border, named.meant));
         }
-        Ok(Scope {
-            alloc: self.alloc,
-            names,
-        })
+    }
+    None
+}
+
+/// Whether two names are the same. Names of one length differ mostly at their end, so that is compared first.
+#[tactic(auto, using(crate::proofs::Names::other_length, crate::proofs::Names::spelled_take))]
+fn is_spelled(left: &[u8], right: &[u8]) -> bool
+    ensures { result ≡ is_name left.now right.now }
+{
+    if left.len() != right.len() {
+        return false;
+    }
+    let mut i = left.len();
+    while i > 0 {
+        i -= 1;
+        if left[i] != right[i] {
+            return false;
+        }
+    }
+    true
+}
+
+/// Two borders, one behind the other.
+fn joined(first: Border, second: Border) -> Border
+    ensures { result ≡ joined first second }
+{
+    match (first, second) {
+        (Border::Routine, _) | (_, Border::Routine) => Border::Routine,
+        (Border::Valof, _) | (_, Border::Valof) => Border::Valof,
+        (Border::Open, Border::Open) => Border::Open,
+    }
+}
+
+fn meant_over(border: Border, meant: Meant) -> Meant
+    ensures { meant_view result ≡ over border (meant_view meant) }
+{
+    match border {
+        Border::Open => meant,
+        Border::Valof => meant_in_valof(meant),
+        Border::Routine => meant_in_routine(meant),
     }
 }
 

@@ -1,24 +1,17 @@
-use Rattle.std.proofs.Common.{arith, sym, ◌∙◌, ◌-◌, ◌+◌, ◌≡◌, [], ap, take}
+use Rattle.std.proofs.Common.{arith, rules, sym, ◌∙◌, ◌-◌, ◌+◌, ◌≡◌, [], ap, take}
 use Rattle.bc_scoping.specs.Scope.{meant_by}
-use Rattle.bc_names.specs.View.{scope_view, known_behind}
-use Rattle.bc_names.proofs.Names.{newest, met_name, other_name}
+use Rattle.bc_names.specs.declared.scope.Border.TheVariants as border
+use Rattle.bc_names.specs.View.{scope_view, groups_over, known_over, meant_view}
+use Rattle.bc_names.proofs.Names.{group_found}
 use Rattle.bc_names.proofs.scope.Scope.meant_by.Goals as goal
 
-pub returns-then-eq : goal.returns-then-eq
+pub returns-in-Some-find : goal.returns-in-Some-find
 unfolding scope_view
-returns-then-eq c =
+returns-in-Some-find c =
+    let gs = c.args.self.now.groups.items in
+    let n = c.args.name.now in
     let i : c.loop-i.i - 1 + 1 ≡ c.loop-i.i = omega arith in
-    let ns = c.args.self.now.names.items in
-    let e = newest ns (c.loop-i.i - 1) c.args.name.now c.index.result.now (omega arith) c.index.ensures in
-    let e1 = ap (λ k. meant_by (known_behind [] (take k ns)) c.args.name.now) i in
-    let m = met_name (known_behind [] (take (c.loop-i.i - 1) ns)) c.args.name.now c.index.result.now (sym c.eq.ensures ∙ c.if-eq.true) in
-    sym m ∙ sym e ∙ e1 ∙ c.loop-i.invariant.1
-
-pub loop-i-preserved : goal.loop-i-preserved
-loop-i-preserved c =
-    let i : c.loop-i.i - 1 + 1 ≡ c.loop-i.i = omega arith in
-    let ns = c.args.self.now.names.items in
-    let e = newest ns (c.loop-i.i - 1) c.args.name.now c.index.result.now (omega arith) c.index.ensures in
-    let e1 = ap (λ k. meant_by (known_behind [] (take k ns)) c.args.name.now) i in
-    let m = other_name (known_behind [] (take (c.loop-i.i - 1) ns)) c.args.name.now c.index.result.now (sym c.eq.ensures ∙ c.if-eq.false) in
-    (omega arith, sym m ∙ sym e ∙ e1 ∙ c.loop-i.invariant.1)
+    let e = ap (λ k. meant_by (groups_over [] (take k gs)) n) i in
+    let m = group_found gs (c.loop-i.i - 1) c.index-group.result.now c.deref-in-loop-i-2.result.now n (meant_view c.in-Some-find.meant) (omega arith) c.index-group.ensures (search rules) (c.in-Some-find.ensures (groups_over [] (take (c.loop-i.i - 1) gs))) in
+    let own = ap (λ ns. meant_by (known_over border.Open (groups_over [] gs) ns) n) c.deref.ensures.value in
+    sym m ∙ e ∙ c.loop-i.invariant.1 ∙ sym (c.in_default.ensures (groups_over [] gs)) ∙ own

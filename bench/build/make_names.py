@@ -1,0 +1,47 @@
+#!/usr/bin/env python3
+"""make_names.py KIND TOKENS: a BCPL section of about so many tokens that asks much of scopes. Kinds: constants (many names of one scope, each
+used once), routines (many routines, each with a block), blocks (many blocks with a VALOF behind many names), nested (190 routines one
+within another with the same number of parameters each)."""
+import sys
+
+DEPTH = 190
+
+
+def constants(tokens):
+    names = tokens // 8
+    yield "MANIFEST $( " + "; ".join(f"NAME{k}={k}" for k in range(names)) + " $)"
+    yield "LET F(A) BE $("
+    for k in range(names):
+        yield f"A := NAME{k * 7 % names}"
+    yield "$)"
+
+
+def routines(tokens):
+    for k in range(tokens // 18):
+        yield f"LET F{k}(A) BE $( LET B = A; A := B $)"
+
+
+def blocks(tokens):
+    names = tokens // 20
+    yield "MANIFEST $( " + "; ".join(f"NAME{k}={k}" for k in range(names)) + " $)"
+    yield "LET F(A) BE $("
+    for k in range(names):
+        yield f"$( LET B = NAME{k}; A := VALOF RESULTIS B $)"
+    yield "$)"
+
+
+def nested(tokens):
+    names = tokens // (2 * DEPTH) - 3
+    for k in range(DEPTH):
+        yield f"LET G{k}(" + ",".join(f"N{k}X{i}" for i in range(names)) + ") BE $("
+    yield f"N{DEPTH - 1}X0 := N{DEPTH - 1}X1"
+    yield "$)" * DEPTH
+
+
+def main():
+    kinds = {"constants": constants, "routines": routines, "blocks": blocks, "nested": nested}
+    for line in kinds[sys.argv[1]](int(sys.argv[2])):
+        print(line)
+
+
+main()
