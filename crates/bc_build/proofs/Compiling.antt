@@ -7,6 +7,7 @@ use Rattle.bc_derive.specs.View.{entry as entry_view}
 use Rattle.bc_derive.specs.declared.entry.Entry as code
 use Rattle.bc_tree.specs.Tree.{Declarations}
 use Rattle.bc_tree.specs.Size.{declarations_size}
+use Rattle.bc_tree.specs.Height.{declarations_height}
 use Rattle.bc_lex.specs.Files.{File}
 use Rattle.bc_lex.specs.Tokens.{HasTokens}
 use Rattle.bc_parse.specs.Parsing.{parsed, TokensSpell}
@@ -30,13 +31,14 @@ pub record Parsed (files : List File) (main : ℕ) (tokens : List Lexeme) (secti
   pub only : (others : List Lexeme) → HasTokens files main others → tokens ≡ others
   pub spelled : TokensSpell tokens section
   pub size : declarations_size section ≤ length tokens
+  pub nests : declarations_height section ≤ 200
   pub read : parsed tokens ≡ Ok section
 
 same_section : (x y : Declarations) (r : Result Declarations ParseError) → r ≡ Ok x → r ≡ Ok y → x ≡ y
 same_section x y r h k = let e : Ok x ≡ Ok y = sym h ∙ k in cc
 
 pub is_section : (files : List File) (main : ℕ) (tokens : List Lexeme) (section : Declarations) → Parsed files main tokens section → IsSection files main tokens section
-is_section files main tokens section p = let a = p.few in let b = p.size in record { lexed = p.lexed; read = p.read; spelled = p.spelled; small = omega (arith, a, b) }
+is_section files main tokens section p = let a = p.few in let b = p.size in record { lexed = p.lexed; read = p.read; spelled = p.spelled; small = omega (arith, a, b); nests = p.nests }
 
 only_section : (files : List File) (main : ℕ) (tokens : List Lexeme) (section other : Declarations) → Parsed files main tokens section → IsAccepted files main other → other ≡ section
 only_section files main tokens section other p o =

@@ -24,7 +24,8 @@ use Rattle.bc_certificate.specs.Verdict.{Judged}
 use Rattle.bc_certificate.specs.Against.{Passes, an_item, a_body, Stands, nothing_more, one_more, extent, LiesIn, StandsIn, Fit}
 use Rattle.bc_gen.specs.Chosen.{coding}
 use Rattle.bc_build.specs.Code.{items_of, in_segment, entries_of, entries_from}
-use Rattle.bc_build.specs.Least.{counted, IsLeast, judged, AreLeast}
+use Rattle.bc_verdict.specs.Written.{with_bodies}
+use Rattle.bc_build.specs.Least.{IsLeast, judged, AreLeast}
 
 -- ---- Code that stands among items
 
@@ -34,14 +35,14 @@ body_passes count is h =
     subst (λ items. P count items) (take-append-drop count is)
     (subst (λ n. P n (take count is ++ drop count is)) (length-take-le count is h) (a_body (take count is)))
 
-begin_stands : (ps : List Piece) (counts : List ℕ) (is : List Item) → Begin ps counts is → Stands (counted ps counts) is
+begin_stands : (ps : List Piece) (counts : List ℕ) (is : List Item) → Begin ps counts is → Stands (with_bodies ps counts) is
 begin_stands [] counts is h = nothing_more
 begin_stands (pieces.Item i ∷ ps) counts [] h = absurd h
 begin_stands (pieces.Item i ∷ ps) counts (j ∷ is) h = one_more (subst (λ x. Passes (pieces.Item i) (x ∷ is) is) h.0 an_item) (begin_stands ps counts is h.1)
 begin_stands (pieces.Body n ∷ ps) [] is h = absurd h
 begin_stands (pieces.Body n ∷ ps) (count ∷ counts) is h = one_more (body_passes count is h.0) (begin_stands ps counts (drop count is) h.1)
 
-begin_extent : (ps : List Piece) (counts : List ℕ) (is : List Item) → Begin ps counts is → extent (counted ps counts) ≤ length is
+begin_extent : (ps : List Piece) (counts : List ℕ) (is : List Item) → Begin ps counts is → extent (with_bodies ps counts) ≤ length is
 begin_extent [] counts is h = omega arith
 begin_extent (pieces.Item i ∷ ps) counts [] h = absurd h
 begin_extent (pieces.Item i ∷ ps) counts (j ∷ is) h = let r = begin_extent ps counts is h.1 in omega (arith, r)

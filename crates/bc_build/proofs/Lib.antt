@@ -1,7 +1,9 @@
 pub mod Compiling
 pub mod Small
+pub mod Arguments
 pub mod Coded
 pub mod Running
 pub mod Fitting
+pub mod Certifying
 pub mod Reading
 pub mod Facts

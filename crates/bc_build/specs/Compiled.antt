@@ -5,18 +5,20 @@ use Rattle.bc_lex.specs.Files.{File}
 use Rattle.bc_lex.specs.Tokens.{HasTokens}
 use Rattle.bc_tree.specs.Tree.{Declarations}
 use Rattle.bc_tree.specs.Size.{declarations_size}
+use Rattle.bc_tree.specs.Height.{declarations_height}
 use Rattle.bc_parse.specs.Parsing.{parsed, TokensSpell}
 use Rattle.bc_scoping.specs.Faults.{section_fault}
 use Rattle.bc_emit.specs.Section.{labels_suffice}
 use Rattle.bc_scoping.specs.Found.{core_of}
 use Rattle.bc_gen.specs.Chosen.{coding}
 
--- the source has these tokens, and they spell this section, which is no greater than any that is parsed
+-- the source has these tokens, and they spell this section, which is no greater and nests no deeper than any that is parsed
 pub record IsSection (files : List File) (main : ℕ) (tokens : List Lexeme) (section : Declarations) : Type 0 where
   pub lexed : HasTokens files main tokens
   pub read : parsed tokens ≡ Ok section
   pub spelled : TokensSpell tokens section
   pub small : declarations_size section ≤ 60000
+  pub nests : declarations_height section ≤ 200
 
 -- the source is this section, which has no fault, and its labels suffice
 pub record IsAccepted (files : List File) (main : ℕ) (section : Declarations) : Type 0 where

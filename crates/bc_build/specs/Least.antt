@@ -1,9 +1,7 @@
 -- That entries are code of least words, and that it stands in the segments.
-use Rattle.std.specs.Prelude.{ℕ, ◌≡◌, List, [], ◌∷◌, map, All}
+use Rattle.std.specs.Prelude.{◌≡◌, List, map, All}
 use Rattle.bc_item.specs.declared.item.Item.{Item}
 use Rattle.bc_derive.specs.declared.rule.Table.TheVariants.{Two}
-use Rattle.bc_derive.specs.declared.piece.Piece.{Piece}
-use Rattle.bc_derive.specs.declared.piece.Piece.TheVariants as pieces
 use Rattle.bc_derive.specs.Rules.{RootDerives, root_shape}
 use Rattle.bc_derive.specs.Code.{root_code, root_cost}
 use Rattle.bc_derive.specs.Entry.{Entry}
@@ -11,13 +9,7 @@ use Rattle.bc_least.specs.Least.{RootIsLeast, RootHasLeastParts}
 use Rattle.bc_least.specs.Chosen.{chosen}
 use Rattle.bc_certificate.specs.Verdict.{Judged}
 use Rattle.bc_certificate.specs.Against.{StandsIn, Fit}
-
--- pieces, where in place of a VALOF's number a body has its number of items
-abbrev pub counted : List Piece → List ℕ → List Piece
-counted [] counts = []
-counted (pieces.Item i ∷ ps) counts = pieces.Item i ∷ counted ps counts
-counted (pieces.Body n ∷ ps) [] = pieces.Body 0 ∷ counted ps []
-counted (pieces.Body n ∷ ps) (count ∷ counts) = pieces.Body count ∷ counted ps counts
+use Rattle.bc_verdict.specs.Written.{with_bodies}
 
 -- what a certificate says of an entry by this derivation
 abbrev pub judged_by : (e : Entry) → RootDerives Two e.root → Judged
@@ -27,7 +19,7 @@ judged_by e d = record {
   root = e.root;
   target = e.target;
   first = e.first;
-  code = counted (root_code d e.target e.first) e.bodies;
+  code = with_bodies (root_code d e.target e.first) e.bodies;
   words = root_cost d;
 }
 

@@ -3,7 +3,9 @@ pub mod Code
 pub mod Built
 pub mod Refused
 pub mod Steps
+pub mod Ranges
 pub mod Runs
 pub mod Least
+pub mod Certified
 pub mod Size
 pub mod Text

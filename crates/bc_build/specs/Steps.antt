@@ -1,5 +1,5 @@
 -- For proofs: how far a program was built.
-use Rattle.std.specs.Prelude.{ℕ, ◌≡◌, ◌<◌, List, ◌++◌, map, length, slice_index, All, Option, None}
+use Rattle.std.specs.Prelude.{ℕ, ◌≡◌, ◌<◌, ◌^◌, List, ◌++◌, map, length, slice_index, All, Option, None}
 use Rattle.bc_item.specs.declared.item.Item.{Item}
 use Rattle.bc_derive.specs.View.{entry as entry_view}
 use Rattle.bc_derive.specs.declared.entry.Entry as code
@@ -12,6 +12,7 @@ use Rattle.bc_link.specs.Refusals.{refusal_of}
 use Rattle.bc_link.specs.Linked.{image_of, IsRefusal}
 use Rattle.bc_run.specs.Runs.{behind}
 use Rattle.bc_text.specs.Printed.{IsItem}
+use Rattle.bc_build.specs.Ranges.{IsSmallEntry}
 use Rattle.bc_build.specs.Refused.{IsScopeFault, IsFirstRefusal}
 use Rattle.bc_build.specs.declared.building.Built.{Built}
 use Rattle.bc_build.specs.declared.build_error.BuildError.{BuildError}
@@ -31,6 +32,8 @@ pub record IsLinked (segments : List (List Item)) (entries : List code.Entry) (b
   pub image_is : built.image ≡ image_of (behind segments)
   pub words : (i : ℕ) → slice_index built.image.words i < 65536
   pub items : All (All IsItem) segments
+  pub small : All IsSmallEntry entries
+  pub number : length entries < 2 ^ 64
 
 -- why segments were not linked
 abbrev pub IsLinkRefusal : List (List Item) → BuildError → Type 0

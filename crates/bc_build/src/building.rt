@@ -9,11 +9,12 @@ ghost use Rattle.bc_build.specs.Refused.{IsMainRefusal, IsRefused};
 ghost use Rattle.bc_build.specs.Steps.{IsLinked, IsLinkRefusal};
 ghost use Rattle.bc_build.specs.Runs.{RunsAsMeant};
 ghost use Rattle.bc_build.specs.Least.{AreLeast};
+ghost use Rattle.bc_build.specs.Certified.{IsCertified};
 ghost use Rattle.bc_build.specs.Size.{HasSize};
 ghost use Rattle.bc_build.specs.Text.{ReadsAs};
 
 use crate::build_error::{BuildError, scope_refusal};
-use crate::ranges::{segments_are_items, words_are_words};
+use crate::ranges::{entries_are_small, segments_are_items, words_are_words};
 use bc_derive::Entry;
 use bc_gen::{Generated, generate};
 use bc_image::Image;
@@ -84,6 +85,7 @@ fn linked(alloc: Global, segments: Vec<Segment>, entries: Vec<Entry>) -> Result<
     let _primitives = segments.remove(0);
     words_are_words(&image.words);
     segments_are_items(segments.as_slice());
+    entries_are_small(entries.as_slice());
     Ok(Built {
         segments,
         entries,
@@ -108,6 +110,8 @@ pub fn build(alloc: Global, sources: &[Source<'_>], mains: &[usize]) -> Result<B
 
     // Each entry is code of a derivation from the rule table that no derivation beats in words, and fits the segments.
     ensures least { IfOk result (λ built. AreLeast built.segments.items (map entry_view built.entries.items)) }
+    // The certificate of the entries is accepted, and says of each what fits the segments.
+    ensures certified { IfOk result (λ built. IsCertified (map entry_view built.entries.items)) }
     ensures size { IfOk result (λ built. (sections : List Declarations) → AreAccepted (files_of sources.now) mains.now sections → HasSize sections built.image) }
 
     // What is read of the text of the segments is the segments, and gives this image.

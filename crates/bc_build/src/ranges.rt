@@ -1,7 +1,12 @@
 //! What is known of words and items, since their types keep it: said of all of a list at once.
-ghost use Rattle.std.specs.Prelude.{◌<◌, ℕ, All, slice_index};
+ghost use Rattle.std.specs.Prelude.{◌<◌, ◌^◌, ℕ, All, slice_index};
+ghost use Rattle.bc_core.specs.View.{exp as exp_view, args as args_view, root as root_view};
+ghost use Rattle.bc_derive.specs.View.{entry as entry_view};
 ghost use Rattle.bc_text.specs.Printed.{IsItem};
+ghost use Rattle.bc_build.specs.Ranges.{AreSmall, AllAreSmall, RootIsSmall, EntryIsSmall, IsSmallEntry};
 
+use bc_core::{CoreExp, Root};
+use bc_derive::Entry;
 use bc_image::Words;
 use bc_item::{Item, Segment};
 
@@ -51,5 +56,88 @@ pub fn segments_are_items(segments: &[Segment])
 {
     for segment in segments {
         are_items(segment.items());
+    }
+}
+
+/// The numbers of an expression's nodes are small.
+#[cycle(smallness)]
+fn expression_is_small(e: &CoreExp)
+    ensures { AreSmall (exp_view e.now) }
+{
+    match e {
+        CoreExp::Num(number) => {
+            let _number = number.get();
+        }
+        CoreExp::Frame(number)
+        | CoreExp::Glob(number)
+        | CoreExp::Place(number)
+        | CoreExp::Valof(number) => {
+            let _number = *number;
+        }
+        CoreExp::Load(part) | CoreExp::Neg(part) | CoreExp::Not(part) => expression_is_small(part),
+        CoreExp::Bin(_, left, right) => {
+            expression_is_small(left);
+            expression_is_small(right);
+        }
+        CoreExp::Cond(condition, this, that) => {
+            expression_is_small(condition);
+            expression_is_small(this);
+            expression_is_small(that);
+        }
+        CoreExp::Call(arguments, routine) => {
+            arguments_are_small(arguments);
+            expression_is_small(routine);
+        }
+    }
+}
+
+#[cycle(smallness)]
+fn arguments_are_small(arguments: &[CoreExp])
+    ensures { AllAreSmall (args_view arguments.now) }
+{
+    for argument in arguments {
+        expression_is_small(argument);
+    }
+}
+
+fn root_is_small(root: &Root)
+    ensures { RootIsSmall (root_view root.now) }
+{
+    match root {
+        Root::Value { expression, .. } | Root::Test { expression, .. } => expression_is_small(
+            expression,
+        ),
+        Root::Assign { value, address, .. } => {
+            expression_is_small(value);
+            expression_is_small(address);
+        }
+    }
+}
+
+fn numbers_are_numbers(numbers: &[u64])
+    ensures { All (λ n. n < 2 ^ 64) numbers.now }
+{
+    for number in numbers {
+        let _number = *number;
+    }
+}
+
+fn entry_is_small(entry: &Entry)
+    ensures { EntryIsSmall (entry_view entry.now) }
+{
+    let _segment = entry.segment;
+    let _item = entry.item;
+    let _target = entry.target;
+    let _first = entry.first;
+    numbers_are_numbers(entry.bodies.as_slice());
+    root_is_small(&entry.root);
+}
+
+/// The numbers of entries are in the ranges of their types.
+pub fn entries_are_small(entries: &[Entry])
+    ensures { All IsSmallEntry entries.now }
+{
+    for entry in entries {
+        entry_is_small(entry);
     }
 }

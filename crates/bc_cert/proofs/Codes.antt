@@ -10,7 +10,7 @@ use Rattle.bc_rules.specs.Code.{IsNextLabel, IsCodeOf}
 use Rattle.bc_rules.proofs.Bridge.{root_found}
 use Rattle.bc_lines.specs.declared.lines.Head.{Head}
 use Rattle.bc_stack.specs.Stacks.{Rooted}
-use Rattle.bc_cert.specs.Judging.{right_of}
+use Rattle.bc_verdict.specs.Judging.{right_of}
 use Rattle.bc_cert.specs.View.{IsDerived}
 
 labels_none : (n k : ℕ) (t : Bool) (x : Option ℕ) → x ≡ None → SomeIff x (n ≤ 65536) k → nat_le n 65536 ≡ t → t ≡ false

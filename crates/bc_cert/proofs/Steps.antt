@@ -11,8 +11,9 @@ use Rattle.bc_stack.specs.Stacks.{◌>>=◌}
 use Rattle.bc_certificate.specs.declared.verdict.Verdict as code
 use Rattle.bc_certificate.specs.View.{verdict}
 use Rattle.bc_stack.specs.View.{Fails, Gives}
-use Rattle.bc_cert.specs.Judging.{State, between, start, step_at, between_step, place_of, counted, line_step, byte_step, feed_from, finished, judged}
-use Rattle.bc_cert.specs.Answer.{Says, Lacks, IsFault, IsAnswer}
+use Rattle.bc_verdict.specs.Judging.{State, between, start, step_at, between_step, place_of, counted, line_step, byte_step, feed_from, finished, judged}
+use Rattle.bc_verdict.proofs.Whole.{judged_says, judged_lacks}
+use Rattle.bc_cert.specs.Answer.{IsSaid, IsLacking, IsFault, IsAnswer}
 
 pub between_line : (line : List ℕ) (st : State) (p : Place) → st.stage ≡ between → p ≡ place_of (counted st) → between_step line p (counted st) ≡ line_step line st
 between_line line st p h e = ap (λ q. between_step line q (counted st)) e ∙ ap (λ s. step_at s line (place_of (counted st)) (counted st)) (sym h)
@@ -45,9 +46,9 @@ fault_stays xs more f h = ap (λ r. r >>= (λ t. finished t)) (feed_append xs mo
 fault_itself : (xs : List ℕ) (f : CheckFault) → feed_from xs (start, []) ≡ Err f → judged xs ≡ Err f
 fault_itself xs f h = ap (λ r. r >>= (λ t. finished t)) h
 
-lacks_known : (known : Option (List ℕ)) (xs : List ℕ) (f : CheckFault) → IfSome known (λ k. (zs : List ℕ) × (k ≡ xs ++ zs)) → feed_from xs (start, []) ≡ Err f → Lacks known f
-lacks_known None xs f g h = (xs, tt, fault_itself xs f h)
-lacks_known (Some k) xs f g h = (xs, subst (λ q. judged q ≡ Err f) (sym g.1) (fault_stays xs g.0 f h), fault_itself xs f h)
+lacks_known : (known : Option (List ℕ)) (xs : List ℕ) (f : CheckFault) → IfSome known (λ k. (zs : List ℕ) × (k ≡ xs ++ zs)) → feed_from xs (start, []) ≡ Err f → IsLacking known f
+lacks_known None xs f g h = (xs, tt, judged_lacks xs f (fault_itself xs f h))
+lacks_known (Some k) xs f g h = (xs, judged_lacks k f (subst (λ q. judged q ≡ Err f) (sym g.1) (fault_stays xs g.0 f h)), judged_lacks xs f (fault_itself xs f h))
 
 -- what was consumed before, with a part of what is consumed now
 pub consumes_more : (known middle left : Option (List ℕ)) (bytes now : List ℕ) (kept count : ℕ) → kept ≡ count → Consumes known middle bytes → Consumes middle left (take count now) → Consumes known left (bytes ++ take kept now)
@@ -68,7 +69,7 @@ begins_part (Some xs) (Some ys) (Some zs) bytes now kept count small h e =
 -- a fault in what was consumed
 pub fault_given : (known middle left : Option (List ℕ)) (bytes now : List ℕ) (kept count : ℕ) (t : State × List ℕ) (f : CheckFault) → kept ≤ count → Consumes known middle bytes → Consumes middle left (take count now) → feed_from bytes (start, []) ≡ Ok t → Fails f (feed_from (take kept now) t) → IsFault known f
 fault_given known middle left bytes now kept count t f small h e ok bad = by_fault f bad where
-  found : (g : CheckFault) → feed_from (take kept now) t ≡ Err g → Lacks known g
+  found : (g : CheckFault) → feed_from (take kept now) t ≡ Err g → IsLacking known g
   found g k = lacks_known known (bytes ++ take kept now) g (begins_part known middle left bytes now kept count small h e) (fed_fault bytes (take kept now) (start, []) t g ok k)
 
   by_fault : (g : CheckFault) → Fails g (feed_from (take kept now) t) → IsFault known g
@@ -95,16 +96,16 @@ all_given (Some xs) (Some ys) (Some zs) bytes now count none h e end =
 judged_all : (bytes : List ℕ) (t : State × List ℕ) (r : Result Verdict CheckFault) → feed_from bytes (start, []) ≡ Ok t → finished t ≡ r → judged bytes ≡ r
 judged_all bytes t r h e = ap (λ q. q >>= (λ u. finished u)) h ∙ e
 
-lacks_all : (known : Option (List ℕ)) (bytes : List ℕ) (f : CheckFault) → IfSome known (λ xs. xs ≡ bytes) → judged bytes ≡ Err f → Lacks known f
-lacks_all None bytes f h e = (bytes, tt, e)
-lacks_all (Some xs) bytes f h e = (bytes, ap judged h ∙ e, e)
+lacks_all : (known : Option (List ℕ)) (bytes : List ℕ) (f : CheckFault) → IfSome known (λ xs. xs ≡ bytes) → judged bytes ≡ Err f → IsLacking known f
+lacks_all None bytes f h e = (bytes, tt, judged_lacks bytes f e)
+lacks_all (Some xs) bytes f h e = (bytes, judged_lacks xs f (ap judged h ∙ e), judged_lacks bytes f e)
 
-pub verdict_given : (known middle left : Option (List ℕ)) (bytes now : List ℕ) (count : ℕ) (t : State × List ℕ) (v : Verdict) → count ≡ 0 → Consumes known middle bytes → Consumes middle left (take count now) → IsAtEnd left → feed_from bytes (start, []) ≡ Ok t → finished t ≡ Ok v → Says known v
-verdict_given known middle left bytes now count t v none h e end ok done = (bytes, all_given known middle left bytes now count none h e end, judged_all bytes t (Ok v) ok done)
+pub verdict_given : (known middle left : Option (List ℕ)) (bytes now : List ℕ) (count : ℕ) (t : State × List ℕ) (v : Verdict) → count ≡ 0 → Consumes known middle bytes → Consumes middle left (take count now) → IsAtEnd left → feed_from bytes (start, []) ≡ Ok t → finished t ≡ Ok v → IsSaid known v
+verdict_given known middle left bytes now count t v none h e end ok done = (bytes, all_given known middle left bytes now count none h e end, judged_says bytes v (judged_all bytes t (Ok v) ok done))
 
 pub end_given : (known middle left : Option (List ℕ)) (bytes now : List ℕ) (count : ℕ) (t : State × List ℕ) (f : CheckFault) → count ≡ 0 → Consumes known middle bytes → Consumes middle left (take count now) → IsAtEnd left → feed_from bytes (start, []) ≡ Ok t → Fails f (finished t) → IsFault known f
 end_given known middle left bytes now count t f none h e end ok bad = by_fault f bad where
-  found : (g : CheckFault) → finished t ≡ Err g → Lacks known g
+  found : (g : CheckFault) → finished t ≡ Err g → IsLacking known g
   found g k = lacks_all known bytes g (all_given known middle left bytes now count none h e end) (judged_all bytes t (Err g) ok k)
 
   by_fault : (g : CheckFault) → Fails g (finished t) → IsFault known g

@@ -6,21 +6,22 @@ use Rattle.bc_certificate.specs.declared.check_fault.CheckFault.TheVariants as f
 use Rattle.bc_certificate.specs.declared.verdict.Verdict as code
 use Rattle.bc_certificate.specs.Verdict.{Verdict}
 use Rattle.bc_certificate.specs.View.{verdict}
-use Rattle.bc_cert.specs.Judging.{judged}
+use Rattle.bc_verdict.specs.Entries.{Says}
+use Rattle.bc_verdict.specs.Faults.{Lacks}
 
--- this is what some bytes say that the reader gave; where it tells its bytes, they are all of them
-abbrev pub Says : Option (List ℕ) → Verdict → Type 0
-Says known v = (bytes : List ℕ) × IfSome known (λ xs. xs ≡ bytes) × (judged bytes ≡ Ok v)
+-- this is what the bytes say that the reader gave; where it tells its bytes, they are all of them
+abbrev pub IsSaid : Option (List ℕ) → Verdict → Type 0
+IsSaid known v = (bytes : List ℕ) × IfSome known (λ xs. xs ≡ bytes) × Says bytes v
 
--- some bytes that the reader gave have this fault; where it tells its bytes, all of them have it
-abbrev pub Lacks : Option (List ℕ) → CheckFault → Type 0
-Lacks known f = (bytes : List ℕ) × IfSome known (λ xs. judged xs ≡ Err f) × (judged bytes ≡ Err f)
+-- the bytes that the reader gave have this fault; where it tells its bytes, all of them have it
+abbrev pub IsLacking : Option (List ℕ) → CheckFault → Type 0
+IsLacking known f = (bytes : List ℕ) × IfSome known (λ xs. Lacks xs f) × Lacks bytes f
 
 abbrev pub IsFault : Option (List ℕ) → CheckFault → Type 0
 IsFault known faults.Read = Unit {0}
 IsFault known faults.Memory = Unit {0}
-IsFault known f = Lacks known f
+IsFault known f = IsLacking known f
 
 abbrev pub IsAnswer : Option (List ℕ) → Result code.Verdict CheckFault → Type 0
-IsAnswer known (Ok v) = Says known (verdict v)
+IsAnswer known (Ok v) = IsSaid known (verdict v)
 IsAnswer known (Err f) = IsFault known f

@@ -8,7 +8,7 @@ use Rattle.bc_stack.specs.View.{stack, rooted}
 use Rattle.bc_cert.specs.declared.checker.Checker.{Checker}
 use Rattle.bc_cert.specs.declared.stage.Stage as code
 use Rattle.bc_cert.specs.declared.stage.Stage.TheVariants as stages
-use Rattle.bc_cert.specs.Judging.{Stage, the_header, between, nodes, code as code_stage, the_end, State}
+use Rattle.bc_verdict.specs.Judging.{Stage, the_header, between, nodes, code as code_stage, the_end, State}
 
 abbrev pub stage : code.Stage → Stage
 stage stages.Header = the_header

@@ -4,7 +4,7 @@ ghost use Rattle.std.specs.Prelude.{◌≡◌, ◌≤◌, ◌<◌, ◌+◌, ◌^
 ghost use Rattle.bc_certificate.specs.View.{verdict as verdict_of};
 ghost use Rattle.bc_stack.specs.Stacks.{AreParallel};
 ghost use Rattle.bc_stack.specs.View.{rooted as rooted_of, Gives, Steps};
-ghost use Rattle.bc_cert.specs.Judging.{start, place_of, line_step, begin_step, between_step, within_step, code_step, byte_step, feed_from, finished};
+ghost use Rattle.bc_verdict.specs.Judging.{start, place_of, line_step, begin_step, between_step, within_step, code_step, byte_step, feed_from, finished};
 ghost use Rattle.bc_cert.specs.View.{state, fed, Kept};
 
 use crate::code::judge_code;

@@ -9,7 +9,7 @@ ghost use Rattle.bc_stack.specs.View.{rooted as rooted_of, Gives};
 ghost use Rattle.bc_lines.specs.Lines.{code_of_line};
 ghost use Rattle.bc_lines.specs.View.{code};
 ghost use Rattle.bc_stack.specs.Stacks.{with_whole};
-ghost use Rattle.bc_cert.specs.Judging.{same_item, same_piece, same_code, right_of, code_against, code_fits, pieces_judged, judged_with, code_judged};
+ghost use Rattle.bc_verdict.specs.Judging.{same_item, same_piece, same_code, right_of, code_against, code_fits, pieces_judged, judged_with, code_judged};
 ghost use Rattle.bc_cert.specs.View.{IsDerived};
 
 use bc_certificate::{CheckFault, Judged};

@@ -152,27 +152,27 @@ fields_are n a u r v x y z w x1 y1 z1 w1 h i j k l m =
     ∙ ap (λ t. line n (u ∷ words_field x1 ∷ words_field y1 ∷ words_field z1 ∷ words_field t ∷ r ∷ [])) l
     ∙ ap (λ t. line n (u ∷ words_field x1 ∷ words_field y1 ∷ words_field z1 ∷ words_field w1 ∷ t ∷ [])) m
 
-line_is : (e : Exp) (s : ℕ) (x : Option Tree) (row : Row) → IsRowOf (e, s) row → mark_line (mark e s x) row ≡ node_line (shown_at e s x)
+line_is : (e : Exp) (s : ℕ) (x : Option Tree) (row : Row) → IsRowOf (e, s) row → mark_line (mark e s x) row ≡ node_line Two (shown_at e s x)
 line_is e s x row h =
     let c = costs_are e s row.costs h.costs in
     fields_are (decimal s) _ _ _ _ _ _ _ _ _ _ _ _ (form_is e) c.any c.push c.on_false c.on_true (rules_are (chain_of x))
 
 lines_are : (ns : List Laid) (rows : List Row) → AllZip IsRowOf (map (λ n. node_at n.expression n.level n.tree) ns) rows
-    → mark_lines (map (λ n. mark n.expression n.level n.tree) ns) rows ≡ flat_map node_line (map (λ n. shown_at n.expression n.level n.tree) ns)
+    → mark_lines (map (λ n. mark n.expression n.level n.tree) ns) rows ≡ flat_map (node_line Two) (map (λ n. shown_at n.expression n.level n.tree) ns)
 lines_are [] [] h = refl
 lines_are [] (r ∷ rows) h = absurd h
 lines_are (n ∷ ns) [] h = absurd h
 lines_are (n ∷ ns) (r ∷ rows) h =
     ap (λ l. l ++ mark_lines (map (λ n. mark n.expression n.level n.tree) ns) rows) (line_is n.expression n.level n.tree r h.0)
-    ∙ ap (λ l. node_line (shown_at n.expression n.level n.tree) ++ l) (lines_are ns rows h.1)
+    ∙ ap (λ l. node_line Two (shown_at n.expression n.level n.tree) ++ l) (lines_are ns rows h.1)
 
-pub node_lines_are : {T : Table} {r : Root} (d : RootDerives T r) (rows : List Row) → AllZip IsRowOf (root_in_order r) rows → mark_lines (root_with mark r (root_shape d)) rows ≡ flat_map node_line (root_shown d)
+pub node_lines_are : {T : Table} {r : Root} (d : RootDerives T r) (rows : List Row) → AllZip IsRowOf (root_in_order r) rows → mark_lines (root_with mark r (root_shape d)) rows ≡ flat_map (node_line Two) (root_shown d)
 node_lines_are {r = r} d rows h =
     let x = root_shape d in
     let order : map (λ n. node_at n.expression n.level n.tree) (root_with laid r x) ≡ root_in_order r = seen_root laid (λ n. node_at n.expression n.level n.tree) r x ∙ order_root r x in
     ap (λ l. mark_lines l rows) (sym (seen_root laid (λ n. mark n.expression n.level n.tree) r x))
     ∙ lines_are (root_with laid r x) rows (subst (λ l. AllZip IsRowOf l rows) (sym order) h)
-    ∙ ap (flat_map node_line) (seen_root laid (λ n. shown_at n.expression n.level n.tree) r x ∙ root_nodes_shown d)
+    ∙ ap (flat_map (node_line Two)) (seen_root laid (λ n. shown_at n.expression n.level n.tree) r x ∙ root_nodes_shown d)
 
 pub root_line_is : {T : Table} {r : Root} (d : RootDerives T r) → line_of_root r (root_shape d) ≡ root_line d
 root_line_is (value d) = refl

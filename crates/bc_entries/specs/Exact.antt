@@ -2,6 +2,7 @@
 use Rattle.std.specs.Prelude.{ℕ, ◌≡◌, List, ◌++◌, flat_map}
 use Rattle.bc_core.specs.Tree.{Root}
 use Rattle.bc_derive.specs.declared.rule.Table.{Table}
+use Rattle.bc_derive.specs.declared.rule.Table.TheVariants.{Two}
 use Rattle.bc_derive.specs.Rules.{RootDerives, Tree, root_shape}
 use Rattle.bc_derive.specs.Entry.{Entry}
 use Rattle.bc_entries.specs.Shown.{root_shown}
@@ -10,7 +11,7 @@ use Rattle.bc_entries.specs.Certificate.{Derived, entry_of, entry_text}
 
 -- the node lines of the root's derivation with these rules came behind
 pub record AddsNodes (r : Root) (x : Tree) (old new : List ℕ) : Type 0 where
-  pub exact : (T : Table) (d : RootDerives T r) → root_shape d ≡ x → new ≡ old ++ flat_map node_line (root_shown d)
+  pub exact : (T : Table) (d : RootDerives T r) → root_shape d ≡ x → new ≡ old ++ flat_map (node_line Two) (root_shown d)
 
 pub record IsEntryText (e : Entry) (text : List ℕ) : Type 0 where
   pub exact : (d : Derived) → e ≡ entry_of d → text ≡ entry_text d

@@ -2,7 +2,6 @@
 use Rattle.std.specs.Prelude.{◌≡◌, map}
 use Rattle.bc_core.specs.Tree.{Root}
 use Rattle.bc_derive.specs.declared.rule.Table.{Table}
-use Rattle.bc_derive.specs.declared.rule.Table.TheVariants.{Two}
 use Rattle.bc_derive.specs.declared.rule.Aim.{Aim}
 use Rattle.bc_derive.specs.Rules.{RootDerives}
 use Rattle.bc_least.specs.Least.{AreLeastWords}
@@ -16,4 +15,4 @@ NodesInOrder = (T : Table) (r : Root) (d : RootDerives T r) → map (λ n. (n.ex
 
 -- the numbers of a line are the least words of the node's derivations, and `-` stands where there is none
 abbrev pub NumbersAreLeast : Type 0
-NumbersAreLeast = (aim : Aim) (n : Shown) → AreLeastWords Two n.expression aim n.level (least_words aim n)
+NumbersAreLeast = (T : Table) (aim : Aim) (n : Shown) → AreLeastWords T n.expression aim n.level (least_words T aim n)

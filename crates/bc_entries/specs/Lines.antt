@@ -4,7 +4,6 @@ use Rattle.std.specs.Fmt.{decimal}
 use Rattle.bc_word.specs.Words.{number_of}
 use Rattle.bc_core.specs.Tree.{Exp, Num, Frame, Glob, Place, Load, Neg, Not, Bin, Cond, Call, Valof, count, Root}
 use Rattle.bc_derive.specs.declared.rule.Table.{Table}
-use Rattle.bc_derive.specs.declared.rule.Table.TheVariants.{Two}
 use Rattle.bc_derive.specs.declared.rule.Mode.TheVariants.{Any, Push}
 use Rattle.bc_derive.specs.declared.rule.Aim.{Aim}
 use Rattle.bc_derive.specs.declared.rule.Aim.TheVariants.{Gets, Jumps}
@@ -74,18 +73,18 @@ abbrev pub words_field : Option ℕ → List ℕ
 words_field None = 45 ∷ []
 words_field (Some n) = decimal n
 
--- The least words of a node's derivations for an aim, by table 2. That no derivation has fewer, and that one has as
--- many, is the law `choices_are_least` of bc_least.
-abbrev pub least_words : Aim → Shown → Option ℕ
-least_words aim n = words_for aim (choices Two n.expression n.level)
+-- The least words of a node's derivations for an aim. That no derivation has fewer, and that one has as many, is the
+-- law `choices_are_least` of bc_least.
+abbrev pub least_words : Table → Aim → Shown → Option ℕ
+least_words T aim n = words_for aim (choices T n.expression n.level)
 
 -- `level form any push false true rules`
-abbrev pub node_line : Shown → List ℕ
-node_line n =
+abbrev pub node_line : Table → Shown → List ℕ
+node_line T n =
     line (decimal n.level)
     (form_field n.expression
-    ∷ words_field (least_words (Gets Any) n) ∷ words_field (least_words (Gets Push) n)
-    ∷ words_field (least_words (Jumps false) n) ∷ words_field (least_words (Jumps true) n)
+    ∷ words_field (least_words T (Gets Any) n) ∷ words_field (least_words T (Gets Push) n)
+    ∷ words_field (least_words T (Jumps false) n) ∷ words_field (least_words T (Jumps true) n)
     ∷ rules_field n.rules ∷ [])
 
 -- `E segment item target first words`

@@ -1,5 +1,5 @@
-//! The certificate of the library and of `LET START() BE WRCH('A')`, whose entry is the last. It was made by another program, after the
-//! format.
+//! The certificate of the library and of `LET START() BE WRCH('A')`. The library's entries were made by another program, after the format;
+//! the last is the example of docs/certificate.md.
 
 /// The certificate.
 pub const STORED: &str = "\

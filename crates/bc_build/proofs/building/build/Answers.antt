@@ -6,6 +6,7 @@ use Rattle.bc_build.specs.Refused.{IsRefused}
 use Rattle.bc_build.specs.Steps.{AreCoded}
 use Rattle.bc_build.proofs.Coded.{err_is, next_main, no_main, coded_more, built_from, main_refused, link_refused}
 use Rattle.bc_build.proofs.Facts.{built_runs, built_size, built_least, built_text}
+use Rattle.bc_build.proofs.Certifying.{built_certified}
 use Rattle.bc_build.proofs.building.build.Goals as goal
 
 pub returns-in_err-items-clause-refused : goal.returns-in_err-items-clause-refused
@@ -52,6 +53,14 @@ returns-clause-least c =
     let n = c.loop-number.number in
     let a = subst (λ left. AreCoded files mains n left c.loop-number.segments.items c.loop-number.entries.items) (no_main mains n c.loop-number-test.false) c.loop-number.invariant in
     IfOk-weaker c.linked.result _ _ (λ built l. built_least files mains built (built_from files mains n c.loop-number.segments.items c.loop-number.entries.items built a l)) c.linked.ensures.built
+
+pub returns-clause-certified : goal.returns-clause-certified
+returns-clause-certified c =
+    let files = files_of c.args.sources.now in
+    let mains = c.args.mains.now in
+    let n = c.loop-number.number in
+    let a = subst (λ left. AreCoded files mains n left c.loop-number.segments.items c.loop-number.entries.items) (no_main mains n c.loop-number-test.false) c.loop-number.invariant in
+    IfOk-weaker c.linked.result _ _ (λ built l. built_certified files mains built (built_from files mains n c.loop-number.segments.items c.loop-number.entries.items built a l) c.loop-number.segments.items c.loop-number.entries.items l) c.linked.ensures.built
 
 pub returns-clause-size : goal.returns-clause-size
 returns-clause-size c =

@@ -21,6 +21,7 @@ returns-in-Ok-generate-clause-compiled c =
       only = λ others h. e ∙ c.in-Ok.ensures.only_tokens others h;
       spelled = c.in-Ok-parse.ensures.spelled;
       size = omega (arith, size, long);
+      nests = c.in-Ok-parse.ensures.nests;
       read = c.in-Ok-parse.ensures.exact;
     })
     found.0 found.1 c.in-Ok-generate.ensures.items c.in-Ok-generate.ensures.entries c.in-Ok-generate.ensures.labels
@@ -44,6 +45,7 @@ returns-clause-refused c =
               only = λ others h. e ∙ c.in-Ok.ensures.only_tokens others h;
               spelled = c.in-Ok-parse.ensures.spelled;
               size = omega (arith, size, long);
+              nests = c.in-Ok-parse.ensures.nests;
               read = c.in-Ok-parse.ensures.exact;
             }),
         gen_fault ds (section c.in-Ok-resolve.core) c.in-Err-generate.fault found.0 found.1 c.in-Err-generate.ensures.refused,

@@ -1,0 +1,14 @@
+-- That the certificate of the entries is accepted.
+use Rattle.std.specs.Prelude.{◌≡◌, List, map}
+use Rattle.bc_derive.specs.declared.rule.Table.TheVariants.{Two}
+use Rattle.bc_derive.specs.Entry.{Entry}
+use Rattle.bc_entries.specs.Certificate.{Derived, entry_of, certificate}
+use Rattle.bc_verdict.specs.Entries.{Says}
+use Rattle.bc_build.specs.Least.{judged}
+
+-- The entries name derivations. The certificate of these, which is the one that is written for the entries, is accepted,
+-- and says of each entry what fits the segments.
+pub record IsCertified (entries : List Entry) : Type 0 where
+  pub derived : List Derived
+  pub named : entries ≡ map entry_of derived
+  pub said : Says (certificate derived) (record { table = Two; entries = map judged entries })
