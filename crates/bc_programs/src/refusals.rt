@@ -1,5 +1,6 @@
 //! Sources that are refused, each with its refusal.
 
+use crate::runs::mains_from;
 use bc_build::{BuildError, LexError, LinkError, ParseError, ScopeFault, Source, build};
 use bc_item::GlobalNumber;
 use std::alloc::Global;
@@ -8,11 +9,10 @@ use std::test::Fail;
 /// The refusal of these sources, each a main, where there is one.
 fn refusal(alloc: Global, texts: &[&[u8]]) -> Result<Option<BuildError>, Fail> {
     let mut sources = Vec::new(alloc);
-    let mut mains = Vec::new(alloc);
     for text in texts {
-        mains.push(sources.len())?;
         sources.push(Source { name: b"A", text })?;
     }
+    let mains = mains_from(alloc, 0, sources.len())?;
     match build(alloc, sources.as_slice(), mains.as_slice()) {
         Ok(_) => Ok(None),
         Err(fault) => Ok(Some(fault)),

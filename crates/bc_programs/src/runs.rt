@@ -1,5 +1,7 @@
 //! Sources with what their runs write.
 
+ghost use Rattle.std.specs.Prelude.{◌<◌, All, IfOk};
+
 use bc_build::{BuildError, Built, Source, build};
 use bc_library::{BLIB, LIBHDR};
 use bc_machine::{Machine, MemoryStreams, Named};
@@ -7,6 +9,17 @@ use bc_step::End;
 use bc_text::print;
 use std::alloc::Global;
 use std::test::Fail;
+
+/// The indexes of sources from the first main on, of this many sources.
+pub fn mains_from(alloc: Global, first: usize, sources: usize) -> Result<Vec<usize>, Fail>
+    ensures { IfOk result (λ mains. All (λ main. main < sources) mains.items) }
+{
+    let mut mains = Vec::new(alloc);
+    for source in first..sources {
+        mains.push(source)?;
+    }
+    Ok(mains)
+}
 
 /// The program of these sources, behind BLIB.
 fn built(alloc: Global, texts: &[&str]) -> Result<Result<Built, BuildError>, Fail> {
@@ -20,14 +33,13 @@ fn built(alloc: Global, texts: &[&str]) -> Result<Result<Built, BuildError>, Fai
             text: BLIB.as_bytes()
         },
     ]?;
-    let mut mains = vec![in alloc; 1]?;
     for text in texts {
-        mains.push(sources.len())?;
         sources.push(Source {
             name: b"main",
             text: text.as_bytes(),
         })?;
     }
+    let mains = mains_from(alloc, 1, sources.len())?;
     Ok(build(alloc, sources.as_slice(), mains.as_slice()))
 }
 
@@ -140,8 +152,8 @@ fn whole_sections(rt: HostRuntime) -> Result<(), Fail> {
     Ok(())
 }
 
-/// The items of a source that is the only main, as text with blanks for line breaks, and its stack base and entries.
-fn alone(alloc: Global, text: &str) -> Result<(String, u16, usize, Built), Fail> {
+/// The program of a source that is the only main.
+fn alone(alloc: Global, text: &str) -> Result<Built, Fail> {
     let sources = [
         Source {
             name: b"LIBHDR",
@@ -152,31 +164,32 @@ fn alone(alloc: Global, text: &str) -> Result<(String, u16, usize, Built), Fail>
             text: text.as_bytes(),
         },
     ];
-    let built = build(alloc, &sources, &[1])?;
+    Ok(build(alloc, &sources, &[1])?)
+}
+
+/// The segments as text.
+fn printed(alloc: Global, built: &Built) -> Result<String, Fail> {
     let mut bytes = Vec::new(alloc);
     for segment in &built.segments {
         print(segment, &mut bytes)?;
     }
-    for byte in &mut bytes {
-        if *byte == b'\n' {
-            *byte = b' ';
-        }
-    }
-    let stack_base = built.image.stack_base.get();
-    let entries = built.entries.len();
-    Ok((String::from_utf8(bytes)?, stack_base, entries, built))
+    Ok(String::from_utf8(bytes)?)
+}
+
+/// Where the stack begins, and the number of entries.
+fn size(built: &Built) -> (u16, usize) {
+    (built.image.stack_base.get(), built.entries.len())
 }
 
 #[test]
 fn hello_has_six_words(rt: HostRuntime) -> Result<(), Fail> {
     let alloc = rt.alloc();
-    let (items, stack_base, entries, built) = alone(
-        alloc,
-        "GET \"LIBHDR\" LET START() BE WRCH('A')",
-    )?;
-    assert_eq!(rt; items.as_str(), "1 L65 SP4 LIG14 K2 L0 X4 G1L1 Z ");
-    assert_eq!(rt; stack_base, 552);
-    assert_eq!(rt; entries, 1);
+    let built = alone(alloc, "GET \"LIBHDR\" LET START() BE WRCH('A')")?;
+    assert_eq!(rt;
+        printed(alloc, &built)?.as_str(),
+        "1\nL65\nSP4\nLIG14\nK2\nL0\nX4\nG1L1\nZ\n"
+    );
+    assert_eq!(rt; size(&built), (552, 1));
     let (end, output) = ran(alloc, &built, b"", 13)?;
     assert_eq!(rt; end, End::Finished);
     assert_eq!(rt; output.as_slice(), b"A".as_slice());
@@ -188,12 +201,15 @@ fn hello_has_six_words(rt: HostRuntime) -> Result<(), Fail> {
 #[test]
 fn a_loop_by_goto(rt: HostRuntime) -> Result<(), Fail> {
     let alloc = rt.alloc();
-    let (items, stack_base, _, built) = alone(
+    let built = alone(
         alloc,
         "GET \"LIBHDR\" LET START() BE $( L: WRCH('A'); GOTO L $)",
     )?;
-    assert_eq!(rt; items.as_str(), "1 2 L65 SP4 LIG14 K2 JL2 L0 X4 G1L1 Z ");
-    assert_eq!(rt; stack_base, 554);
+    assert_eq!(rt;
+        printed(alloc, &built)?.as_str(),
+        "1\n2\nL65\nSP4\nLIG14\nK2\nJL2\nL0\nX4\nG1L1\nZ\n"
+    );
+    assert_eq!(rt; size(&built), (554, 1));
     let (end, output) = ran(alloc, &built, b"", 16)?;
     assert_eq!(rt; end, End::BudgetSpent);
     assert_eq!(rt; output.as_slice(), b"A".as_slice());

@@ -10,53 +10,11 @@ use Rattle.bc_scoping.specs.Numbering.{behind, behind_all, behind_declarations, 
 use Rattle.bc_scoping.specs.Scoping.{before_let, in_let, in_declaration, in_declarations, cells_in, level_behind, in_for, in_list}
 use Rattle.bc_scoping.specs.Translation.{Forms, forms, forms_of_all, assignments, assignment, initials, core_definition, core_definitions, core_declarations, core_labels, core_block, core_items, core_command}
 use Rattle.bc_verdict.specs.Entries.{nested}
+use Rattle.bc_rooms.proofs.Throughout.{OfVariables, OfDeclarations, OfCommand, OfBlock, OfItems}
 use Rattle.bc_rooms.proofs.Depth.{AreNested, forms_nested, arguments_nested}
 
 abbrev pub Low : Exp → Type 0
 Low e = nested e ≤ 400
-
-abbrev pub VariablesLow : List core.Variable → Type 0
-VariablesLow [] = Unit {0}
-VariablesLow (core.Initial e ∷ vs) = Low e × VariablesLow vs
-VariablesLow (core.Vector n ∷ vs) = VariablesLow vs
-
-abbrev pub DeclarationsLow : List (List core.Variable) → Type 0
-DeclarationsLow [] = Unit {0}
-DeclarationsLow (vs ∷ ds) = VariablesLow vs × DeclarationsLow ds
-
-abbrev mutual
-  pub CommandLow : core.Command → Type 0
-  CommandLow (core.Call e) = Low e
-  CommandLow (core.Assign v a) = Low v × Low a
-  CommandLow (core.If sense e b) = Low e × BlockLow b
-  CommandLow (core.Test e b c) = Low e × BlockLow b × BlockLow c
-  CommandLow (core.While sense e b) = Low e × BlockLow b
-  CommandLow (core.Repeat b) = BlockLow b
-  CommandLow (core.RepeatWhile b sense e) = BlockLow b × Low e
-  CommandLow (core.For start limit by b) = Low start × Low limit × BlockLow b
-  CommandLow (core.Switchon e is) = Low e × ItemsLow is
-  CommandLow core.Break = Unit {0}
-  CommandLow core.Loop = Unit {0}
-  CommandLow core.Endcase = Unit {0}
-  CommandLow core.Return = Unit {0}
-  CommandLow (core.Resultis e) = Low e
-  CommandLow core.Finish = Unit {0}
-  CommandLow (core.Goto l) = Unit {0}
-  CommandLow (core.Nested b) = BlockLow b
-
-  pub BlockLow : core.Block → Type 0
-  BlockLow (core.block ds is) = DeclarationsLow ds × ItemsLow is
-
-  pub ItemsLow : core.Items → Type 0
-  ItemsLow core.no_item = Unit {0}
-  ItemsLow (core.command c is) = CommandLow c × ItemsLow is
-  ItemsLow (core.case k is) = ItemsLow is
-  ItemsLow (core.default is) = ItemsLow is
-  ItemsLow (core.label k is) = ItemsLow is
-
-abbrev pub BodyLow : core.Body → Type 0
-BodyLow (core.Gives e) = Low e
-BodyLow (core.Does b) = BlockLow b
 
 -- Expressions
 
@@ -79,12 +37,12 @@ forms_low E at (tree.more e es) h =
 
 -- Assignments
 
-pairs_low : (fs gs : List Forms) → AllLow fs → AllLow gs → ItemsLow (assignments fs gs)
+pairs_low : (fs gs : List Forms) → AllLow fs → AllLow gs → OfItems Low (assignments fs gs)
 pairs_low [] gs h k = tt
 pairs_low (f ∷ fs) [] h k = tt
 pairs_low (f ∷ fs) (g ∷ gs) h k = ((k.0.1, h.0.0), pairs_low fs gs h.1 k.1)
 
-assignment_low : (fs gs : List Forms) → AllLow fs → AllLow gs → CommandLow (assignment fs gs)
+assignment_low : (fs gs : List Forms) → AllLow fs → AllLow gs → OfCommand Low (assignment fs gs)
 assignment_low [] gs h k = (tt, tt)
 assignment_low (f ∷ f1 ∷ fs) gs h k = (tt, pairs_low (f ∷ f1 ∷ fs) gs h k)
 assignment_low (f ∷ []) [] h k = (tt, tt)
@@ -93,27 +51,27 @@ assignment_low (f ∷ []) (g ∷ []) h k = (k.0.1, h.0.0)
 
 -- Declarations
 
-variables_append : (vs ws : List core.Variable) → VariablesLow vs → VariablesLow ws → VariablesLow (vs ++ ws)
+variables_append : (vs ws : List core.Variable) → OfVariables Low vs → OfVariables Low ws → OfVariables Low (vs ++ ws)
 variables_append [] ws h k = k
 variables_append (core.Initial e ∷ vs) ws h k = (h.0, variables_append vs ws h.1 k)
 variables_append (core.Vector n ∷ vs) ws h k = variables_append vs ws h k
 
-initials_low : (fs : List Forms) → AllLow fs → VariablesLow (initials fs)
+initials_low : (fs : List Forms) → AllLow fs → OfVariables Low (initials fs)
 initials_low [] h = tt
 initials_low (f ∷ fs) h = (h.0.1, initials_low fs h.1)
 
-definition_low : (E B : Env) (at : Numbers) (d : tree.Definition) → definition_height d ≤ 200 → VariablesLow (core_definition E B at d)
+definition_low : (E B : Env) (at : Numbers) (d : tree.Definition) → definition_height d ≤ 200 → OfVariables Low (core_definition E B at d)
 definition_low E B at (tree.Variables ns es) h = initials_low (forms_of_all E at es) (forms_low E at es (omega arith))
 definition_low E B at (tree.Vector n k) h = tt
 definition_low E B at (tree.Function n ps e) h = tt
 definition_low E B at (tree.Routine n ps b) h = tt
 
-definitions_low : (E B : Env) (at : Numbers) (ds : tree.Definitions) → definitions_height ds ≤ 200 → VariablesLow (core_definitions E B at ds)
+definitions_low : (E B : Env) (at : Numbers) (ds : tree.Definitions) → definitions_height ds ≤ 200 → OfVariables Low (core_definitions E B at ds)
 definitions_low E B at tree.no_definitions h = tt
 definitions_low E B at (tree.definition d ds) h =
     variables_append (core_definition E B at d) _ (definition_low E B at d (omega arith)) (definitions_low E B (behind_definition at d) ds (omega arith))
 
-declarations_low : (E : Env) (at : Numbers) (s : ℕ) (ds : tree.Declarations) → declarations_height ds ≤ 200 → DeclarationsLow (core_declarations E at s ds)
+declarations_low : (E : Env) (at : Numbers) (s : ℕ) (ds : tree.Declarations) → declarations_height ds ≤ 200 → OfDeclarations Low (core_declarations E at s ds)
 declarations_low E at s tree.no_declarations h = tt
 declarations_low E at s (tree.declaration (tree.Constants k es) ds) h =
     let d : tree.Declaration = tree.Constants k es in
@@ -126,14 +84,14 @@ declarations_low E at s (tree.declaration (tree.Let defs) ds) h =
 
 -- Commands
 
-labels_low : (E : Env) (k : ℕ) (ls : tree.Labels) (is : core.Items) → ItemsLow is → ItemsLow (core_labels E k ls is)
+labels_low : (E : Env) (k : ℕ) (ls : tree.Labels) (is : core.Items) → OfItems Low is → OfItems Low (core_labels E k ls is)
 labels_low E k tree.no_labels is h = h
 labels_low E k (tree.label (tree.Case c) ls) is h = labels_low E (k + 0) ls is h
 labels_low E k (tree.label tree.Default ls) is h = labels_low E (k + 0) ls is h
 labels_low E k (tree.label (tree.Named x) ls) is h = labels_low E (k + 1) ls is h
 
 mutual
-  pub block_low : (E : Env) (at : Numbers) (b : tree.Block) (s : ℕ) → block_height b ≤ 200 → BlockLow (core_block E at b s)
+  pub block_low : (E : Env) (at : Numbers) (b : tree.Block) (s : ℕ) → block_height b ≤ 200 → OfBlock Low (core_block E at b s)
   block_low E at (tree.block ds is) s h =
       let at1 = behind_declarations at ds in
       let k = at1.label in (
@@ -141,13 +99,13 @@ mutual
         items_low (in_list k is (in_declarations E at s ds)) k (behind_labels at1 (labels_in is)) is (level_behind E at s ds) (omega arith),
       )
 
-  items_low : (E : Env) (k : ℕ) (at : Numbers) (is : tree.Items) (s : ℕ) → items_height is ≤ 200 → ItemsLow (core_items E k at is s)
+  items_low : (E : Env) (k : ℕ) (at : Numbers) (is : tree.Items) (s : ℕ) → items_height is ≤ 200 → OfItems Low (core_items E k at is s)
   items_low E k at tree.no_items s h = tt
   items_low E k at (tree.item (tree.Labelled ls c) is) s h =
       labels_low E k ls _ (command_low E at c s (omega arith), items_low E (k + labels_of ls) (behind_command at c) is s (omega arith))
   items_low E k at (tree.item (tree.Labels_alone ls) is) s h = labels_low E k ls _ (items_low E (k + labels_of ls) at is s (omega arith))
 
-  command_low : (E : Env) (at : Numbers) (c : tree.Command) (s : ℕ) → command_height c ≤ 200 → CommandLow (core_command E at c s)
+  command_low : (E : Env) (at : Numbers) (c : tree.Command) (s : ℕ) → command_height c ≤ 200 → OfCommand Low (core_command E at c s)
   command_low E at (tree.Assign xs es) s h = assignment_low _ _ (forms_low E at xs (omega arith)) (forms_low E (behind_all at xs) es (omega arith))
   command_low E at (tree.Do f es) s h =
       let hf = (forms_nested E at f).1 in

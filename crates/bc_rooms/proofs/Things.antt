@@ -12,11 +12,12 @@ use Rattle.bc_scoping.specs.Sides.{side_levels}
 use Rattle.bc_scoping.specs.Found.{Thing, AValof, ARoutine, Data, core_routine, valof_of, in_parameters, found_in_entries, found, found_in_arguments, found_in_sides, found_in_initials, found_in_definition, found_in_definitions, found_in_declaration, found_in_declarations, found_in_block, found_in_items, found_in_command}
 use Rattle.bc_translation.proofs.Fits.{AllThings}
 use Rattle.bc_translation.proofs.Cleanness.{all_joined}
-use Rattle.bc_rooms.proofs.Commands.{BlockLow, BodyLow, content_low, block_low}
+use Rattle.bc_rooms.proofs.Throughout.{OfBlock, OfBody}
+use Rattle.bc_rooms.proofs.Commands.{Low, content_low, block_low}
 
 abbrev pub ThingLow : Thing → Type 0
-ThingLow (AValof f) = BlockLow (valof_of f).body
-ThingLow (ARoutine r) = BodyLow (core_routine r).body
+ThingLow (AValof f) = OfBlock Low (valof_of f).body
+ThingLow (ARoutine r) = OfBody Low (core_routine r).body
 ThingLow (Data label d) = Unit {0}
 
 abbrev pub ThingsLow : List Thing → Type 0

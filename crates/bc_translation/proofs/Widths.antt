@@ -156,7 +156,7 @@ call_wide V E at f es s hf hs =
     ∙ (λ i. max (s + 2 + count es) (max (hs i) (hf i)))
 
 mutual
-  exp_wide : (V : Bodies) (E : Env) (at : Numbers) (e : tree.Exp) (s : ℕ) → AllWide V (found E at e s) → AreWide V (forms E at e) s (width E at e s)
+  pub exp_wide : (V : Bodies) (E : Env) (at : Numbers) (e : tree.Exp) (s : ℕ) → AllWide V (found E at e s) → AreWide V (forms E at e) s (width E at e s)
   exp_wide V E at (tree.Name n) s h = name_wide V (meant_by E n) s
   exp_wide V E at (tree.Number w) s h = (refl, refl)
   exp_wide V E at (tree.Character w) s h = (refl, refl)

@@ -14,7 +14,8 @@ use Rattle.bc_entries.specs.Shown.{root_shown}
 use Rattle.bc_entries.specs.Lines.{line, entry_line, node_line, root_line, code_fields, code_line}
 use Rattle.bc_entries.specs.Certificate.{Derived, entry_text}
 use Rattle.bc_verdict.specs.Entries.{IsNumber, piece_field, PieceHasRoom, SamePiece, Listed, AllListed, none, more}
-use Rattle.bc_verdict.specs.Laws.{with_bodies, judged_of, HasRoom, HasFewest, CertificateIsSaid}
+use Rattle.bc_verdict.specs.Written.{with_bodies, judged_of, HasRoom, HasFewest}
+use Rattle.bc_verdict.specs.Laws.{CertificateIsSaid}
 use Rattle.bc_verdict.proofs.Rooms.{HaveItemRoom, root_code_room}
 
 -- bodies have the numbers of the line

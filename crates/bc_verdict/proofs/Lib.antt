@@ -31,7 +31,7 @@ mod Growth
 mod Listing
 mod Said
 mod Rooms
-mod Accepted
+pub mod Accepted
 mod Longer
 mod Frame
 pub mod Whole

@@ -1,20 +1,18 @@
 -- What holds of the certificates that are accepted, and of the first faults of other bytes.
-use Rattle.std.specs.Prelude.{◌≡◌, ℕ, ◌+◌, ◌≤◌, ◌⊎◌, ◌↔◌, List, [], ◌∷◌, ◌++◌, map, length, Ok, Err}
+use Rattle.std.specs.Prelude.{◌≡◌, ℕ, ◌≤◌, ◌⊎◌, ◌↔◌, List, ◌++◌, map, length, Ok, Err}
 use Rattle.std.specs.List.{AllByRecursion, AllZip}
-use Rattle.bc_derive.specs.declared.piece.Piece.{Piece}
-use Rattle.bc_derive.specs.declared.piece.Piece.TheVariants.{Item, Body}
 use Rattle.bc_derive.specs.declared.rule.Table.{Table}
 use Rattle.bc_derive.specs.declared.rule.Table.TheVariants.{Two}
 use Rattle.bc_derive.specs.Entry.{Entry}
 use Rattle.bc_derive.specs.Rules.{RootDerives}
-use Rattle.bc_derive.specs.Code.{root_code, root_labels, root_cost}
+use Rattle.bc_derive.specs.Code.{root_code, root_cost}
 use Rattle.bc_certificate.specs.declared.check_fault.CheckFault.{CheckFault}
 use Rattle.bc_certificate.specs.declared.check_fault.CheckFault.TheVariants.{Header, Truncated}
 use Rattle.bc_certificate.specs.Verdict.{Judged, Verdict}
-use Rattle.bc_entries.specs.Shown.{root_shown}
 use Rattle.bc_rules.specs.Derivation.{IsDerivation}
 use Rattle.bc_entries.specs.Certificate.{Derived, entry_of, certificate}
-use Rattle.bc_verdict.specs.Entries.{IsNumber, IsSmall, NodeHasRoom, RootHasRoom, Says, SamePiece}
+use Rattle.bc_verdict.specs.Entries.{IsNumber, Says, SamePiece}
+use Rattle.bc_verdict.specs.Written.{judged_of, HasRoom, HasFewest}
 use Rattle.bc_verdict.specs.Faults.{IsUnended, Lacks}
 use Rattle.bc_verdict.specs.Judging.{judged}
 
@@ -39,41 +37,6 @@ OneAnswer = (bytes : List ℕ) → HasOneAnswer bytes
 -- a fault stays the first one however the bytes go on; that they end in the first line, or before the last one, is known at their end alone
 abbrev pub LongerFaults : Type 0
 LongerFaults = (bytes more : List ℕ) (f : CheckFault) → (f ≡ Header → ¬ IsUnended bytes) → ¬ (f ≡ Truncated) → Lacks bytes f → Lacks (bytes ++ more) f
-
--- code as its line has it: each body has the next of these numbers of items, or 0 where none is left
-abbrev pub with_bodies : List Piece → (bodies : List ℕ) → List Piece
-with_bodies [] bodies = []
-with_bodies (Item i ∷ ps) bodies = Item i ∷ with_bodies ps bodies
-with_bodies (Body k ∷ ps) [] = Body 0 ∷ with_bodies ps []
-with_bodies (Body k ∷ ps) (n ∷ bodies) = Body n ∷ with_bodies ps bodies
-
--- what a verdict has of an entry
-abbrev pub judged_of : Derived → Judged
-judged_of d = record {
-  segment = d.segment;
-  item = d.item;
-  root = d.root;
-  target = d.target;
-  first = d.first;
-  code = with_bodies (root_code d.derivation d.target d.first) d.bodies;
-  words = root_cost d.derivation;
-}
-
--- its numbers have room in the lines
-pub record HasRoom (d : Derived) : Type 0 where
-  pub segment : IsNumber d.segment
-  pub item : IsNumber d.item
-  pub target : IsSmall d.target
-  pub first : IsSmall d.first
-  pub words : IsNumber (root_cost d.derivation)
-  pub labels : d.first + root_labels d.derivation ≤ 65536
-  pub nodes : AllByRecursion (NodeHasRoom Two) (root_shown d.derivation)
-  pub root : RootHasRoom d.root
-  pub bodies : AllByRecursion IsNumber d.bodies
-
--- no derivation of its root has fewer words
-abbrev pub HasFewest : Derived → Type 0
-HasFewest d = (other : RootDerives Two d.root) → root_cost d.derivation ≤ root_cost other
 
 -- the certificate of derivations of least words is accepted, and says just these entries
 abbrev pub CertificateIsSaid : Type 0
