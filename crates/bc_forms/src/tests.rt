@@ -43,7 +43,7 @@ fn of_command(alloc: Global, command: &str) -> Result<String, Fail> {
 
 #[test]
 fn commands(rt: HostRuntime) -> Result<(), Fail> {
-    let rows: [(&str, &str); 14] = [
+    let rows: [(&str, &str); 20] = [
         ("FINISH", "X22"),
         ("RETURN", "L0 X4"),
         ("H(G, 1)", "LIG100 SP4 L1 SP5 LIG101 K2"),
@@ -67,6 +67,30 @@ fn commands(rt: HostRuntime) -> Result<(), Fail> {
             "L5 SP2 LP4 SP3 LIP3 SG100",
         ),
         ("$( LET A, B = 1, 2; G := B $)", "L1 SP2 L2 SP3 LIP3 SG100"),
+        (
+            "$( LET A, B = 1, 2; A := A + B $)",
+            "L1 SP2 L2 SP3 LIP2 AIP3 SP2",
+        ),
+        (
+            "$( LET X = 5; G := X + G(); G := G() + X $)",
+            "L5 SP2 LIP2 SP3 LIG100 K4 AIP3 SG100 LIG100 K4 AIP2 SG100",
+        ),
+        (
+            "$( LET V, I, X = 1, 2, 3; V!I := X $)",
+            "L1 SP2 L2 SP3 L3 SP4 LIP2 AIP3 SP5 LIP4 SIP5",
+        ),
+        (
+            "$( LET P = 7; !P := G(1) $)",
+            "L7 SP2 L1 SP5 LIG100 K3 SIP2",
+        ),
+        (
+            "$( G := G(1) / H(2); G := G(1) * H(2) $)",
+            "L1 SP5 LIG100 K3 SP2 L2 SP5 LIG101 K3 SP3 LIP2 LIP3 X6 SG100 L1 SP5 LIG100 K3 SP2 L2 SP5 LIG101 K3 LIP2 X5 SG100",
+        ),
+        (
+            "$( G := G(1) - H(2); G := G(1) + H(2) $)",
+            "L1 SP5 LIG100 K3 SP2 L2 SP5 LIG101 K3 X2 AIP2 SG100 L1 SP5 LIG100 K3 SP2 L2 SP5 LIG101 K3 AIP2 SG100",
+        ),
     ];
     for (command, code) in rows {
         let wanted = format!(in rt.alloc(); "1 {code} L0 X4 G1L1 Z ")?;
@@ -77,7 +101,15 @@ fn commands(rt: HostRuntime) -> Result<(), Fail> {
 
 #[test]
 fn loops_and_cases(rt: HostRuntime) -> Result<(), Fail> {
-    let rows: [(&str, &str); 10] = [
+    let rows: [(&str, &str); 13] = [
+        (
+            "$( LET X = 5; IF X = 0 DO FINISH; IF 0 = X DO FINISH; IF X NE 0 DO FINISH $)",
+            "L5 SP2 LIP2 TL2 X22 2 LIP2 TL3 X22 3 LIP2 FL4 X22 4",
+        ),
+        (
+            "$( LET X = 5; UNLESS X = 0 DO FINISH; IF NOT (X = 0) DO FINISH; IF 0 = 0 DO FINISH $)",
+            "L5 SP2 LIP2 FL2 X22 2 LIP2 FL3 X22 3 L0 TL4 X22 4",
+        ),
         ("WHILE G DO $( BREAK; LOOP $)", "2 LIG100 FL3 JL3 JL2 JL2 3"),
         ("UNTIL G DO FINISH", "2 LIG100 TL3 X22 JL2 3"),
         ("BREAK REPEAT", "2 JL3 JL2 3"),
@@ -87,6 +119,10 @@ fn loops_and_cases(rt: HostRuntime) -> Result<(), Fail> {
         (
             "FOR I = 1 TO 3 DO LOOP",
             "L1 SP2 L3 SP3 2 LIP2 LIP3 X14 TL3 JL4 4 LIP2 A1 SP2 JL2 3",
+        ),
+        (
+            "FOR I = 1 TO 3 DO H(I)",
+            "L1 SP2 L3 SP3 2 LIP2 LIP3 X14 TL3 LIP2 SP6 LIG101 K4 4 LIP2 A1 SP2 JL2 3",
         ),
         (
             "FOR I = G TO 3 BY -1 DO BREAK",
@@ -104,6 +140,40 @@ fn loops_and_cases(rt: HostRuntime) -> Result<(), Fail> {
     for (command, code) in rows {
         let wanted = format!(in rt.alloc(); "1 {code} L0 X4 G1L1 Z ")?;
         assert_eq!(rt; of_command(rt.alloc(), command)?, wanted, "{command}");
+    }
+    Ok(())
+}
+
+/// Values of a, b, c and d at 2 to 5: those of one word, those that are held in a cell, and the last cell with a short address.
+#[test]
+fn expressions(rt: HostRuntime) -> Result<(), Fail> {
+    let rows: [(&str, &str); 6] = [
+        ("G := (A + B) * (C - D)", "LIP2 AIP3 LIP5 X2 AIP4 X5"),
+        ("G := (A * B) * (C - 1)", "LIP2 LIP3 X5 LIP4 A65535 X5"),
+        (
+            "G := (A * B) / (C * D)",
+            "LIP4 LIP5 X5 SP6 LIP2 LIP3 X5 LIP6 X6",
+        ),
+        (
+            "G := (G(1) * B) / (C * D)",
+            "L1 SP10 LIG100 K8 LIP3 X5 SP6 LIP4 LIP5 X5 SP7 LIP6 LIP7 X6",
+        ),
+        (
+            "LET V = VEC 503; G := (A * B) * (C * D)",
+            "LP7 SP6 LIP2 LIP3 X5 SP511 LIP4 LIP5 X5 LIP511 X5",
+        ),
+        (
+            "LET V = VEC 504; G := (A * B) * (C * D)",
+            "LP7 SP6 LIP2 LIP3 X5 SP512 LIP4 LIP5 X5 LIP512 X5",
+        ),
+    ];
+    for (commands, code) in rows {
+        let command = format!(in rt.alloc(); "$( LET A, B, C, D = 1, 2, 3, 4; {commands} $)")?;
+        let wanted = format!(in rt.alloc();
+            "1 L1 SP2 L2 SP3 L3 SP4 L4 SP5 {code} SG100 L0 X4 G1L1 Z "
+        )?;
+        let found = of_command(rt.alloc(), command.as_str())?;
+        assert_eq!(rt; found, wanted, "{commands}");
     }
     Ok(())
 }
@@ -146,16 +216,17 @@ fn entries(rt: HostRuntime) -> Result<(), Fail> {
     Ok(())
 }
 
-/// A routine with so many WHILEs, which take two labels each, and so many IFs, which take one.
+/// A routine with so many WHILEs, which take two labels each, and so many IFs, which take one, each on a line of its own.
 fn with_labels(alloc: Global, loops: usize, tests: usize) -> Result<String, Fail> {
-    let mut text = format!(in alloc; "{GLOBALS}LET START() BE $( FINISH")?;
+    let mut text = String::new(alloc);
+    text.push_str("LET START() BE $(\n")?;
     for _ in 0..loops {
-        text.push_str("; WHILE G DO FINISH")?;
+        text.push_str("WHILE 1 $( $)\n")?;
     }
     for _ in 0..tests {
-        text.push_str("; IF G DO FINISH")?;
+        text.push_str("IF 1 $( $)\n")?;
     }
-    text.push_str(" $)")?;
+    text.push_str("$)\n")?;
     Ok(text)
 }
 

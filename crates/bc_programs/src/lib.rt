@@ -5,3 +5,5 @@
 mod refusals;
 #[cfg(test)]
 mod runs;
+#[cfg(test)]
+mod texts;

@@ -21,11 +21,15 @@ fn refusal(alloc: Global, texts: &[&[u8]]) -> Result<Option<BuildError>, Fail> {
 
 #[test]
 fn texts_without_tokens_or_trees(rt: HostRuntime) -> Result<(), Fail> {
-    let table: [(&[u8], BuildError); 8] = [
+    let table: [(&[u8], BuildError); 12] = [
         (b"LET %", BuildError::Lex(0, LexError::BadCharacter(0, 4))),
         (b"65536", BuildError::Lex(0, LexError::NumberTooLarge(0, 0))),
         (b"\"*Q\"", BuildError::Lex(0, LexError::BadEscape(0, 1))),
         (b"GET \"A\"", BuildError::Lex(0, LexError::GetTooDeep(0, 0))),
+        (b"GET \"B\"", BuildError::Lex(0, LexError::GetMissing(0, 0))),
+        (b"A/*x", BuildError::Lex(0, LexError::Unterminated(0, 1))),
+        (b"'AB'", BuildError::Lex(0, LexError::Unterminated(0, 0))),
+        (b"#8", BuildError::Lex(0, LexError::BadCharacter(0, 0))),
         (
             b"LET START() BE $(A $)C",
             BuildError::Parse(0, ParseError::NotOpen(6)),
@@ -130,6 +134,27 @@ fn faults_of_scopes(rt: HostRuntime) -> Result<(), Fail> {
         )?
         .is_none()
     );
+    Ok(())
+}
+
+/// A section of so many statics.
+fn statics(alloc: Global, count: usize) -> Result<Vec<u8>, Fail> {
+    let mut text = Vec::new(alloc);
+    for _ in 0..count {
+        text.extend_from_slice(b"STATIC $( A = 1 $);")?;
+    }
+    Ok(text)
+}
+
+#[test]
+fn a_section_has_8_000_places_at_most(rt: HostRuntime) -> Result<(), Fail> {
+    let most = statics(rt.alloc(), 8_000)?;
+    assert!(rt; refusal(rt.alloc(), &[most.as_slice()])?.is_none());
+    let more = statics(rt.alloc(), 8_001)?;
+    match refusal(rt.alloc(), &[more.as_slice()])? {
+        Some(fault) => assert!(rt; fault == BuildError::Scope(0, ScopeFault::TooManyPlaces)),
+        None => assert!(rt; false),
+    }
     Ok(())
 }
 

@@ -62,10 +62,10 @@ fn ran(alloc: Global, built: &Built, input: &[u8], steps: u64) -> Result<(End, V
     Ok((end, output))
 }
 
-/// What a program of these sources writes over an empty input, and how it ends in 100,000 instructions.
-fn written(alloc: Global, texts: &[&str]) -> Result<(End, Vec<u8>), Fail> {
+/// What a program of these sources writes over an empty input, and how it ends in so many instructions.
+fn written(alloc: Global, texts: &[&str], steps: u64) -> Result<(End, Vec<u8>), Fail> {
     let built = built(alloc, texts)??;
-    ran(alloc, &built, b"", 100_000)
+    ran(alloc, &built, b"", steps)
 }
 
 #[test]
@@ -95,10 +95,16 @@ fn commands_of_start(rt: HostRuntime) -> Result<(), Fail> {
             "$( LET I = 0; L: I := I+1; IF I<3 GOTO L; WRCH('0'+I) $)",
             "3",
         ),
+        ("$( LET A,B = 1,2; A := A+B; WRITEN(A) $)", "3"),
+        ("FOR I = 1 TO 3 DO WRCH('0'+I)", "123"),
+        ("WRITEN(\"AB\"!0)", "577"),
+        ("WRITEN(\"AB\"!1)", "16896"),
+        ("WRITEN(\"\"!0)", "0"),
+        ("WRITEN(RDCH())", "-1"),
     ];
     for (commands, wanted) in table {
         let text = format!(in rt.alloc(); "GET \"LIBHDR\" LET START() BE {commands}")?;
-        let (end, output) = written(rt.alloc(), &[text.as_str()])?;
+        let (end, output) = written(rt.alloc(), &[text.as_str()], 100_000)?;
         assert_eq!(rt; end, End::Finished);
         assert_eq!(rt; output.as_slice(), wanted.as_bytes());
     }
@@ -107,19 +113,22 @@ fn commands_of_start(rt: HostRuntime) -> Result<(), Fail> {
 
 #[test]
 fn whole_sections(rt: HostRuntime) -> Result<(), Fail> {
-    let table: [(&[&str], End, &str); 6] = [
+    let table: [(&[&str], u64, End, &str); 6] = [
         (
             &["GET \"LIBHDR\" LET START() BE $(A $( WRCH('A') $)A"],
+            100_000,
             End::Finished,
             "A",
         ),
         (
             &["GET \"LIBHDR\" STATIC $( Z = 0 $); LET START() BE $( WRCH('A'); WRITEN(1/Z) $)"],
+            100_000,
             End::ZeroDivide,
             "A",
         ),
         (
             &["GET \"LIBHDR\" LET START() BE $( WRCH('A'); $( $) REPEAT $)"],
+            1000,
             End::BudgetSpent,
             "A",
         ),
@@ -127,11 +136,13 @@ fn whole_sections(rt: HostRuntime) -> Result<(), Fail> {
             &[
                 "GET \"LIBHDR\" GLOBAL $( X:100 $); LET F() = VALOF $( X := 7; RESULTIS 1 $); LET START() BE $( X := 5; WRITEN(X + F()); X := 5; WRITEN(F() + X) $)",
             ],
+            100_000,
             End::Finished,
             "68",
         ),
         (
             &["GET \"LIBHDR\" LET F(A,B) BE WRITEN(A); LET START() BE $( F(1,2,3); F(4) $)"],
+            100_000,
             End::Finished,
             "14",
         ),
@@ -140,12 +151,13 @@ fn whole_sections(rt: HostRuntime) -> Result<(), Fail> {
                 "GLOBAL $( START:1; F:100 $); LET START() BE F()",
                 "GET \"LIBHDR\" GLOBAL $( F:100 $); LET F() BE WRCH('B')",
             ],
+            100_000,
             End::Finished,
             "B",
         ),
     ];
-    for (texts, end, wanted) in &table {
-        let (ended, output) = written(rt.alloc(), texts)?;
+    for (texts, steps, end, wanted) in &table {
+        let (ended, output) = written(rt.alloc(), texts, *steps)?;
         assert_eq!(rt; ended, *end);
         assert_eq!(rt; output.as_slice(), wanted.as_bytes());
     }

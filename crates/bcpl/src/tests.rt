@@ -35,9 +35,12 @@ fn said<'a>(
 
 #[test]
 fn texts_on_standard_input(rt: HostRuntime) -> Result<(), Fail> {
-    let table: [(&[u8], u8, &str, &str); 8] = [
+    let table: [(&[u8], u8, &str, &str); 11] = [
         (HELLO, 0, "A", ""),
         (b"Q", 1, "", "bcpl: text 1 BadCharacter 0\n"),
+        (b"L65536 Z", 1, "", "bcpl: text 2 BadNumber 1\n"),
+        (b"L 5 Z", 1, "", "bcpl: text 2 BadNumber 1\n"),
+        (b"G1 Z", 1, "", "bcpl: text 3 MissingLabel 2\n"),
         (b"L5", 1, "", "bcpl: text 4 Unended\n"),
         (b"1 1 LL7 Z", 1, "", "bcpl: link 2 LabelTwice 1 1\n"),
         (b"LL7 Z", 1, "", "bcpl: link 1 LabelUnset 1 7\n"),
@@ -82,6 +85,16 @@ fn texts_in_files(rt: HostRuntime) -> Result<(), Fail> {
         )?
     );
     assert!(rt; answers(&rt, &["run", "--steps", "1000", echo.as_str()], 0, "in", "")?);
+    let nothing = file(&rt, "nothing", b"Z")?;
+    assert!(rt;
+        answers(
+            &rt,
+            &["run", "--steps", "1000", nothing.as_str()],
+            2,
+            "",
+            "bcpl: ended BudgetSpent\n",
+        )?
+    );
     Ok(())
 }
 
@@ -217,6 +230,7 @@ fn words_are_printed(rt: HostRuntime) -> Result<(), Fail> {
     let lines = answer.1.as_str();
     assert_eq!(rt; lines.lines().count(), 551);
     assert!(rt; lines.starts_with("5121\n49154\n57366\n0\n0\n0\n0\n0\n0\n546\n"));
+    assert_eq!(rt; lines.lines().nth(22), Some("530"));
     assert!(rt; lines.ends_with("\n65\n10244\n5134\n49154\n57348\n"));
     Ok(())
 }
