@@ -22,7 +22,7 @@ def main():
     for name, (kind, nodes) in KINDS.items():
         before, ratios = None, [0.0] * len(PARTS)
         for doubling in range(11):
-            found = best(program, kind, (1000 << doubling) // nodes, 10 if doubling < 8 else 5)
+            found = best(program, kind, (1000 << doubling) // nodes, 5 if doubling < 8 else 3)
             rates = [f"{part} {found[0] * 1000 / time:.1f}" for part, time in zip(PARTS, found[1:]) if time]
             print(f"{name}, {found[0]} nodes, million nodes/s: {', '.join(rates)}")
             if before:

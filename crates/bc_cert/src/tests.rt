@@ -56,7 +56,7 @@ fn joined(alloc: Global, parts: &[&str]) -> Result<Vec<u8>, CheckFault> {
 fn judges_the_sample_and_alterations_of_it(rt: HostRuntime) {
     let alloc = rt.alloc();
     assert_eq!(rt; answer(alloc, SAMPLE), Ok((1, 4)));
-    let faults: [(&str, &str, CheckFault); 20] = [
+    let faults: [(&str, &str, CheckFault); 25] = [
         ("2 4\n4", "2 5\n4", CheckFault::WrongWords(0)),
         ("K1 4", "K1 5", CheckFault::WrongCost(0, 3)),
         ("N65", "N66", CheckFault::WrongCode(0)),
@@ -81,6 +81,19 @@ fn judges_the_sample_and_alterations_of_it(rt: HostRuntime) {
         ("0 2 4", "65536 2 4", CheckFault::Line(2)),
         ("E 0", "E 18446744073709551616", CheckFault::Line(2)),
         ("2 K1", "32769 K1", CheckFault::Line(6)),
+        ("2 4\n4", "65536 4\n4", CheckFault::Line(2)),
+        (
+            "K1 4",
+            "K1 18446744073709551615",
+            CheckFault::WrongCost(0, 3),
+        ),
+        ("K1 4", "K1 18446744073709551616", CheckFault::Line(6)),
+        (
+            "2 4\n4",
+            "2 18446744073709551615\n4",
+            CheckFault::WrongWords(0),
+        ),
+        ("2 4\n4", "2 18446744073709551616\n4", CheckFault::Line(2)),
     ];
     for (from, to, fault) in faults {
         assert_eq!(rt; altered(alloc, from, to), Err(fault), "{to}");
@@ -120,6 +133,7 @@ fn judges_by_the_table_of_the_header(rt: HostRuntime) -> Result<(), CheckFault> 
     let second = joined(alloc, &["BCPLCERT 2\n", TEST_OF_ZERO])?;
     assert_eq!(rt; answer(alloc, second.as_slice()), Ok((1, 3)));
     assert_eq!(rt; answer(alloc, b"BCPLCERT 1\nZ 0\n"), Ok((0, 0)));
+    assert_eq!(rt; answer(alloc, b"BCPLCERT 2\nZ 0\n"), Ok((0, 0)));
     Ok(())
 }
 
@@ -133,20 +147,136 @@ fn an_assignment_has_the_rule_of_least_words(rt: HostRuntime) -> Result<(), Chec
     Ok(())
 }
 
+// The number 1 under minus signs, of so many nodes in all.
+fn nested(alloc: Global, nodes: u64) -> Result<Vec<u8>, CheckFault> {
+    let head = format!(in alloc; "BCPLCERT 1\nE 0 0 0 1 {nodes}\n3 N1 1 1 0 2 V0.V1\n")?;
+    let mut text = joined(alloc, &[head.as_str()])?;
+    let mut code = joined(alloc, &["R V\nC L1"])?;
+    for below in 1..nodes {
+        let words = u128::from(below) + 1;
+        let test = words + 2;
+        let line = format!(in alloc; "3 M {words} {words} {test} {test} V3\n")?;
+        text.extend_from_slice(line.as_str().as_bytes())?;
+        code.extend_from_slice(b" X2")?;
+    }
+    text.extend_from_slice(code.as_slice())?;
+    text.extend_from_slice(b"\nZ 1\n")?;
+    Ok(text)
+}
+
 #[test]
 fn nodes_stand_at_most_400_deep(rt: HostRuntime) -> Result<(), CheckFault> {
-    let mut text = joined(
-        rt.alloc(),
-        &["BCPLCERT 1\nE 0 0 0 1 400\n3 N1 1 1 0 2 V0.V1\n"],
-    )?;
-    for words in 2..=401u64 {
-        let line = format!(in rt.alloc(); "3 M {words} {words} {} {} V3\n", words + 2, words + 2)?;
-        text.extend_from_slice(line.as_str().as_bytes())?;
-    }
+    let alloc = rt.alloc();
+    let text = nested(alloc, 400)?;
+    assert_eq!(rt; answer(alloc, text.as_slice()), Ok((1, 400)));
+    let text = nested(alloc, 401)?;
     assert_eq!(rt;
-        answer(rt.alloc(), text.as_slice()),
+        answer(alloc, text.as_slice()),
         Err(CheckFault::TooDeep(403))
     );
+    Ok(())
+}
+
+// A level, numbers and labels at their bounds and one past them.
+#[test]
+fn levels_labels_and_numbers_have_bounds(rt: HostRuntime) -> Result<(), CheckFault> {
+    let alloc = rt.alloc();
+    let cases: [(&str, Result<(usize, u64), CheckFault>); 9] = [
+        (
+            "E 0 1 0 1 1\n32768 N65 1 1 0 2 V0.V1\nR V\nC L65\nZ 1\n",
+            Ok((1, 1)),
+        ),
+        (
+            "E 0 1 0 1 1\n32769 N65 1 1 0 2 V0.V1\nR V\nC L65\nZ 1\n",
+            Err(CheckFault::Line(3)),
+        ),
+        (
+            "E 0 1 0 1 2\n3 N65535 2 2 0 2 V0.V1\nR V\nC L65535\nZ 1\n",
+            Ok((1, 2)),
+        ),
+        (
+            "E 0 1 0 1 2\n3 N65536 2 2 0 2 V0.V1\nR V\nC L65535\nZ 1\n",
+            Err(CheckFault::Line(3)),
+        ),
+        (
+            "E 0 1 0 1 2\n3 N65535 2 2 0 2 V0.V1\nR V\nC L65536\nZ 1\n",
+            Err(CheckFault::Line(5)),
+        ),
+        (
+            "E 0 1 0 65535 0\n3 V7 0 - 2 2 V22\nR V\nC ?18446744073709551615 65535\nZ 1\n",
+            Ok((1, 0)),
+        ),
+        (
+            "E 0 1 0 65535 0\n3 V7 0 - 2 2 V22\nR V\nC ?18446744073709551616 65535\nZ 1\n",
+            Err(CheckFault::Line(5)),
+        ),
+        (
+            "E 0 1 0 65534 4\n3 N1 1 1 0 2 J7\n3 N5 1 1 0 2 V0.V1\n3 N6 1 1 0 2 V0.V1\n3 ? 4 - 6 6 V20\nR V\nC L5 JL65535 65534 L6 65535\nZ 1\n",
+            Ok((1, 4)),
+        ),
+        (
+            "E 0 1 0 65535 4\n3 N1 1 1 0 2 J7\n3 N5 1 1 0 2 V0.V1\n3 N6 1 1 0 2 V0.V1\n3 ? 4 - 6 6 V20\nR V\nC L5 JL0 65535 L6 0\nZ 1\n",
+            Err(CheckFault::WrongCode(0)),
+        ),
+    ];
+    for (lines, expected) in cases {
+        let text = joined(alloc, &["BCPLCERT 1\n", lines])?;
+        assert_eq!(rt; answer(alloc, text.as_slice()), expected, "{lines}");
+    }
+    Ok(())
+}
+
+// A text with another byte at a place.
+fn with_byte(alloc: Global, text: &[u8], at: usize, byte: u8) -> Result<Vec<u8>, CheckFault> {
+    let mut new = Vec::new(alloc);
+    for place in 0..text.len() {
+        new.push(if place == at { byte } else { text[place] })?;
+    }
+    Ok(new)
+}
+
+// How many texts that differ from this one in one byte are accepted with its words.
+fn lawful_changes(alloc: Global, text: &[u8]) -> Result<u32, CheckFault> {
+    let mut count: u32 = 0;
+    for at in 0..text.len() {
+        for byte in 0..=255u8 {
+            if byte != text[at] {
+                match answer(alloc, with_byte(alloc, text, at, byte)?.as_slice()) {
+                    Ok(answer) => {
+                        if answer == (1, 4) {
+                            count = count.wrapping_add(1);
+                        }
+                    }
+                    Err(CheckFault::Read) => return Err(CheckFault::Read),
+                    Err(CheckFault::Memory) => return Err(CheckFault::Memory),
+                    Err(_) => {}
+                }
+            }
+        }
+    }
+    Ok(count)
+}
+
+// The other header, and nine other digits for the segment, the item, the target and the first label.
+#[test]
+fn each_byte_counts(rt: HostRuntime) -> Result<(), CheckFault> {
+    let alloc = rt.alloc();
+    assert_eq!(rt; lawful_changes(alloc, SAMPLE)?, 37);
+    let second = with_byte(alloc, SAMPLE, 9, b'2')?;
+    assert_eq!(rt; lawful_changes(alloc, second.as_slice())?, 37);
+    Ok(())
+}
+
+#[test]
+fn a_line_may_have_ten_million_bytes(rt: HostRuntime) -> Result<(), CheckFault> {
+    let alloc = rt.alloc();
+    let mut text = joined(alloc, &["BCPLCERT 1\nE "])?;
+    for _ in 0..10_000_000u32 {
+        text.push(b'9')?;
+    }
+    assert_eq!(rt; answer(alloc, text.as_slice()), Err(CheckFault::Truncated));
+    text.push(b'\n')?;
+    assert_eq!(rt; answer(alloc, text.as_slice()), Err(CheckFault::Line(2)));
     Ok(())
 }
 

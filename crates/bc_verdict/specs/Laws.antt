@@ -12,7 +12,7 @@ use Rattle.bc_certificate.specs.Verdict.{Judged, Verdict}
 use Rattle.bc_rules.specs.Derivation.{IsDerivation}
 use Rattle.bc_entries.specs.Certificate.{Derived, entry_of, certificate}
 use Rattle.bc_verdict.specs.Entries.{IsNumber, Says, SamePiece}
-use Rattle.bc_verdict.specs.Written.{judged_of, HasRoom, HasFewest}
+use Rattle.bc_verdict.specs.Written.{HasRoom, HasFewest, verdict_of}
 use Rattle.bc_verdict.specs.Faults.{IsUnended, Lacks}
 use Rattle.bc_verdict.specs.Judging.{judged}
 
@@ -42,7 +42,7 @@ LongerFaults = (bytes more : List ℕ) (f : CheckFault) → (f ≡ Header → ¬
 abbrev pub CertificateIsSaid : Type 0
 CertificateIsSaid =
     (ds : List Derived) → AllByRecursion HasFewest ds → AllByRecursion HasRoom ds → IsNumber (length ds)
-    → Says (certificate ds) (record { table = Two; entries = map judged_of ds })
+    → Says (certificate ds) (verdict_of ds)
 
 -- the entry's code is that of a derivation of its root, with these words, and no derivation of the root has fewer
 pub record IsLeastCode (T : Table) (j : Judged) : Type 0 where

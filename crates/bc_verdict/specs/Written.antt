@@ -1,12 +1,12 @@
 -- Entries as they are written in a certificate, and the room that they need there.
-use Rattle.std.specs.Prelude.{ℕ, ◌+◌, ◌≤◌, List, [], ◌∷◌}
+use Rattle.std.specs.Prelude.{ℕ, ◌+◌, ◌≤◌, List, [], ◌∷◌, map}
 use Rattle.std.specs.List.{AllByRecursion}
 use Rattle.bc_derive.specs.declared.piece.Piece.{Piece}
 use Rattle.bc_derive.specs.declared.piece.Piece.TheVariants.{Item, Body}
 use Rattle.bc_derive.specs.declared.rule.Table.TheVariants.{Two}
 use Rattle.bc_derive.specs.Rules.{RootDerives}
 use Rattle.bc_derive.specs.Code.{root_code, root_labels, root_cost}
-use Rattle.bc_certificate.specs.Verdict.{Judged}
+use Rattle.bc_certificate.specs.Verdict.{Judged, Verdict}
 use Rattle.bc_entries.specs.Shown.{root_shown}
 use Rattle.bc_entries.specs.Certificate.{Derived}
 use Rattle.bc_verdict.specs.Entries.{IsNumber, IsSmall, NodeHasRoom, RootHasRoom}
@@ -45,3 +45,7 @@ pub record HasRoom (d : Derived) : Type 0 where
 -- no derivation of its root has fewer words
 abbrev pub HasFewest : Derived → Type 0
 HasFewest d = (other : RootDerives Two d.root) → root_cost d.derivation ≤ root_cost other
+
+-- what the certificate of these says, where it is accepted
+abbrev pub verdict_of : List Derived → Verdict
+verdict_of ds = record { table = Two; entries = map judged_of ds }

@@ -1,0 +1,32 @@
+// Writing a certificate.
+
+ghost use Rattle.std.specs.Prelude.{◌≡◌, List, OnOk, IfErr, map};
+ghost use Rattle.std.specs.List.{AllByRecursion};
+ghost use Rattle.std.specs.Io.KnownBytes.{Appends};
+ghost use Rattle.bc_text.specs.Printed.{AppendsFront};
+ghost use Rattle.bc_derive.specs.View.{entry as entry_seen};
+ghost use Rattle.bc_entries.specs.Certificate.{Derived, entry_of, certificate};
+ghost use Rattle.bc_verdict.specs.Entries.{Says};
+ghost use Rattle.bc_verdict.specs.Written.{HasFewest, HasRoom, verdict_of};
+
+use bc_derive::Entry;
+use bc_entries::CertFault;
+use std::alloc::Global;
+use std::io::Write;
+
+/// Writes the certificate of the entries, by table 2: the header, the lines of each entry, and the last line.
+///
+/// The derivation of each entry is one of its root by table 2; of other entries nothing is said. Where no derivation of a
+/// root has fewer words than the entry's, and the numbers have room in the lines, the certificate is accepted, and says
+/// just these entries.
+///
+/// `Write` comes where the writer failed: it answered an error, or took nothing. `Memory` comes where an allocation was
+/// refused, where an offset or a label in the code of an entry would be over 65,535, and where a root has more than 2^32
+/// nodes. After either the writer has taken a front of the text.
+pub fn write_cert<W: Write>(alloc: Global, entries: &[Entry], out: &mut W) -> Result<(), CertFault>
+    ensures written { (ds : List Derived) → map entry_seen entries.now ≡ map entry_of ds → OnOk result (Appends (W.contents out.old) (W.contents out.new) (certificate ds)) }
+    ensures front { (ds : List Derived) → map entry_seen entries.now ≡ map entry_of ds → AppendsFront (W.contents out.old) (W.contents out.new) (certificate ds) }
+    ensures accepted { (ds : List Derived) → map entry_seen entries.now ≡ map entry_of ds → AllByRecursion HasFewest ds → AllByRecursion HasRoom ds → Says (certificate ds) (verdict_of ds) }
+{
+    bc_entries::write_cert(alloc, entries, out)
+}
