@@ -1,3 +1,6 @@
 mod Counts
 mod Derivations
 mod Fresh
+mod Speaking
+mod Names
+mod Runs
