@@ -4,3 +4,4 @@ mod Fresh
 mod Speaking
 mod Names
 mod Runs
+mod Commands

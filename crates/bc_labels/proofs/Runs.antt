@@ -65,11 +65,13 @@ close_two {c = c} {g = g} f xs h e = record { each = λ k. closing (stands k xs)
 pub close_three : {c : ℕ → ℕ} {g : ℕ} (f : ℕ) (xs : List Item) → Run c (f + 3) g xs → ((k : ℕ) → c k ≡ at f k + at (f + 1) k + at (f + 2) k) → Run none f g xs
 close_three {c = c} {g = g} f xs h e = record { each = λ k. closing (stands k xs) (below k f) (below k (f + 3)) (below k g) (c k) (at f k + at (f + 1) k + at (f + 2) k) (h.each k) (third_below k f) (e k) }
 
+closing_part : (n b0 b1 b2 c a d : ℕ) → n + b1 ≡ b2 + c → a + b0 ≡ b1 → c ≡ a + d → n + b0 ≡ b2 + d
+closing_part n b0 b1 b2 c a d h i j = omega arith
+
 -- as many as those of a list, from f on
-pub close_list : {c : ℕ → ℕ} {g : ℕ} (f m : ℕ) (d : ℕ → ℕ) (xs : List Item) → Run c (f + m) g xs → ((k : ℕ) → d k + below k f ≡ below k (f + m)) → ((k : ℕ) → c k ≡ d k) → Run none f g xs
-close_list {c = c} {g = g} f m d xs h i e = record { each = λ k. closing (stands k xs) (below k f) (below k (f + m)) (below k g) (c k) (d k) (h.each k) (by (d k) (below k f) (below k (f + m)) (i k)) (e k) } where
-  by : (a b c1 : ℕ) → a + b ≡ c1 → c1 ≡ b + a
-  by a b c1 h1 = omega arith
+pub close_list : {c : ℕ → ℕ} {g : ℕ} (f m : ℕ) (taken rest : ℕ → ℕ) (xs : List Item) → Run c (f + m) g xs → ((k : ℕ) → taken k + below k f ≡ below k (f + m)) → ((k : ℕ) → c k ≡ taken k + rest k) → Run rest f g xs
+close_list {c = c} {g = g} f m taken rest xs h i e =
+    record { each = λ k. closing_part (stands k xs) (below k f) (below k (f + m)) (below k g) (c k) (taken k) (rest k) (h.each k) (i k) (e k) }
 
 pub same_owed : {c : ℕ → ℕ} {f g : ℕ} (d : ℕ → ℕ) (xs : List Item) → Run c f g xs → ((k : ℕ) → c k ≡ d k) → Run d f g xs
 same_owed {c = c} {f = f} {g = g} d xs h e = record { each = λ k. h.each k ∙ ap (λ m. below k g + m) (e k) }
