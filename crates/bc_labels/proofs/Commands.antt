@@ -17,14 +17,14 @@ use Rattle.bc_labels.proofs.Speaking.{In, Speaks, both, nothing, item}
 use Rattle.bc_labels.proofs.Names.{Names, NamesOfRoot}
 use Rattle.bc_labels.proofs.Runs.{Run, none, behind, mark, empty, alike, close_one, close_two, close_three, close_list, same_owed, Sound, SoundRoots, Allowed, in_loop, in_a_list, in_a_switch, root_names, sides_name}
 
-upto : (a b c : ℕ) → a ≤ b → b ≤ c → a ≤ c
+pub upto : (a b c : ℕ) → a ≤ b → b ≤ c → a ≤ c
 upto a b c h k = omega arith
 
-less : (f k n : ℕ) → f + k ≤ n → f ≤ n
+pub less : (f k n : ℕ) → f + k ≤ n → f ≤ n
 less f k n h = omega arith
 
 -- code behind code
-joined : {Q : ℕ → Type 0} {c : ℕ → ℕ} {f : ℕ} (x y : Code Item) → Sound Q none f x → Sound Q c x.1 y → Sound Q c f (x.0 ++ y.0, y.1)
+pub joined : {Q : ℕ → Type 0} {c : ℕ → ℕ} {f : ℕ} (x y : Code Item) → Sound Q none f x → Sound Q c x.1 y → Sound Q c f (x.0 ++ y.0, y.1)
 joined {c = c} {f = f} x y h k =
     record {
       up = upto f x.1 y.1 h.up k.up;
@@ -32,14 +32,14 @@ joined {c = c} {f = f} x y h k =
       speaks = λ n q l u. both x.0 y.0 (h.speaks n q l (upto x.1 y.1 n k.up u)) (k.speaks n q (upto 1 f x.1 l h.up) u);
     }
 
-weaker : {Q R : ℕ → Type 0} {f : ℕ} (x : Code Item) → ((n : ℕ) → R n → Q n) → Sound Q none f x → Sound R none f x
+pub weaker : {Q R : ℕ → Type 0} {f : ℕ} (x : Code Item) → ((n : ℕ) → R n → Q n) → Sound Q none f x → Sound R none f x
 weaker x e h = record { up = h.up; run = h.run; speaks = λ n q l u. h.speaks n (e n q) l u }
 
-nothing_there : {Q : ℕ → Type 0} (f : ℕ) → Sound Q none f ([], f)
+pub nothing_there : {Q : ℕ → Type 0} (f : ℕ) → Sound Q none f ([], f)
 nothing_there f = record { up = omega arith; run = empty f; speaks = λ n q l u. nothing }
 
 -- an item that is no label
-only : {Q : ℕ → Type 0} (f : ℕ) (xs : List Item) → ((k : ℕ) → stands k xs ≡ 0) → ((n : ℕ) → Q n → Speaks n xs) → Sound Q none f (xs, f)
+pub only : {Q : ℕ → Type 0} (f : ℕ) (xs : List Item) → ((k : ℕ) → stands k xs ≡ 0) → ((n : ℕ) → Q n → Speaks n xs) → Sound Q none f (xs, f)
 only f xs e h = record { up = omega arith; run = alike xs [] e (empty f); speaks = λ n q l u. h n q }
 
 table_plain : (is : Items) (at : ℕ → ℕ) (k : ℕ) → stands k (table_of (λ i. i) is at) ≡ 0
@@ -64,7 +64,7 @@ table_speaks (label l is) at h = table_speaks is at h
 between : (f g x n : ℕ) → 1 ≤ f → g ≤ n → (f ≤ x) × (x < g) → In n x
 between f g x n l u h = let h0 = h.0 in let h1 = h.1 in (omega arith, omega arith)
 
-module _ (A : Around) (roots : Roots Item) (r : SoundRoots roots) where
+module _ (A : Around) (roots : Roots Item) (r : SoundRoots A.places roots) where
   abbrev Places : ℕ → Type 0
   Places n = A.places < n
 
@@ -74,12 +74,12 @@ module _ (A : Around) (roots : Roots Item) (r : SoundRoots roots) where
       let x = emit_variable roots (Initial e) i s f in
       let y = emit_variables roots vs (i + cells_of (Initial e)) s x.1 in
       let fits = left_true (assignment_fits A e (Frame k) u) (variables_fit A vs (k + 1) u) h in
-      joined x y (weaker x (λ n p. (((sides_name A n p e (Frame k) u fits).0, tt), tt)) (r (Assign s e (Frame i)) 0 f))
+      joined x y (weaker x (λ n p. (p, ((sides_name A n p e (Frame k) u fits).0, tt), tt)) (r (Assign s e (Frame i)) 0 f))
       (variables_sound vs (k + 1) u (right_true (assignment_fits A e (Frame k) u) (variables_fit A vs (k + 1) u) h) (i + cells_of (Initial e)) s x.1)
   variables_sound (Vector m ∷ vs) k u h i s f =
       let x = emit_variable roots (Vector m) i s f in
       let y = emit_variables roots vs (i + cells_of (Vector m)) s x.1 in
-      joined x y (weaker x (λ n p. ((tt, tt), tt)) (r (Assign s (Frame (i + 1)) (Frame i)) 0 f))
+      joined x y (weaker x (λ n p. (p, (tt, tt), tt)) (r (Assign s (Frame (i + 1)) (Frame i)) 0 f))
       (variables_sound vs (k + (m + 2)) u h (i + cells_of (Vector m)) s x.1)
 
   declarations_sound : (ds : List (List Variable)) (u : ℕ) → declarations_fit A ds u ≡ true → (s f : ℕ) → Sound Places none f (emit_declarations roots ds s f)
@@ -94,8 +94,8 @@ module _ (A : Around) (roots : Roots Item) (r : SoundRoots roots) where
 
   mutual
     command_sound : (c : Command) (J : Jumps) (u : ℕ) → command_fits A J c u ≡ true → command_cases_differ c ≡ true → (s : ℕ) (E : Exits) (f : ℕ) → Sound (Allowed A J E) none f (emit (λ i. i) roots c s E f)
-    command_sound (commands.Call e) J u h d s E f = weaker (roots (Value s e) 0 f) (λ n a. (root_names A n a.places e u h, tt)) (r (Value s e) 0 f)
-    command_sound (commands.Assign v e) J u h d s E f = weaker (roots (Assign s v e) 0 f) (λ n a. (sides_name A n a.places v e u h, tt)) (r (Assign s v e) 0 f)
+    command_sound (commands.Call e) J u h d s E f = weaker (roots (Value s e) 0 f) (λ n a. (a.places, root_names A n a.places e u h, tt)) (r (Value s e) 0 f)
+    command_sound (commands.Assign v e) J u h d s E f = weaker (roots (Assign s v e) 0 f) (λ n a. (a.places, sides_name A n a.places v e u h, tt)) (r (Assign s v e) 0 f)
     command_sound (commands.If sense e b) J u h d s E f =
         let t = roots (Test s (not sense) e) f (f + 1) in
         let x = emit_block (λ i. i) roots b s E t.1 in
@@ -107,7 +107,7 @@ module _ (A : Around) (roots : Roots Item) (r : SoundRoots roots) where
         record {
           up = omega arith;
           run = close_one f _ (behind t.0 _ ht.run (behind x.0 _ hx.run (mark f [] (empty x.1)))) (λ k. omega arith);
-          speaks = λ n a l m. both t.0 _ (ht.speaks n (root_names A n a.places e u he, (l, omega arith)) (omega arith) (omega arith))
+          speaks = λ n a l m. both t.0 _ (ht.speaks n (a.places, root_names A n a.places e u he, (l, omega arith)) (omega arith) (omega arith))
               (both x.0 _ (hx.speaks n a (omega arith) m) (item (Label f) [] tt nothing));
         }
     command_sound (commands.While sense e b) J u h d s E f =
@@ -125,7 +125,7 @@ module _ (A : Around) (roots : Roots Item) (r : SoundRoots roots) where
           speaks = λ n a l m.
               let begin : In n f = (l, omega arith) in
               let end : In n (f + 1) = (omega arith, omega arith) in
-              item (Label f) _ tt (both t.0 _ (ht.speaks n (root_names A n a.places e u he, end) (omega arith) (omega arith))
+              item (Label f) _ tt (both t.0 _ (ht.speaks n (a.places, root_names A n a.places e u he, end) (omega arith) (omega arith))
               (both x.0 _ (hx.speaks n (in_loop (f + 1) f end begin a) (omega arith) m) (item (jump f) _ begin (item (Label (f + 1)) [] tt nothing))));
         }
     command_sound (commands.Test e b c) J u h d s E f =
@@ -152,7 +152,7 @@ module _ (A : Around) (roots : Roots Item) (r : SoundRoots roots) where
           speaks = λ n a l m.
               let begin : In n f = (l, omega arith) in
               let end : In n (f + 1) = (omega arith, omega arith) in
-              both t.0 _ (ht.speaks n (root_names A n a.places e u (left_true fe fb front), begin) (omega arith) (omega arith))
+              both t.0 _ (ht.speaks n (a.places, root_names A n a.places e u (left_true fe fb front), begin) (omega arith) (omega arith))
               (both x.0 _ (hx.speaks n a (omega arith) (omega arith)) (item (jump (f + 1)) _ end (item (Label f) _ tt
               (both y.0 _ (hy.speaks n a (omega arith) m) (item (Label (f + 1)) [] tt nothing)))));
         }
@@ -186,7 +186,7 @@ module _ (A : Around) (roots : Roots Item) (r : SoundRoots roots) where
               let end : In n (f + 1) = (omega arith, omega arith) in
               let next : In n (f + 2) = (omega arith, omega arith) in
               item (Label f) _ tt (both x.0 _ (hx.speaks n (in_loop (f + 1) (f + 2) end next a) (omega arith) (omega arith)) (item (Label (f + 2)) _ tt
-              (both t.0 _ (ht.speaks n (root_names A n a.places e u he, begin) (omega arith) m) (item (Label (f + 1)) [] tt nothing))));
+              (both t.0 _ (ht.speaks n (a.places, root_names A n a.places e u he, begin) (omega arith) m) (item (Label (f + 1)) [] tt nothing))));
         }
     command_sound (commands.For start limit by b) J u h d s E f =
         let s1 = level_in_for s in
@@ -219,11 +219,11 @@ module _ (A : Around) (roots : Roots Item) (r : SoundRoots roots) where
               let begin : In n f = (l, omega arith) in
               let end : In n (f + 1) = (omega arith, omega arith) in
               let next : In n (f + 2) = (omega arith, omega arith) in
-              both i.0 _ (hi.speaks n (((sides_name A n a.places start (Frame u) u1 (left_true fs fl front)).0, tt), tt) (omega arith) (omega arith))
-              (both j.0 _ (hj.speaks n (((sides_name A n a.places limit (Frame (u + 1)) u1 (right_true fs fl front)).0, tt), tt) (omega arith) (omega arith))
-              (item (Label f) _ tt (both t.0 _ (ht.speaks n ((tt, tt), end) (omega arith) (omega arith))
+              both i.0 _ (hi.speaks n (a.places, ((sides_name A n a.places start (Frame u) u1 (left_true fs fl front)).0, tt), tt) (omega arith) (omega arith))
+              (both j.0 _ (hj.speaks n (a.places, ((sides_name A n a.places limit (Frame (u + 1)) u1 (right_true fs fl front)).0, tt), tt) (omega arith) (omega arith))
+              (item (Label f) _ tt (both t.0 _ (ht.speaks n (a.places, (tt, tt), end) (omega arith) (omega arith))
               (both x.0 _ (hx.speaks n (in_loop (f + 1) (f + 2) end next a) (omega arith) (omega arith)) (item (Label (f + 2)) _ tt
-              (both w.0 _ (hw.speaks n (((tt, tt), tt), tt) (omega arith) m) (item (jump f) _ begin (item (Label (f + 1)) [] tt nothing))))))));
+              (both w.0 _ (hw.speaks n (a.places, ((tt, tt), tt), tt) (omega arith) m) (item (jump f) _ begin (item (Label (f + 1)) [] tt nothing))))))));
         }
     command_sound (commands.Switchon e is) J u h d s E f =
         let g = f + 1 + entries_in is in
@@ -263,7 +263,7 @@ module _ (A : Around) (roots : Roots Item) (r : SoundRoots roots) where
               let begin : In n f = (l, omega arith) in
               let within = defaulted_within is (f + 1) f (omega arith) in
               let room : g ≤ n = omega arith in
-              both v.0 _ (hv.speaks n (root_names A n a.places e u (left_true fe fl front), tt) (omega arith) (omega arith))
+              both v.0 _ (hv.speaks n (a.places, root_names A n a.places e u (left_true fe fl front), tt) (omega arith) (omega arith))
               (item (execute 23) _ tt (item (Data (cases_in is)) _ tt (item (DataLabel D) _ (between f g D n l room within)
               (both table _ (table_speaks is K (λ w. between f g (K w) n l room (cased_within is (f + 1) f D w (omega arith) within)))
               (both x.0 _ (hx.speaks n (in_a_switch is f v.1 K D begin (omega arith) (omega arith) a) (omega arith) m) (item (Label f) [] tt nothing))))));
@@ -275,13 +275,13 @@ module _ (A : Around) (roots : Roots Item) (r : SoundRoots roots) where
     command_sound (commands.Resultis e) J u h d s E f =
         let v = roots (Value s e) 0 f in
         let he = right_true J.in_valof (root_fits A e u) h in
-        joined v (jump E.result ∷ [], v.1) (weaker v (λ n a. (root_names A n a.places e u he, tt)) (r (Value s e) 0 f))
+        joined v (jump E.result ∷ [], v.1) (weaker v (λ n a. (a.places, root_names A n a.places e u he, tt)) (r (Value s e) 0 f))
         (only v.1 (jump E.result ∷ []) (λ k. refl) (λ n a. item (jump E.result) [] (a.result (left_true J.in_valof (root_fits A e u) h)) nothing))
     command_sound commands.Finish J u h d s E f = only f (execute 22 ∷ []) (λ k. refl) (λ n a. item (execute 22) [] tt nothing)
     command_sound (commands.Goto l) J u h d s E f = only f (jump (E.labels l) ∷ []) (λ k. refl) (λ n a. item (jump (E.labels l)) [] (a.labels l h) nothing)
     command_sound (commands.Nested b) J u h d s E f = block_sound b J u h d s E f
 
-    block_sound : (b : Block) (J : Jumps) (u : ℕ) → block_fits A J b u ≡ true → block_cases_differ b ≡ true → (s : ℕ) (E : Exits) (f : ℕ) → Sound (Allowed A J E) none f (emit_block (λ i. i) roots b s E f)
+    pub block_sound : (b : Block) (J : Jumps) (u : ℕ) → block_fits A J b u ≡ true → block_cases_differ b ≡ true → (s : ℕ) (E : Exits) (f : ℕ) → Sound (Allowed A J E) none f (emit_block (λ i. i) roots b s E f)
     block_sound (block ds is) J u h d s E f =
         let m = f + labels_in is in
         let D = emit_declarations roots ds s m in

@@ -5,3 +5,4 @@ mod Speaking
 mod Names
 mod Runs
 mod Commands
+mod Sections

@@ -82,8 +82,8 @@ pub record Sound (Q : ℕ → Type 0) (c : ℕ → ℕ) (f : ℕ) (x : Code Item
   pub run : Run c f x.1 x.0
   pub speaks : (n : ℕ) → Q n → 1 ≤ f → x.1 ≤ n → Speaks n x.0
 
-abbrev pub SoundRoots : Roots Item → Type 0
-SoundRoots roots = (r : Root) (t f : ℕ) → Sound (λ n. NamesOfRoot n r × AimsOfRoot n r t) none f (roots r t f)
+abbrev pub SoundRoots : (places : ℕ) → Roots Item → Type 0
+SoundRoots places roots = (r : Root) (t f : ℕ) → Sound (λ n. (places < n) × NamesOfRoot n r × AimsOfRoot n r t) none f (roots r t f)
 
 -- where a command may jump to is known
 pub record Allowed (A : Around) (J : Jumps) (E : Exits) (n : ℕ) : Type 0 where
