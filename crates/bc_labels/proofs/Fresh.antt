@@ -20,7 +20,7 @@ pub not_true : (a : Bool) → not a ≡ true → a ≡ false
 not_true true h = absurd (cc)
 not_true false h = refl
 
-same_number : (l : ℕ) → (l == l) ≡ true
+pub same_number : (l : ℕ) → (l == l) ≡ true
 same_number l = grind (arith, nat_tests)
 
 or_left : (a b : Bool) → a ≡ true → (a || b) ≡ true

@@ -6,3 +6,4 @@ mod Names
 mod Runs
 mod Commands
 mod Sections
+pub mod Refusing

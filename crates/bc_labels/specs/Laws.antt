@@ -1,5 +1,6 @@
 -- The labels of a section's items.
-use Rattle.std.specs.Prelude.{◌≡◌, true, List, None}
+use Rattle.std.specs.Prelude.{◌≡◌, true, List, None, map}
+use Rattle.std.specs.List.{AllByRecursion}
 use Rattle.bc_item.specs.declared.item.Item.{Item}
 use Rattle.bc_core.specs.Tree.{Root}
 use Rattle.bc_core.specs.Commands.{Core}
@@ -9,13 +10,23 @@ use Rattle.bc_derive.specs.Rules.{RootDerives}
 use Rattle.bc_emit.specs.Bodies.{coding_of}
 use Rattle.bc_emit.specs.Section.{section_items}
 use Rattle.bc_link.specs.Labels.{labels_of, uses_of}
-use Rattle.bc_link.specs.Refusals.{first_repeated, first_unset}
+use Rattle.bc_link.specs.Refusals.{first_of, first_repeated, first_unset, global_twice, too_large, refusal_of}
 use Rattle.bc_labels.specs.Cases.{cases_differ}
 
 -- no label stands twice among items, and each one that they speak of stands among them
 abbrev pub LabelsStand : List Item → Type 0
 LabelsStand items = (first_repeated (labels_of items) ≡ None) × (first_unset (labels_of items) (uses_of items) ≡ None)
 
+-- the labels, numbers and jump targets of the section exist, and no SWITCHON has a CASE twice
+abbrev pub KeepsRules : Core → Type 0
+KeepsRules core = (is_core core ≡ true) × (cases_differ core ≡ true)
+
+-- whatever the derivations of its code
 abbrev pub LabelsStandOnce : Type 0
-LabelsStandOnce =
-    (T : Table) (choice : (r : Root) → RootDerives T r) (core : Core) → is_core core ≡ true → cases_differ core ≡ true → LabelsStand (section_items (coding_of choice) core)
+LabelsStandOnce = (T : Table) (choice : (r : Root) → RootDerives T r) (core : Core) → KeepsRules core → LabelsStand (section_items (coding_of choice) core)
+
+-- so the linker refuses such sections for a global that is set twice or for their size alone
+abbrev pub OnlyGlobalsAndSizeAreRefused : Type 0
+OnlyGlobalsAndSizeAreRefused =
+    (T : Table) (choice : (r : Root) → RootDerives T r) (cores : List Core) → AllByRecursion KeepsRules cores
+    → let segments = map (section_items (coding_of choice)) cores in refusal_of segments ≡ first_of (global_twice segments) (too_large segments)
