@@ -1,20 +1,19 @@
 -- The code of commands takes its labels in turn, and speaks of these and of its exits.
-use Rattle.std.proofs.Common.{◌≡◌, ◌∙◌, ℕ, ◌+◌, ◌≤◌, ◌<◌, ◌&&◌, ◌⊎◌, inl, inr, Bool, true, false, not, List, [], ◌∷◌, ◌++◌, refl, sym, ap, subst, arith}
+use Rattle.std.proofs.Common.{◌≡◌, ℕ, ◌+◌, ◌≤◌, ◌<◌, ◌&&◌, inr, true, false, not, List, [], ◌∷◌, ◌++◌, refl, arith}
 use Rattle.std.specs.Prelude.{nat_le}
 use Rattle.bc_item.specs.declared.item.Item.{Item}
 use Rattle.bc_item.specs.declared.item.Item.TheVariants.{Label, Data, DataLabel}
-use Rattle.bc_core.specs.Tree.{Exp, Frame, Root, Value, Test, Assign}
+use Rattle.bc_core.specs.Tree.{Frame, Value, Test, Assign}
 use Rattle.bc_core.specs.Commands.{Variable, Initial, Vector, Command, Block, block, Items, no_item, command, case, default, label}
 use Rattle.bc_core.specs.Commands as commands
 use Rattle.bc_core.specs.Level.{cells_of, cells_of_all, cells_declared, level_in_for}
 use Rattle.bc_core.specs.Command.{step_of_for}
-use Rattle.bc_core.specs.WellFormed.{Around, Jumps, root_fits, assignment_fits, variables_fit, declarations_fit, has, are_distinct, labels_of, has_entries, in_a_loop, in_list, command_fits, block_fits, items_fit}
+use Rattle.bc_core.specs.WellFormed.{Around, Jumps, root_fits, assignment_fits, variables_fit, declarations_fit, are_distinct, labels_of, has_entries, in_a_loop, in_list, command_fits, block_fits, items_fit}
 use Rattle.bc_emit.specs.Emit.{Code, Roots, Exits, jump, execute, zero_item, labelled, labels_in, cased, defaulted, cases_in, entries_in, table_of, emit_variable, emit_variables, emit_declarations, end_of_for, emit, emit_block, emit_items}
 use Rattle.bc_labels.specs.Cases.{cases_of, defaults_in, command_cases_differ, block_cases_differ, items_cases_differ}
-use Rattle.bc_labels.proofs.Counts.{at, below, stands, stands_both}
+use Rattle.bc_labels.proofs.Counts.{at, stands, stands_both}
 use Rattle.bc_labels.proofs.Fresh.{left_true, right_true, not_true, owed_labels, owed_cases, labels_fresh, cases_fresh, no_cases, defaulted_within, cased_within}
 use Rattle.bc_labels.proofs.Speaking.{In, Speaks, both, nothing, item}
-use Rattle.bc_labels.proofs.Names.{Names, NamesOfRoot}
 use Rattle.bc_labels.proofs.Runs.{Run, none, behind, mark, empty, alike, close_one, close_two, close_three, close_list, same_owed, Sound, SoundRoots, Allowed, in_loop, in_a_list, in_a_switch, root_names, sides_name}
 
 pub upto : (a b c : ℕ) → a ≤ b → b ≤ c → a ≤ c
@@ -253,7 +252,7 @@ module _ (A : Around) (roots : Roots Item) (r : SoundRoots A.places roots) where
         let tail = execute 23 ∷ Data (cases_in is) ∷ DataLabel D ∷ (table ++ last) in
         let all : Run (λ k. (ol k + oc k) + (at f k + 0)) v1 x.1 last = behind x.0 _ hx.run (mark f [] (empty x.1)) in
         let cases : Run (λ k. oc k + at f k) v.1 x.1 last =
-            close_list v.1 (labels_in is) ol (λ k. oc k + at f k) last all (labels_fresh is v.1 E.labels (labelled is v.1 E.labels) (right_true fe fl front) (λ l i. refl)) (λ k. omega arith) in
+        close_list v.1 (labels_in is) ol (λ k. oc k + at f k) last all (labels_fresh is v.1 E.labels (labelled is v.1 E.labels) (right_true fe fl front) (λ l i. refl)) (λ k. omega arith) in
         let whole = behind v.0 tail hv.run (alike tail last (λ k. behind_table is K last k) cases) in
         record {
           up = omega arith;

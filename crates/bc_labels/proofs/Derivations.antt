@@ -1,5 +1,5 @@
 -- The labels that stand in the code of a derivation are its own, each once.
-use Rattle.std.proofs.Common.{◌≡◌, ◌∙◌, refl, sym, ap, ℕ, ◌+◌, Bool, true, false, not, List, [], ◌∷◌, ◌++◌, arith}
+use Rattle.std.proofs.Common.{◌≡◌, ◌∙◌, refl, ap, ℕ, ◌+◌, Bool, true, false, not, List, [], ◌∷◌, ◌++◌, arith}
 use Rattle.std.specs.Prelude.{cond}
 use Rattle.bc_core.specs.Tree.{Exp, Args, count, Root}
 use Rattle.bc_derive.specs.declared.rule.Table.{Table}

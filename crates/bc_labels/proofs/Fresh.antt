@@ -1,5 +1,5 @@
 -- The labels that a list takes for its labels and entries stand in it, each once.
-use Rattle.std.proofs.Common.{◌≡◌, ◌∙◌, refl, sym, ap, ℕ, suc, ◌+◌, ◌≤◌, ◌<◌, ◌==◌, Bool, true, false, not, ◌&&◌, ◌||◌, List, [], ◌∷◌, ◌++◌, ◌⊎◌, inl, inr, arith}
+use Rattle.std.proofs.Common.{◌≡◌, ◌∙◌, refl, sym, ap, ℕ, suc, ◌+◌, ◌≤◌, ◌<◌, ◌==◌, Bool, true, false, not, ◌&&◌, ◌||◌, List, ◌++◌, ◌⊎◌, inl, inr, arith}
 use Rattle.std.specs.Prelude.{cond, nat_le}
 use Rattle.std.proofs.lemmas.Bool.Decides.{nat_tests}
 use Rattle.bc_core.specs.Commands.{Items, no_item, command, case, default, label}
@@ -77,7 +77,7 @@ labels_fresh (label l is) f outer label_of d h k =
     let fresh = not_true (has (labels_of is) l) (left_true (not (has (labels_of is) l)) (are_distinct (labels_of is)) d) in
     let here : label_of l ≡ f = h l (or_left (l == l) (has (labels_of is) l) (same_number l)) ∙ first_case (l == l) f (labelled is (f + 1) outer l) (same_number l) in
     let rest = labels_fresh is (f + 1) outer label_of (right_true (not (has (labels_of is) l)) (are_distinct (labels_of is)) d)
-        (λ m i. h m (or_right (l == m) (has (labels_of is) m) i) ∙ second_case (l == m) f (labelled is (f + 1) outer m) (other (labels_of is) l m fresh i)) k in
+    (λ m i. h m (or_right (l == m) (has (labels_of is) m) i) ∙ second_case (l == m) f (labelled is (f + 1) outer m) (other (labels_of is) l m fresh i)) k in
     one_owed (at (label_of l) k) (at f k) (owed_labels label_of is k) (below k f) (below k (f + 1)) (below k (f + 1 + labels_in is)) (below k (f + (labels_in is + 1)))
     (ap (λ m. at m k) here) rest (next_below k f) (ap (below k) (omega arith))
 
@@ -97,7 +97,7 @@ cases_fresh (case v is) f without first case_of default_of d o h i k =
     let fresh = not_true (has (cases_of is) v) (left_true (not (has (cases_of is) v)) (are_distinct (cases_of is)) d) in
     let here : case_of v ≡ f = h v (or_left (v == v) (has (cases_of is) v) (same_number v)) ∙ first_case (v == v) f (cased is (f + 1) without v) (same_number v) in
     let rest = cases_fresh is (f + 1) without first case_of default_of (right_true (not (has (cases_of is) v)) (are_distinct (cases_of is)) d) o
-        (λ m j. h m (or_right (v == m) (has (cases_of is) m) j) ∙ second_case (v == m) f (cased is (f + 1) without m) (other (cases_of is) v m fresh j)) i k in
+    (λ m j. h m (or_right (v == m) (has (cases_of is) m) j) ∙ second_case (v == m) f (cased is (f + 1) without m) (other (cases_of is) v m fresh j)) i k in
     one_owed (at (case_of v) k) (at f k) (owed_cases case_of default_of is k) (below k f) (below k (f + 1)) (below k (f + 1 + entries_in is)) (below k (f + (entries_in is + 1)))
     (ap (λ m. at m k) here) rest (next_below k f) (ap (below k) (omega arith))
 cases_fresh (default is) f without first case_of default_of d o h (inl e) k = absurd (omega arith)

@@ -1,5 +1,5 @@
 -- The code of a derivation speaks of its own labels, of its target and of those that its expression names.
-use Rattle.std.proofs.Common.{◌≡◌, ◌∙◌, ℕ, ◌+◌, ◌≤◌, ◌<◌, ◌&&◌, Bool, true, false, not, cond, Option, Some, None, List, [], ◌∷◌, ◌++◌, refl, sym, ap, subst, arith}
+use Rattle.std.proofs.Common.{◌≡◌, ℕ, ◌+◌, ◌≤◌, ◌<◌, ◌&&◌, Bool, true, false, not, cond, Option, Some, None, subst, arith}
 use Rattle.std.specs.Prelude.{nat_le}
 use Rattle.std.proofs.lemmas.Bool.Decides.{nat_tests}
 use Rattle.bc_word.specs.declared.operator.Op.{Op}
@@ -10,10 +10,9 @@ use Rattle.bc_item.specs.declared.item.Item.TheVariants as items
 use Rattle.bc_core.specs.declared.operands.Operand.{Operand}
 use Rattle.bc_core.specs.Tree.{Exp, Num, Frame, Glob, Place, Load, Neg, Not, Bin, Cond, Call, Valof, Args, no_argument, argument, count, Root, Value, Test, Assign}
 use Rattle.bc_core.specs.Level.{operand_level, argument_level, routine_level}
-use Rattle.bc_core.specs.Operand.{operand_of, content_of, constant_of, moved, first_some, sum_operand, operand_of_operator}
+use Rattle.bc_core.specs.Operand.{operand_of, content_of, constant_of, moved, first_some, operand_of_operator}
 use Rattle.bc_core.specs.WellFormed.{Around, exp_fits, args_fit}
 use Rattle.bc_derive.specs.declared.rule.Table.{Table}
-use Rattle.bc_derive.specs.declared.rule.Mode.{Mode}
 use Rattle.bc_derive.specs.declared.rule.Aim.{Aim}
 use Rattle.bc_derive.specs.declared.rule.Aim.TheVariants.{Gets, Jumps}
 use Rattle.bc_derive.specs.Free.{is_zero, without_zero, jumps_at}
@@ -282,7 +281,7 @@ module _ (n : ℕ) where
   root_speaks (a1 {s = s} {a = a} {o = o} k v) t f h g l u = pieces_both (code_speaks v s t f h.0 tt l u) (piece (operand_known n functions.Store a o k h.1) no_piece)
   root_speaks (a2 {s = s} k free a v) t f h g l u =
       pieces_both (pieces_both (code_speaks a (s + 1) t f h.1 tt l (left_of f (labels a) (labels v) n u))
-        (piece tt (code_speaks v (s + 1) t (f + labels a) h.0 tt (up f (labels a) l) (right_of f (labels a) (labels v) n u)))) (piece tt no_piece)
+      (piece tt (code_speaks v (s + 1) t (f + labels a) h.0 tt (up f (labels a) l) (right_of f (labels a) (labels v) n u)))) (piece tt no_piece)
   root_speaks (a3 {s = s} k v a) t f h g l u =
       pieces_both (pieces_both (code_speaks v (s + 1) t f h.0 tt l (left_of f (labels v) (labels a) n u))
-        (piece tt (code_speaks a (s + 1) t (f + labels v) h.1 tt (up f (labels v) l) (right_of f (labels v) (labels a) n u)))) (piece tt (piece tt (piece tt no_piece)))
+      (piece tt (code_speaks a (s + 1) t (f + labels v) h.1 tt (up f (labels v) l) (right_of f (labels v) (labels a) n u)))) (piece tt (piece tt (piece tt no_piece)))

@@ -1,24 +1,21 @@
 -- Labels of which each stands once are no cause for the linker to refuse a segment.
-use Rattle.std.proofs.Common.{◌≡◌, ◌∙◌, ℕ, ◌+◌, ◌≤◌, ◌<◌, ◌==◌, ◌||◌, Bool, true, false, not, Option, Some, None, List, [], ◌∷◌, ◌++◌, refl, sym, ap, subst, arith}
-use Rattle.std.specs.Prelude.{cond, find, filter_map, map, nat_lt}
+use Rattle.std.proofs.Common.{◌≡◌, ◌∙◌, ℕ, ◌+◌, ◌≤◌, ◌<◌, ◌==◌, ◌||◌, Bool, true, false, not, Option, Some, None, List, [], ◌∷◌, ◌++◌, refl, ap, arith}
+use Rattle.std.specs.Prelude.{cond, map, nat_lt}
 use Rattle.std.specs.List.{list_any, cons_option, AllByRecursion}
 use Rattle.std.specs.Option.{option_map}
 use Rattle.std.proofs.lemmas.Bool.Decides.{nat_tests}
 use Rattle.bc_item.specs.declared.item.Item.{Item}
 use Rattle.bc_core.specs.Tree.{Root}
 use Rattle.bc_core.specs.Commands.{Core}
-use Rattle.bc_core.specs.WellFormed.{is_core}
 use Rattle.bc_derive.specs.declared.rule.Table.{Table}
 use Rattle.bc_derive.specs.Rules.{RootDerives}
 use Rattle.bc_emit.specs.Bodies.{coding_of}
 use Rattle.bc_emit.specs.Section.{section_items, routines_code}
-use Rattle.bc_link.specs.declared.link_error.LinkError.{LinkError}
 use Rattle.bc_link.specs.declared.link_error.LinkError.TheVariants.{LabelUnset, LabelTwice}
 use Rattle.bc_link.specs.Labels.{labels_of, use_of, uses_of}
-use Rattle.bc_link.specs.Refusals.{first_of, repeated_behind, first_repeated, first_unset, label_twice_from, label_unset_from, global_twice, too_large, refusal_of}
-use Rattle.bc_labels.specs.Cases.{cases_differ}
+use Rattle.bc_link.specs.Refusals.{first_of, repeated_behind, first_unset, label_twice_from, label_unset_from, global_twice, too_large}
 use Rattle.bc_labels.specs.Laws.{LabelsStand, LabelsStandOnce, KeepsRules, OnlyGlobalsAndSizeAreRefused}
-use Rattle.bc_labels.proofs.Counts.{at, below, count, stands}
+use Rattle.bc_labels.proofs.Counts.{at, below, count}
 use Rattle.bc_labels.proofs.Fresh.{same_number}
 use Rattle.bc_labels.proofs.Speaking.{In, Known, AllKnown}
 use Rattle.bc_labels.proofs.Sections.{Labelled, section_labelled}
@@ -54,9 +51,9 @@ not_repeated : (before xs : List ℕ) → ((k : ℕ) → count k before + count 
 not_repeated before [] h = refl
 not_repeated before (x ∷ xs) h =
     by (list_any (λ y. x == y) before) refl (not_repeated (before ++ x ∷ []) xs (λ k. let a = count_last k x before in let b = h k in omega arith)) where
-  by : (b : Bool) → list_any (λ y. x == y) before ≡ b → repeated_behind (before ++ x ∷ []) xs ≡ None → cond b (Some x) (repeated_behind (before ++ x ∷ []) xs) ≡ None
-  by true e i = let a = counted x before e in let b = h x in let c = at_same x x (same_number x) in absurd (omega arith)
-  by false e i = i
+      by : (b : Bool) → list_any (λ y. x == y) before ≡ b → repeated_behind (before ++ x ∷ []) xs ≡ None → cond b (Some x) (repeated_behind (before ++ x ∷ []) xs) ≡ None
+      by true e i = let a = counted x before e in let b = h x in let c = at_same x x (same_number x) in absurd (omega arith)
+      by false e i = i
 
 -- a label that stands is set
 all_set : (n : ℕ) (labels : List ℕ) → ((m : ℕ) → In n m → list_any (λ y. m == y) labels ≡ true) → (is : List Item) → AllKnown n is → first_unset labels (uses_of is) ≡ None
@@ -79,9 +76,10 @@ below_is : (m n : ℕ) → m < n → below m n ≡ 1
 below_is m n h = grind (arith, nat_tests)
 
 labels_stand : (n : ℕ) (is : List Item) → Labelled n is → LabelsStand is
-labels_stand n is h =
-    (not_repeated [] (labels_of is) (λ k. let a = h.once k in let b = below_most k n in omega arith),
-    all_set n (labels_of is) (λ m i. found m (labels_of is) (let a = h.once m in let b = below_one m i.0 in let c = below_is m n i.1 in omega arith)) is h.speaks.all)
+labels_stand n is h = (
+  not_repeated [] (labels_of is) (λ k. let a = h.once k in let b = below_most k n in omega arith),
+  all_set n (labels_of is) (λ m i. found m (labels_of is) (let a = h.once m in let b = below_one m i.0 in let c = below_is m n i.1 in omega arith)) is h.speaks.all,
+)
 
 pub labels_stand_once : LabelsStandOnce
 labels_stand_once T choice core h = labels_stand (routines_code (coding_of choice) core).1 (section_items (coding_of choice) core) (section_labelled choice core h.0 h.1)

@@ -1,13 +1,13 @@
 -- Code that takes its labels in turn, and how it is put together.
-use Rattle.std.proofs.Common.{◌≡◌, ◌∙◌, ℕ, ◌+◌, ◌≤◌, ◌<◌, ◌&&◌, ◌==◌, Bool, true, false, List, [], ◌∷◌, ◌++◌, refl, sym, ap, subst, inl, inr, arith}
+use Rattle.std.proofs.Common.{◌≡◌, ◌∙◌, ℕ, ◌+◌, ◌≤◌, ◌<◌, ◌&&◌, Bool, true, List, [], ◌∷◌, ◌++◌, sym, ap, subst, inl, inr, arith}
 use Rattle.std.specs.Prelude.{nat_le}
 use Rattle.bc_item.specs.declared.item.Item.{Item}
 use Rattle.bc_item.specs.declared.item.Item.TheVariants.{Label}
-use Rattle.bc_core.specs.Tree.{Exp, Root, Value, Test, Assign}
+use Rattle.bc_core.specs.Tree.{Exp, Root}
 use Rattle.bc_core.specs.Commands.{Items}
 use Rattle.bc_core.specs.WellFormed.{Around, Jumps, nodes, most_nodes, exp_fits, root_fits, assignment_fits, has, labels_of, in_a_loop, in_list}
 use Rattle.bc_core.specs.Level.{side_level}
-use Rattle.bc_emit.specs.Emit.{Code, Roots, Exits, labelled, labels_in, cased, defaulted, entries_in}
+use Rattle.bc_emit.specs.Emit.{Code, Roots, Exits, labelled, labels_in}
 use Rattle.bc_labels.proofs.Counts.{at, below, next_below, stands, stands_both}
 use Rattle.bc_labels.proofs.Fresh.{left_true, right_true, Labelled, labelled_within}
 use Rattle.bc_labels.proofs.Speaking.{In, Speaks}

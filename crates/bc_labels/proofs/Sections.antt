@@ -1,5 +1,5 @@
 -- The labels that stand in a section's items are those from 1 to the last one, each once.
-use Rattle.std.proofs.Common.{◌≡◌, ◌∙◌, ℕ, ◌+◌, ◌≤◌, ◌<◌, ◌&&◌, ◌==◌, Bool, true, false, Option, Some, None, List, [], ◌∷◌, ◌++◌, length, refl, sym, ap, subst, arith}
+use Rattle.std.proofs.Common.{◌≡◌, ◌∙◌, ℕ, ◌+◌, ◌≤◌, ◌<◌, ◌&&◌, ◌==◌, Bool, true, false, Option, Some, None, List, [], ◌∷◌, ◌++◌, length, refl, ap, arith}
 use Rattle.std.specs.Prelude.{nat_le, map}
 use Rattle.bc_item.specs.declared.item.Item.{Item}
 use Rattle.bc_item.specs.declared.item.Item.TheVariants.{Label, Data, Byte, Global}
@@ -8,13 +8,13 @@ use Rattle.bc_core.specs.Commands.{Block, Body, Gives, Does, Place, Valof, Core}
 use Rattle.bc_core.specs.Commands as commands
 use Rattle.bc_core.specs.Level.{level_behind_parameters}
 use Rattle.bc_core.specs.Layout.{frame_size}
-use Rattle.bc_core.specs.WellFormed.{Around, root_fits, block_fits, jumps_in_routine, jumps_in_valof, body_fits, global_fits, place_fits, places_fit, valofs_fit, is_core, has}
+use Rattle.bc_core.specs.WellFormed.{Around, block_fits, jumps_in_routine, jumps_in_valof, body_fits, global_fits, place_fits, places_fit, valofs_fit, is_core}
 use Rattle.bc_derive.specs.declared.rule.Table.{Table}
 use Rattle.bc_derive.specs.declared.piece.Piece.{Piece}
 use Rattle.bc_derive.specs.declared.piece.Piece.TheVariants as pieces
 use Rattle.bc_derive.specs.Rules.{RootDerives}
 use Rattle.bc_derive.specs.Code.{root_code, root_labels}
-use Rattle.bc_emit.specs.Emit.{Code, Roots, Exits, execute, zero_item, emit_block}
+use Rattle.bc_emit.specs.Emit.{Code, Roots, execute, zero_item, emit_block}
 use Rattle.bc_emit.specs.Bodies.{BodiesCode, coding_of, fill, label_ahead, over, body_exits, emit_valof, bodies_from, emit_body, level_of}
 use Rattle.bc_emit.specs.Section.{emit_routines, data_items, setting, setting_items, routines_code, section_items}
 use Rattle.bc_labels.specs.Cases.{block_cases_differ, body_cases_differ, places_cases_differ, valofs_cases_differ, cases_differ}
@@ -23,7 +23,7 @@ use Rattle.bc_labels.proofs.Derivations.{root_standing}
 use Rattle.bc_labels.proofs.Fresh.{left_true, right_true}
 use Rattle.bc_labels.proofs.Speaking.{In, Speaks, PiecesKnown, both, nothing, item}
 use Rattle.bc_labels.proofs.Names.{root_speaks}
-use Rattle.bc_labels.proofs.Runs.{Run, none, behind, mark, empty, close_list, same_owed, Sound, SoundRoots, Allowed, root_names}
+use Rattle.bc_labels.proofs.Runs.{none, behind, mark, empty, close_list, same_owed, Sound, SoundRoots, Allowed, root_names}
 use Rattle.bc_labels.proofs.Commands.{upto, less, joined, weaker, nothing_there, only, block_sound}
 
 -- bodies that jump to their end alone
@@ -95,7 +95,7 @@ module _ {T : Table} (choice : (r : Root) → RootDerives T r) (levels : ℕ →
       let x = emit_block (λ i. i) roots v.body s (body_exits l) f in
       let hx = block_sound A1 roots (roots_sound A.places levels inner rest choice) v.body jumps_in_valof v.level (left_true fb fv h) (left_true db dv d) s (body_exits l) f in
       let allowed : (n : ℕ) → (A.places < n) × In n l → Allowed A1 jumps_in_valof (body_exits l) n =
-          λ n q. record { places = q.0; broken = λ i. no_jump i; looped = λ i. no_jump i; cases = λ i. no_jump i; result = λ i. q.1; labels = λ k i. no_jump i } in
+      λ n q. record { places = q.0; broken = λ i. no_jump i; looped = λ i. no_jump i; cases = λ i. no_jump i; result = λ i. q.1; labels = λ k i. no_jump i } in
       either_sound (m == first) (emit_valof (λ i. i) roots v.body m s l f) (inner m s l f)
       (joined x (zero_item ∷ [], x.1) (weaker x allowed hx) (only x.1 (zero_item ∷ []) (λ k. refl) (λ n q. item zero_item [] tt nothing))) (rest m s l f)
 
@@ -116,7 +116,7 @@ module _ (A : Around) (roots : Roots Item) (r : SoundRoots A.places roots) where
   body_sound (Does b) u h d s f =
       let x = emit_block (λ i. i) roots b s (body_exits 0) f in
       let allowed : (n : ℕ) → A.places < n → Allowed A jumps_in_routine (body_exits 0) n =
-          λ n p. record { places = p; broken = λ i. no_jump i; looped = λ i. no_jump i; cases = λ i. no_jump i; result = λ i. no_jump i; labels = λ k i. no_jump i } in
+      λ n p. record { places = p; broken = λ i. no_jump i; looped = λ i. no_jump i; cases = λ i. no_jump i; result = λ i. no_jump i; labels = λ k i. no_jump i } in
       joined x (zero_item ∷ execute 4 ∷ [], x.1) (weaker x allowed (block_sound A roots r b jumps_in_routine u h d s (body_exits 0) f))
       (only x.1 (zero_item ∷ execute 4 ∷ []) (λ k. refl) (λ n p. item zero_item _ tt (item (execute 4) [] tt nothing)))
 

@@ -1,5 +1,5 @@
 -- Of which labels items and pieces speak.
-use Rattle.std.proofs.Common.{◌≡◌, ℕ, ◌+◌, ◌≤◌, ◌<◌, Bool, true, false, cond, Option, Some, None, List, [], ◌∷◌, ◌++◌, refl, sym, ap, subst, arith}
+use Rattle.std.proofs.Common.{◌≡◌, ℕ, ◌≤◌, ◌<◌, Bool, true, false, cond, Option, Some, None, List, [], ◌∷◌, ◌++◌, refl, sym, subst, arith}
 use Rattle.bc_item.specs.declared.item.Item.{Item}
 use Rattle.bc_item.specs.declared.item.Item.TheVariants as items
 use Rattle.bc_item.specs.declared.item.Base.{Base}
