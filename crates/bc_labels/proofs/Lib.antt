@@ -7,3 +7,4 @@ mod Runs
 mod Commands
 mod Sections
 pub mod Refusing
+pub mod Differing

@@ -1,10 +1,14 @@
 -- The labels of a section's items.
-use Rattle.std.specs.Prelude.{◌≡◌, true, List, None, map}
+use Rattle.std.specs.Prelude.{◌≡◌, ◌≤◌, true, List, None, map}
 use Rattle.std.specs.List.{AllByRecursion}
 use Rattle.bc_item.specs.declared.item.Item.{Item}
 use Rattle.bc_core.specs.Tree.{Root}
 use Rattle.bc_core.specs.Commands.{Core}
 use Rattle.bc_core.specs.WellFormed.{is_core}
+use Rattle.bc_tree.specs.Tree.{Declarations}
+use Rattle.bc_tree.specs.Size.{declarations_size}
+use Rattle.bc_scoping.specs.Faults.{section_fault}
+use Rattle.bc_scoping.specs.Found.{core_of}
 use Rattle.bc_derive.specs.declared.rule.Table.{Table}
 use Rattle.bc_derive.specs.Rules.{RootDerives}
 use Rattle.bc_emit.specs.Bodies.{coding_of}
@@ -30,3 +34,7 @@ abbrev pub OnlyGlobalsAndSizeAreRefused : Type 0
 OnlyGlobalsAndSizeAreRefused =
     (T : Table) (choice : (r : Root) → RootDerives T r) (cores : List Core) → AllByRecursion KeepsRules cores
     → let segments = map (section_items (coding_of choice)) cores in refusal_of segments ≡ first_of (global_twice segments) (too_large segments)
+
+-- a section without fault, with at most 524,288 definitions, commands and expressions, keeps them
+abbrev pub SectionsKeepRules : Type 0
+SectionsKeepRules = (ds : Declarations) → declarations_size ds ≤ 524288 → section_fault ds ≡ None → KeepsRules (core_of ds)
