@@ -1,24 +1,22 @@
 -- In a section without fault no SWITCHON has a CASE twice.
-use Rattle.std.proofs.Common.{◌≡◌, ◌∙◌, ℕ, suc, ◌+◌, ◌≤◌, ◌<◌, ◌==◌, ◌&&◌, ◌||◌, Bool, true, false, not, Option, None, List, [], ◌∷◌, ◌++◌, length, refl, sym, ap, subst, arith}
+use Rattle.std.proofs.Common.{◌≡◌, ◌∙◌, ℕ, ◌+◌, ◌≤◌, ◌==◌, ◌&&◌, ◌||◌, Bool, true, false, not, Option, None, List, [], ◌∷◌, ◌++◌, length, refl, sym, ap, arith}
 use Rattle.std.specs.Prelude.{nat_le}
 use Rattle.std.proofs.lemmas.Bool.Decides.{nat_tests}
 use Rattle.bc_tree.specs.Tree as tree
-use Rattle.bc_tree.specs.Size.{declarations_size}
-use Rattle.bc_core.specs.Commands.{Items, no_item, command, case, default, label}
-use Rattle.bc_core.specs.Commands as core
+use Rattle.bc_core.specs.Commands.{Items}
 use Rattle.bc_core.specs.Level.{level_in_for, level_behind_parameters}
 use Rattle.bc_core.specs.WellFormed.{has, are_distinct}
 use Rattle.bc_scoping.specs.Scope.{Env, Numbers, behind_labels}
 use Rattle.bc_scoping.specs.Numbering.{behind, behind_all, behind_declarations, behind_command, behind_block, labels_of, labels_in}
 use Rattle.bc_scoping.specs.Scoping.{constant, in_declarations, level_behind, in_for, in_list}
 use Rattle.bc_scoping.specs.Translation.{Forms, forms_of_all, assignments, assignment, core_labels, core_block, core_items, core_command}
-use Rattle.bc_scoping.specs.Found.{RoutineBody, Gives, Does, Thing, AValof, ARoutine, Data, AStatic, ATable, AText, found_in_section, core_body, places_of, valofs_of, core_of}
+use Rattle.bc_scoping.specs.Found.{RoutineBody, Gives, Does, Thing, AValof, ARoutine, Data, AStatic, ATable, AText, found_in_section, core_body, places_of, valofs_of}
 use Rattle.bc_scoping.specs.Faults.{Fault, ACaseTwice, AMisplaced, or_else, unless, Met, met_label, met_labels, has_value, Allowed, labels_fault, items_fault, section_fault}
 use Rattle.bc_scoping.specs.Faults as faults
 use Rattle.bc_translation.proofs.Fits.{AllThings, none_left, none_right, no_fault}
 use Rattle.bc_translation.proofs.Cleanness.{Clean, body_fault}
 use Rattle.bc_translation.proofs.Fitting.{section_clean, sections_fit}
-use Rattle.bc_labels.specs.Cases.{cases_of, defaults_in, command_cases_differ, block_cases_differ, items_cases_differ, body_cases_differ, places_cases_differ, valofs_cases_differ, cases_differ}
+use Rattle.bc_labels.specs.Cases.{cases_of, defaults_in, command_cases_differ, block_cases_differ, items_cases_differ, body_cases_differ, places_cases_differ, valofs_cases_differ}
 use Rattle.bc_labels.specs.Laws.{SectionsKeepRules}
 use Rattle.bc_labels.proofs.Fresh.{not_true, same_number}
 
