@@ -1,7 +1,7 @@
 -- Labels of which each stands once are no cause for the linker to refuse a segment.
 use Rattle.std.proofs.Common.{◌≡◌, ◌∙◌, ℕ, ◌+◌, ◌≤◌, ◌<◌, ◌==◌, ◌||◌, Bool, true, false, not, Option, Some, None, List, [], ◌∷◌, ◌++◌, refl, ap, arith}
-use Rattle.std.specs.Prelude.{cond, map, nat_lt}
-use Rattle.std.specs.List.{list_any, cons_option, AllByRecursion}
+use Rattle.std.specs.Prelude.{cond, map, nat_lt, nat_le, count_by, ◌&&◌}
+use Rattle.std.specs.List.{fold, list_any, cons_option, AllByRecursion}
 use Rattle.std.specs.Option.{option_map}
 use Rattle.std.proofs.lemmas.Bool.Decides.{nat_tests}
 use Rattle.bc_item.specs.declared.item.Item.{Item}
@@ -14,7 +14,7 @@ use Rattle.bc_emit.specs.Section.{section_items, routines_code}
 use Rattle.bc_link.specs.declared.link_error.LinkError.TheVariants.{LabelUnset, LabelTwice}
 use Rattle.bc_link.specs.Labels.{labels_of, use_of, uses_of}
 use Rattle.bc_link.specs.Refusals.{first_of, repeated_behind, first_unset, label_twice_from, label_unset_from, global_twice, too_large}
-use Rattle.bc_labels.specs.Laws.{LabelsStand, LabelsStandOnce, KeepsRules, OnlyGlobalsAndSizeAreRefused}
+use Rattle.bc_labels.specs.Laws.{LabelsStand, LabelsStandOnce, LabelsAreThoseTaken, KeepsRules, OnlyGlobalsAndSizeAreRefused}
 use Rattle.bc_labels.proofs.Counts.{at, below, count}
 use Rattle.bc_labels.proofs.Fresh.{same_number}
 use Rattle.bc_labels.proofs.Speaking.{In, Known, AllKnown}
@@ -83,6 +83,25 @@ labels_stand n is h = (
 
 pub labels_stand_once : LabelsStandOnce
 labels_stand_once T choice core h = labels_stand (routines_code (coding_of choice) core).1 (section_items (coding_of choice) core) (section_labelled choice core h.0 h.1)
+
+counted_from : (k n : ℕ) (ls : List ℕ) → fold (λ a l. a + cond (l == k) 1 0) n ls ≡ n + count k ls
+counted_from k n [] = omega arith
+counted_from k n (l ∷ ls) = let h = counted_from k (n + at l k) ls in omega arith
+
+count_is : (k : ℕ) (ls : List ℕ) → count_by (λ l. l == k) ls ≡ count k ls
+count_is k ls = counted_from k 0 ls ∙ omega arith
+
+within : (k g n : ℕ) → n + below k 1 ≡ below k g → n ≡ cond (nat_le 1 k && nat_lt k g) 1 0
+within k g n h = by (nat_le 1 k) refl where
+  by : (b : Bool) → nat_le 1 k ≡ b → n ≡ cond (b && nat_lt k g) 1 0
+  by true e = let a = below_one k (grind (arith, nat_tests)) in omega arith
+  by false e = let a = below_is k 1 (grind (arith, nat_tests)) in let b = below_most k g in omega arith
+
+pub labels_are_those_taken : LabelsAreThoseTaken
+labels_are_those_taken T choice core h k =
+    let is = section_items (coding_of choice) core in
+    let g = (routines_code (coding_of choice) core).1 in
+    count_is k (labels_of is) ∙ within k g (count k (labels_of is)) ((section_labelled choice core h.0 h.1).once k)
 
 nothing_first : {X : Type 0} (a b : Option X) → a ≡ None → first_of a b ≡ b
 nothing_first a b h = ap (λ x. first_of x b) h

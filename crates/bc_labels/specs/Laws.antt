@@ -1,5 +1,5 @@
 -- The labels of a section's items.
-use Rattle.std.specs.Prelude.{◌≡◌, ◌≤◌, true, List, None, map}
+use Rattle.std.specs.Prelude.{◌≡◌, ◌≤◌, ◌==◌, ◌&&◌, ℕ, true, cond, nat_le, nat_lt, List, None, map, count_by}
 use Rattle.std.specs.List.{AllByRecursion}
 use Rattle.bc_item.specs.declared.item.Item.{Item}
 use Rattle.bc_core.specs.Tree.{Root}
@@ -12,7 +12,7 @@ use Rattle.bc_scoping.specs.Found.{core_of}
 use Rattle.bc_derive.specs.declared.rule.Table.{Table}
 use Rattle.bc_derive.specs.Rules.{RootDerives}
 use Rattle.bc_emit.specs.Bodies.{coding_of}
-use Rattle.bc_emit.specs.Section.{section_items}
+use Rattle.bc_emit.specs.Section.{routines_code, section_items}
 use Rattle.bc_link.specs.Labels.{labels_of, uses_of}
 use Rattle.bc_link.specs.Refusals.{first_of, first_repeated, first_unset, global_twice, too_large, refusal_of}
 use Rattle.bc_labels.specs.Cases.{cases_differ}
@@ -28,6 +28,12 @@ KeepsRules core = (is_core core ≡ true) × (cases_differ core ≡ true)
 -- whatever the derivations of its code
 abbrev pub LabelsStandOnce : Type 0
 LabelsStandOnce = (T : Table) (choice : (r : Root) → RootDerives T r) (core : Core) → KeepsRules core → LabelsStand (section_items (coding_of choice) core)
+
+-- the labels that stand are those that the section takes, from 1 on, and each stands once
+abbrev pub LabelsAreThoseTaken : Type 0
+LabelsAreThoseTaken =
+    (T : Table) (choice : (r : Root) → RootDerives T r) (core : Core) → KeepsRules core
+    → (k : ℕ) → count_by (λ l. l == k) (labels_of (section_items (coding_of choice) core)) ≡ cond (nat_le 1 k && nat_lt k (routines_code (coding_of choice) core).1) 1 0
 
 -- so the linker refuses such sections for a global that is set twice or for their size alone
 abbrev pub OnlyGlobalsAndSizeAreRefused : Type 0
