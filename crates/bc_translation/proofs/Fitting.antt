@@ -1,7 +1,8 @@
 -- A section without fault gives a `Core`.
 use Rattle.std.proofs.Common.{◌≡◌, ◌∙◌, ℕ, suc, ◌+◌, ◌≤◌, ◌&&◌, true, false, List, [], ◌∷◌, map, length, slice_get, Option, Some, None, refl, sym, ap, subst, arith}
 use Rattle.std.specs.Prelude.{nat_le}
-use Rattle.bc_tree.specs.Size.{exp_size}
+use Rattle.bc_tree.specs.Tree.{Declarations}
+use Rattle.bc_tree.specs.Size.{exp_size, declarations_size}
 use Rattle.bc_core.specs.Commands as core
 use Rattle.bc_core.specs.Level.{level_behind_parameters}
 use Rattle.bc_core.specs.Layout.{frame_size, cells_of_valofs}
@@ -10,7 +11,7 @@ use Rattle.bc_scoping.specs.Scope.{Env}
 use Rattle.bc_scoping.specs.Found.{RoutineBody, Gives, Does, Thing, AValof, ARoutine, Data, AStatic, ATable, AText, found_in_section, core_body, core_routine, places_of, valofs_of, section_start}
 use Rattle.bc_scoping.specs.Frames.{frame_of}
 use Rattle.bc_scoping.specs.Translation.{forms}
-use Rattle.bc_scoping.specs.Faults.{Fault, AFrameTooLarge, or_else, unless, declarations_fault, frames_fault, places_fault, allowed_in_routine, allowed_in_valof}
+use Rattle.bc_scoping.specs.Faults.{Fault, AFrameTooLarge, or_else, unless, declarations_fault, frames_fault, places_fault, section_fault, allowed_in_routine, allowed_in_valof}
 use Rattle.bc_translation.specs.Laws.{SectionsFit}
 use Rattle.bc_translation.proofs.Small.{small}
 use Rattle.bc_translation.proofs.Table.{same_number}
@@ -85,6 +86,21 @@ places_stand A all n q (ARoutine r ∷ fs) h st w c f =
     let hb = bodies_fit A r.names r.numbers r.body s c.0.2 c.0.0 of_body c.0.1 in
     λ i. (c.0.3 i && frame i && hb i) && places_stand A all n (q + 1) fs h.1 st.1 w c.1 (none_right this (frames_fault fs) f) i
 
+section_stands : (ds : Declarations) → let fs = found_in_section ds in AllThings (Stands (among (length (places_of fs)) 0 (levels_of fs))) fs
+section_stands ds =
+    let fs = found_in_section ds in
+    let places = length (places_of fs) in
+    let g : (i : ℕ) → slice_get (levels_of fs) i ≡ slice_get (levels_of fs) (0 + i) = λ i. let m : i ≡ 0 + i = omega arith in ap (slice_get (levels_of fs)) m in
+    stands places 0 0 1 (levels_of fs) fs (all_nested ds) (omega arith) (omega arith) (omega arith) g
+
+-- each routine and VALOF of a section without fault is without fault
+pub section_clean : (ds : Declarations) → declarations_size ds ≤ 524288 → section_fault ds ≡ None → let fs = found_in_section ds in AllThings (Clean (length (places_of fs))) fs
+section_clean ds z n =
+    let fs = found_in_section ds in
+    let empty : Sound (length (places_of fs)) [] [] = record { from = λ q. tt } in
+    clean_declarations false (among (length (places_of fs)) 0 (levels_of fs)) [] [] section_start ds 0 z empty (section_stands ds)
+    (none_left (declarations_fault false [] section_start ds 0) (or_else (frames_fault fs) (places_fault fs)) n)
+
 pub sections_fit : SectionsFit
 sections_fit ds z n =
     let fs = found_in_section ds in
@@ -92,13 +108,9 @@ sections_fit ds z n =
     let A : Around = among places 0 (levels_of fs) in
     let nested = all_nested ds in
     let behind = or_else (frames_fault fs) (places_fault fs) in
-    let n0 = none_left (declarations_fault false [] section_start ds 0) behind n in
     let n1 = none_left (frames_fault fs) (places_fault fs) (none_right (declarations_fault false [] section_start ds 0) behind n) in
     let o : 1 ≤ 1 = omega arith in
-    let l : 0 ≤ 0 = omega arith in
     let w : 1 + length (places_of fs) ≤ places + 1 = omega arith in
     let g : (i : ℕ) → slice_get (levels_of fs) i ≡ slice_get (levels_of fs) (0 + i) = λ i. let m : i ≡ 0 + i = omega arith in ap (slice_get (levels_of fs)) m in
-    let st = stands places 0 0 1 (levels_of fs) fs nested l o w g in
-    let empty : Sound places [] [] = record { from = λ q. tt } in
-    let c = clean_declarations false A [] [] section_start ds 0 z empty st n0 in
-    λ i. places_stand A fs 0 1 fs nested st (table_wide 0 1 fs nested) c n1 i && valofs_stand places 0 1 (levels_of fs) fs nested o w g c i
+    let c = section_clean ds z n in
+    λ i. places_stand A fs 0 1 fs nested (section_stands ds) (table_wide 0 1 fs nested) c n1 i && valofs_stand places 0 1 (levels_of fs) fs nested o w g c i

@@ -1,0 +1,10 @@
+mod Counts
+mod Derivations
+mod Fresh
+mod Speaking
+mod Names
+mod Runs
+mod Commands
+mod Sections
+pub mod Refusing
+pub mod Differing

@@ -1,0 +1,4 @@
+//! The labels of a section's items.
+#![tactic(auto)]
+
+pub mod laws;
