@@ -11,8 +11,6 @@ mod quoted;
 mod reading;
 mod run;
 mod source;
-#[cfg(test)]
-mod tests;
 
 pub use bc_token::{Symbol, Token, TokenKind};
 pub use error::LexError;

@@ -9,8 +9,6 @@ mod link_error;
 mod linker;
 mod repeats;
 mod store;
-#[cfg(test)]
-mod tests;
 
 pub use bc_image::{Image, Labels, Places, SegmentPlace, Words};
 pub use bc_item::{Base, Function, GlobalNumber, Item, Segment};

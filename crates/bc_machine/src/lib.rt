@@ -11,8 +11,6 @@ mod operations;
 mod progress;
 mod store;
 mod streams;
-#[cfg(test)]
-mod tests;
 
 pub use bc_image::{Image, Labels, Places, SegmentPlace, Words};
 pub use bc_step::{End, Side};

@@ -18,6 +18,3 @@ pub use bc_tree::{
 };
 pub use error::ParseError;
 pub use section::parse;
-
-#[cfg(test)]
-mod tests;

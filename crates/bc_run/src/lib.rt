@@ -4,8 +4,6 @@
 
 mod primitive;
 mod running;
-#[cfg(test)]
-mod tests;
 
 pub use bc_library::{BLIB, LIBHDR};
 pub use primitive::primitives;

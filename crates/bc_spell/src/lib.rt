@@ -7,6 +7,3 @@ mod spelling;
 
 pub use rendering::render;
 pub use spelling::spell;
-
-#[cfg(test)]
-mod tests;

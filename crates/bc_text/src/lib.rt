@@ -7,8 +7,6 @@ mod place;
 mod printing;
 mod progress;
 mod reader;
-#[cfg(test)]
-mod tests;
 mod text_error;
 
 pub use bc_item::{Base, Function, GlobalNumber, Item, Segment};

@@ -1,4 +1,4 @@
-use super::*;
+use bc_link::{Base, Function, GlobalNumber, Image, Item, LinkError, Segment, link};
 use bc_word::Word;
 use std::alloc;
 use std::test::Fail;

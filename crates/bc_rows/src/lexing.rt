@@ -3,7 +3,7 @@ mod gets;
 mod library;
 mod tokens;
 
-use crate::{LexError, Source, Token, TokenKind, lex};
+use bc_lex::{LexError, Source, Token, TokenKind, lex};
 use std::alloc::Global;
 use std::process::Abort;
 use std::test::Fail;

@@ -1,6 +1,6 @@
-use crate::{RunFault, primitives, run_text};
 use bc_link::LinkError;
 use bc_machine::{MemoryStreams, Named, StreamsError};
+use bc_run::{RunFault, primitives, run_text};
 use bc_step::End;
 use bc_text::TextError;
 use bc_word::{Memory, Word};

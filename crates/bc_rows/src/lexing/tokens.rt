@@ -1,6 +1,6 @@
 use super::{expect_kinds, tokens_of};
-use crate::TokenKind::{Character, Name, Number, String};
-use crate::{Symbol, TokenKind};
+use bc_lex::TokenKind::{Character, Name, Number, String};
+use bc_lex::{Symbol, TokenKind};
 use std::test::Fail;
 
 /// Every reserved word but GET and every sign, with its symbol.

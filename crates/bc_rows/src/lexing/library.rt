@@ -1,4 +1,4 @@
-use crate::{LexError, Source, TokenKind, lex};
+use bc_lex::{LexError, Source, TokenKind, lex};
 use bc_library::{BLIB, LIBHDR};
 use std::alloc::Global;
 use std::test::Fail;

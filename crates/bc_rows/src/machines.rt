@@ -1,4 +1,4 @@
-use crate::{
+use bc_machine::{
     DeviceFault, End, FileStreams, Image, Machine, MemoryStreams, Named, Places, Side, Streams,
     StreamsError, Words,
 };

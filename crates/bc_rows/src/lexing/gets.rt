@@ -1,5 +1,5 @@
-use crate::TokenKind::Name;
-use crate::{LexError, Source, lex};
+use bc_lex::TokenKind::Name;
+use bc_lex::{LexError, Source, lex};
 use std::test::Fail;
 
 /// Two texts, the second a source of the name B, and the fault of the first.

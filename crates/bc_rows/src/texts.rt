@@ -1,8 +1,8 @@
 //! Expected answers are the format's own examples, or were counted by a reader that was written from the
 //! grammar alone, in another language.
 
-use crate::{Item, Reader, Segment, TextError, print, read_all};
-use bc_item::{Base, Function};
+use bc_item::{Base, Function, GlobalNumber, Item, Segment};
+use bc_text::{Reader, TextError, print, read_all};
 use bc_word::Word;
 use std::alloc::Global;
 use std::io;
@@ -127,7 +127,7 @@ fn program() -> [Item; 7] {
         op(Function::Call, false, Base::Number, 2),
         op(Function::Execute, false, Base::Number, 4),
         Item::Global {
-            number: crate::GlobalNumber::new(1).unwrap(),
+            number: GlobalNumber::new(1).unwrap(),
             label: Word::new(1),
         },
     ]

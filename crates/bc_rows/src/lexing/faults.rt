@@ -1,5 +1,5 @@
 use super::{expect_fault, expect_kinds, tokens_of};
-use crate::{LexError, TokenKind};
+use bc_lex::{LexError, TokenKind};
 use std::test::Fail;
 
 /// Texts with their first faults.

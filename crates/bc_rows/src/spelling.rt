@@ -1,4 +1,4 @@
-use crate::{render, spell};
+use bc_spell::{render, spell};
 use bc_token::{Symbol, TokenKind};
 use bc_tree::{
     Block, Command, Constant, Declaration, Definition, Dyadic, Exp, Item, Label, Monadic, Section,

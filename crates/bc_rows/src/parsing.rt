@@ -1,4 +1,4 @@
-use crate::{ParseError, parse};
+use bc_parse::{ParseError, parse};
 use bc_token::{Symbol, Token, TokenKind};
 use std::alloc::{AllocError, Global};
 use std::test::Fail;
