@@ -63,8 +63,8 @@ repeat_while_view b c = ap (λ is. commands.RepeatWhile (commands.block (declara
 pub for_view : (start limit : CoreExp) (by : ℕ) (b : Block) → command (command_forms.For start limit by b) ≡ commands.For (exp start) (exp limit) by (block_of b)
 for_view start limit by b = ap (λ is. commands.For (exp start) (exp limit) by (commands.block (declarations b.declarations.items) is)) (items_hidden b.list)
 
-pub switchon_view : (e : CoreExp) (is : Vec ListItem Global) → command (command_forms.Switchon e is) ≡ commands.Switchon (exp e) (items is.items)
-switchon_view e is = ap (commands.Switchon (exp e)) (items_hidden is)
+pub switchon_view : (e : CoreExp) (is : Vec ListItem Global) → command (command_forms.SwitchOn e is) ≡ commands.SwitchOn (exp e) (items is.items)
+switchon_view e is = ap (commands.SwitchOn (exp e)) (items_hidden is)
 
 pub nested_view : (b : Block) → command (command_forms.Nested b) ≡ commands.Nested (block_of b)
 nested_view b = ap (λ is. commands.Nested (commands.block (declarations b.declarations.items) is)) (items_hidden b.list)

@@ -310,12 +310,12 @@ mutual
       tidy_with_cells 1 (p + s) _ (tidy_up (p + s + 1) top _ one
       (tidy_for top by _ _ _ _ _ (tidy_assign C t start (Frame s) top p (s + 2) le) (tidy_sense C t limit p (s + 2)).0 (tidy_sense C t (Load (Frame s)) p (s + 2)).0
       (tidy_assign C t (step_of_for by s) (Frame s) top p (s + 2) le) (tidy_block C t b p (s + 2))))
-  tidy_perform C t (commands.Switchon e is) p s = tidy_switched (p + s) _ _ _ _ (tidy_sense C t e p s).0 (λ at. tidy_items C t is p s at)
+  tidy_perform C t (commands.SwitchOn e is) p s = tidy_switched (p + s) _ _ _ _ (tidy_sense C t e p s).0 (λ at. tidy_items C t is p s at)
   tidy_perform C t commands.Break p s = tidy_done (p + s) _
   tidy_perform C t commands.Loop p s = tidy_done (p + s) _
-  tidy_perform C t commands.Endcase p s = tidy_done (p + s) _
+  tidy_perform C t commands.EndCase p s = tidy_done (p + s) _
   tidy_perform C t commands.Return p s = tidy_done (p + s) _
-  tidy_perform C t (commands.Resultis e) p s = tidy_then (p + s) _ _ (tidy_sense C t e p s).0 (λ v. tidy_done (p + s) _)
+  tidy_perform C t (commands.ResultIs e) p s = tidy_then (p + s) _ _ (tidy_sense C t e p s).0 (λ v. tidy_done (p + s) _)
   tidy_perform C t commands.Finish p s = tidy_ends Exit (p + s) _
   tidy_perform C t (commands.Goto l) p s = tidy_turn (p + s) _ (tidy_done (p + s) _)
   tidy_perform C t (commands.Nested b) p s = tidy_block C t b p s

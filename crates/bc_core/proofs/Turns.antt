@@ -365,12 +365,12 @@ mutual
   more_perform d C D t (commands.For start limit by b) p s =
       more_with_cells d 1 (p + s) _ _ (more_for d by _ _ _ _ _ _ _ _ _ _ (more_assign d C D t start (Frame s) p (s + 2)) (more_sense d C D t limit p (s + 2)).0
       (more_sense d C D t (Load (Frame s)) p (s + 2)).0 (more_assign d C D t (step_of_for by s) (Frame s) p (s + 2)) (more_block d C D t b p (s + 2)))
-  more_perform d C D t (commands.Switchon e is) p s = more_switched d _ _ _ _ _ _ (more_sense d C D t e p s).0 (λ at. more_items d C D t is p s at)
+  more_perform d C D t (commands.SwitchOn e is) p s = more_switched d _ _ _ _ _ _ (more_sense d C D t e p s).0 (λ at. more_items d C D t is p s at)
   more_perform d C D t commands.Break p s = more_done d _
   more_perform d C D t commands.Loop p s = more_done d _
-  more_perform d C D t commands.Endcase p s = more_done d _
+  more_perform d C D t commands.EndCase p s = more_done d _
   more_perform d C D t commands.Return p s = more_done d _
-  more_perform d C D t (commands.Resultis e) p s = more_then d _ _ _ _ (more_sense d C D t e p s).0 (λ v. more_done d _)
+  more_perform d C D t (commands.ResultIs e) p s = more_then d _ _ _ _ (more_sense d C D t e p s).0 (λ v. more_done d _)
   more_perform d C D t commands.Finish p s = more_ends Exit d _
   more_perform d C D t (commands.Goto l) p s = more_turn d _ _ (more_done d _)
   more_perform d C D t (commands.Nested b) p s = more_block d C D t b p s

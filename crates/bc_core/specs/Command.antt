@@ -44,12 +44,12 @@ abbrev mutual
       let s1 = level_in_for s in
       with_cells 1 (p + s) (for_loop by (assign C start (Frame s) p s1) (value C limit p s1) (value C (Load (Frame s)) p s1)
       (assign C (step_of_for by s) (Frame s) p s1) (perform_block C b p s1))
-  perform C (commands.Switchon e is) p s = switched (value C e p s) (has_case is) (has_label is) (perform_items C is p s)
+  perform C (commands.SwitchOn e is) p s = switched (value C e p s) (has_case is) (has_label is) (perform_items C is p s)
   perform C commands.Break p s = Done Broke
   perform C commands.Loop p s = Done Looped
-  perform C commands.Endcase p s = Done LeftCases
+  perform C commands.EndCase p s = Done LeftCases
   perform C commands.Return p s = Done Returned
-  perform C (commands.Resultis e) p s = then_do (value C e p s) (λ v. Done (Resulted v))
+  perform C (commands.ResultIs e) p s = then_do (value C e p s) (λ v. Done (Resulted v))
   perform C commands.Finish p s = ends Finished
   -- a GOTO is a turn
   perform C (commands.Goto l) p s = in_turn (Done (Jumped l))

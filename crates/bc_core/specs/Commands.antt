@@ -18,12 +18,12 @@ mutual
     Repeat : Block → Command
     RepeatWhile : Block → (sense : Bool) → Exp → Command
     For : (start limit : Exp) → (by : ℕ) → Block → Command
-    Switchon : Exp → Items → Command
+    SwitchOn : Exp → Items → Command
     Break : Command
     Loop : Command
-    Endcase : Command
+    EndCase : Command
     Return : Command
-    Resultis : Exp → Command
+    ResultIs : Exp → Command
     Finish : Command
     Goto : ℕ → Command
     Nested : Block → Command

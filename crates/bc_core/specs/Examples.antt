@@ -189,7 +189,7 @@ wild_call = refl
 -- `LET X = 0`; WRCH('0' + VALOF $( X := X+1; IF X = 3 RESULTIS X $) REPEAT)
 valof_in_loop :
     run_with []
-    (record { level = 6; body = commands (c.Repeat (commands (set_to 2 (Bin Add (at 2) (Num 1)) ∷ c.If true (Bin Equal (at 2) (Num 3)) (commands (c.Resultis (at 2) ∷ [])) ∷ [])) ∷ []) } ∷ [])
+    (record { level = 6; body = commands (c.Repeat (commands (set_to 2 (Bin Add (at 2) (Num 1)) ∷ c.If true (Bin Equal (at 2) (Num 3)) (commands (c.ResultIs (at 2) ∷ [])) ∷ [])) ∷ []) } ∷ [])
     (let_in (Initial (Num 0) ∷ []) (print_digit (Valof 0) ∷ [])) 100 ≡ printed (51 ∷ [])
 valof_in_loop = refl
 
@@ -233,7 +233,7 @@ break_and_loop = refl
 -- SWITCHON v INTO $( CASE 1: WRCH('A'); CASE 2: WRCH('B'); ENDCASE; CASE 3: WRCH('C') $)
 abbrev switch_on : ℕ → Items → Result
 switch_on v rest =
-    run (commands (c.Switchon (Num v) (case 1 (command (print (Num 65)) (case 2 (command (print (Num 66)) (command c.Endcase (case 3 (command (print (Num 67)) rest))))))) ∷ []))
+    run (commands (c.SwitchOn (Num v) (case 1 (command (print (Num 65)) (case 2 (command (print (Num 66)) (command c.EndCase (case 3 (command (print (Num 67)) rest))))))) ∷ []))
 
 falls_through : switch_on 1 no_item ≡ printed (65 ∷ 66 ∷ [])
 falls_through = refl

@@ -60,8 +60,8 @@ abbrev mutual
   cells_of_command V (commands.For start limit by b) s =
       let s1 = level_in_for s in
       max (s1 + 2) (max (cells_of_exp V start s1) (max (cells_of_exp V limit s1) (cells_of_block V b s1)))
-  cells_of_command V (commands.Switchon e is) s = max (cells_of_exp V e s) (cells_of_items V is s)
-  cells_of_command V (commands.Resultis e) s = cells_of_exp V e s
+  cells_of_command V (commands.SwitchOn e is) s = max (cells_of_exp V e s) (cells_of_items V is s)
+  cells_of_command V (commands.ResultIs e) s = cells_of_exp V e s
   cells_of_command V (commands.Nested b) s = cells_of_block V b s
   cells_of_command V _ s = 0
 

@@ -47,8 +47,8 @@ abbrev mutual
   command_has_words (commands.Repeat b) = block_has_words b
   command_has_words (commands.RepeatWhile b sense e) = block_has_words b && has_words e
   command_has_words (commands.For start limit by b) = has_words start && has_words limit && is_word by && block_has_words b
-  command_has_words (commands.Switchon e is) = has_words e && items_have_words is
-  command_has_words (commands.Resultis e) = has_words e
+  command_has_words (commands.SwitchOn e is) = has_words e && items_have_words is
+  command_has_words (commands.ResultIs e) = has_words e
   command_has_words (commands.Nested b) = block_has_words b
   command_has_words _ = true
 

@@ -67,12 +67,12 @@ abbrev mutual
   command (command_forms.Repeat' ds shape is) = commands.Repeat (block (declarations ds.items) (items_of_row is))
   command (command_forms.RepeatWhile' ds shape is c) = commands.RepeatWhile (block (declarations ds.items) (items_of_row is)) c.sense (exp c.test)
   command (command_forms.For' start limit by ds shape is) = commands.For (exp start) (exp limit) by (block (declarations ds.items) (items_of_row is))
-  command (command_forms.Switchon' e shape is) = commands.Switchon (exp e) (items_of_row is)
+  command (command_forms.SwitchOn' e shape is) = commands.SwitchOn (exp e) (items_of_row is)
   command command_forms.Break = commands.Break
   command command_forms.Loop = commands.Loop
-  command command_forms.Endcase = commands.Endcase
+  command command_forms.EndCase = commands.EndCase
   command command_forms.Return = commands.Return
-  command (command_forms.Resultis e) = commands.Resultis (exp e)
+  command (command_forms.ResultIs e) = commands.ResultIs (exp e)
   command command_forms.Finish = commands.Finish
   command (command_forms.Goto l) = commands.Goto l
   command (command_forms.Nested' ds shape is) = commands.Nested (block (declarations ds.items) (items_of_row is))

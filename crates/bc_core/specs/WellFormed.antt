@@ -121,13 +121,13 @@ abbrev mutual
   command_fits A J (commands.For start limit by b) s =
       let s1 = level_in_for s in
       assignment_fits A start (Frame s) s1 && assignment_fits A limit (Frame (s + 1)) s1 && block_fits A (in_a_loop J) b s1
-  command_fits A J (commands.Switchon e is) s =
+  command_fits A J (commands.SwitchOn e is) s =
       root_fits A e s && are_distinct (labels_of is) && items_fit A (in_list is (record J { in_cases = true })) is s
   command_fits A J commands.Break s = J.in_loop
   command_fits A J commands.Loop s = J.in_loop
-  command_fits A J commands.Endcase s = J.in_cases
+  command_fits A J commands.EndCase s = J.in_cases
   command_fits A J commands.Return s = J.may_return
-  command_fits A J (commands.Resultis e) s = J.in_valof && root_fits A e s
+  command_fits A J (commands.ResultIs e) s = J.in_valof && root_fits A e s
   command_fits A J (commands.Goto l) s = has J.labels l
   command_fits A J (commands.Nested b) s = block_fits A J b s
   command_fits A J commands.Finish s = true

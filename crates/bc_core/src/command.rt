@@ -39,17 +39,17 @@ pub enum Command {
         body: Block,
     },
     /// SWITCHON with its list.
-    Switchon(CoreExp, Vec<ListItem>),
+    SwitchOn(CoreExp, Vec<ListItem>),
     /// BREAK, which leaves the innermost loop.
     Break,
     /// LOOP, which goes on with the innermost loop's next turn.
     Loop,
     /// ENDCASE, which leaves the innermost SWITCHON.
-    Endcase,
+    EndCase,
     /// RETURN from a routine of BE.
     Return,
     /// RESULTIS, which leaves the innermost VALOF with a value.
-    Resultis(CoreExp),
+    ResultIs(CoreExp),
     /// FINISH, which ends the run.
     Finish,
     /// GOTO the label with this number, in the innermost list around that has it.

@@ -80,16 +80,16 @@ mutual
       (one Q q _ _ (q.behind _ _ (r (Test s1 true (end_of_for by s)) (f + 1) n.1)
       (q.behind _ _ (block_kept Q q roots r b s1 (record E { broken = f + 1; looped = f + 2 }) t.1)
       (one Q q _ _ (q.behind _ _ (r (Assign s1 (step_of_for by s) (Frame s)) 0 x.1) (one Q q _ _ (q.item _))))))))
-  command_kept Q q roots r (commands.Switchon e is) s E f =
+  command_kept Q q roots r (commands.SwitchOn e is) s E f =
       let v = roots (Value s e) 0 (f + 1 + entries_in is) in
       let E1 = record E { cases = f; labels = labelled is v.1 E.labels; case_of = cased is (f + 1) (defaulted is (f + 1) f); default_of = defaulted is (f + 1) f } in
       q.behind _ _ (r (Value s e) 0 (f + 1 + entries_in is)) (one Q q _ _ (one Q q _ _ (one Q q _ _ (q.behind _ _ (table_kept Q q is E1.case_of)
       (q.behind _ _ (items_kept Q q roots r is s E1 (v.1 + labels_in is)) (q.item _))))))
   command_kept Q q roots r commands.Break s E f = q.item _
   command_kept Q q roots r commands.Loop s E f = q.item _
-  command_kept Q q roots r commands.Endcase s E f = q.item _
+  command_kept Q q roots r commands.EndCase s E f = q.item _
   command_kept Q q roots r commands.Return s E f = one Q q _ _ (q.item _)
-  command_kept Q q roots r (commands.Resultis e) s E f = q.behind _ _ (r (Value s e) 0 f) (q.item _)
+  command_kept Q q roots r (commands.ResultIs e) s E f = q.behind _ _ (r (Value s e) 0 f) (q.item _)
   command_kept Q q roots r commands.Finish s E f = q.item _
   command_kept Q q roots r (commands.Goto l) s E f = q.item _
   command_kept Q q roots r (commands.Nested b) s E f = block_kept Q q roots r b s E f

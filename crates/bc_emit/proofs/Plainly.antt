@@ -75,15 +75,15 @@ mutual
       let n = roots (Assign s1 limit (Frame (s + 1))) 0 i.1 in
       let t = roots (Test s1 true (end_of_for by s)) (f + 1) n.1 in
       rw (sym (block_plain roots b s1 (record E { broken = f + 1; looped = f + 2 }) t.1)) (simp plain_append)
-  command_plain roots (commands.Switchon e is) s E f =
+  command_plain roots (commands.SwitchOn e is) s E f =
       let v = roots (Value s e) 0 (f + 1 + entries_in is) in
       let E1 = record E { cases = f; labels = labelled is v.1 E.labels; case_of = cased is (f + 1) (defaulted is (f + 1) f); default_of = defaulted is (f + 1) f } in
       rw (sym (items_plain roots is s E1 (v.1 + labels_in is)), sym (table_plain is E1.case_of)) (simp plain_append)
   command_plain roots commands.Break s E f = refl
   command_plain roots commands.Loop s E f = refl
-  command_plain roots commands.Endcase s E f = refl
+  command_plain roots commands.EndCase s E f = refl
   command_plain roots commands.Return s E f = refl
-  command_plain roots (commands.Resultis e) s E f = simp plain_append
+  command_plain roots (commands.ResultIs e) s E f = simp plain_append
   command_plain roots commands.Finish s E f = refl
   command_plain roots (commands.Goto l) s E f = refl
   command_plain roots (commands.Nested b) s E f = block_plain roots b s E f

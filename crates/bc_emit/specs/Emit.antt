@@ -155,16 +155,16 @@ abbrev mutual
       let x = emit_block of roots b s1 (record E { broken = f + 1; looped = f + 2 }) t.1 in
       let u = roots (Assign s1 (step_of_for by s) (Frame s)) 0 x.1 in
       (i.0 ++ (n.0 ++ of (Label f) ∷ (t.0 ++ (x.0 ++ of (Label (f + 2)) ∷ (u.0 ++ of (jump f) ∷ of (Label (f + 1)) ∷ [])))), u.1)
-  emit of roots (commands.Switchon e is) s E f =
+  emit of roots (commands.SwitchOn e is) s E f =
       let v = roots (Value s e) 0 (f + 1 + entries_in is) in
       let E1 = record E { cases = f; labels = labelled is v.1 E.labels; case_of = cased is (f + 1) (defaulted is (f + 1) f); default_of = defaulted is (f + 1) f } in
       let x = emit_items of roots is s E1 (v.1 + labels_in is) in
       (v.0 ++ (of (execute 23) ∷ of (Data (cases_in is)) ∷ of (DataLabel E1.default_of) ∷ (table_of of is E1.case_of ++ (x.0 ++ of (Label f) ∷ []))), x.1)
   emit of roots commands.Break s E f = (of (jump E.broken) ∷ [], f)
   emit of roots commands.Loop s E f = (of (jump E.looped) ∷ [], f)
-  emit of roots commands.Endcase s E f = (of (jump E.cases) ∷ [], f)
+  emit of roots commands.EndCase s E f = (of (jump E.cases) ∷ [], f)
   emit of roots commands.Return s E f = (of zero_item ∷ of (execute 4) ∷ [], f)
-  emit of roots (commands.Resultis e) s E f = let v = roots (Value s e) 0 f in (v.0 ++ of (jump E.result) ∷ [], v.1)
+  emit of roots (commands.ResultIs e) s E f = let v = roots (Value s e) 0 f in (v.0 ++ of (jump E.result) ∷ [], v.1)
   emit of roots commands.Finish s E f = (of (execute 22) ∷ [], f)
   emit of roots (commands.Goto l) s E f = (of (jump (E.labels l)) ∷ [], f)
   emit of roots (commands.Nested b) s E f = emit_block of roots b s E f

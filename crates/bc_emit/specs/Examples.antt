@@ -27,7 +27,7 @@ pub for_code : emit (λ i. i) no_code (commands.For (Num 1) (Num 9) 1 (only comm
 for_code = refl
 
 -- a SWITCHON takes a label for its end, and then one for each CASE and DEFAULT
-pub switchon_code : emit (λ i. i) no_code (commands.Switchon (Num 1) (case 3 (command commands.Endcase (default (case 4 no_item))))) 2 (body_exits 0) 5
+pub switchon_code : emit (λ i. i) no_code (commands.SwitchOn (Num 1) (case 3 (command commands.EndCase (default (case 4 no_item))))) 2 (body_exits 0) 5
     ≡ (execute 23 ∷ Data 2 ∷ DataLabel 7 ∷ Data 3 ∷ DataLabel 6 ∷ Data 4 ∷ DataLabel 8 ∷ Label 6 ∷ jump 5 ∷ Label 7 ∷ Label 8 ∷ Label 5 ∷ [], 9)
 switchon_code = refl
 

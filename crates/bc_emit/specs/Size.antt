@@ -38,12 +38,12 @@ abbrev mutual
       let s1 = level_in_for s in
       2 + words (Assign s1 start (Frame s)) + words (Assign s1 limit (Frame (s + 1))) + words (Test s1 true (end_of_for by s))
       + words_of_block words b s1 + words (Assign s1 (step_of_for by s) (Frame s))
-  words_of_command words (commands.Switchon e is) s = 3 + 2 * cases_in is + words (Value s e) + words_of_items words is s
+  words_of_command words (commands.SwitchOn e is) s = 3 + 2 * cases_in is + words (Value s e) + words_of_items words is s
   words_of_command words commands.Break s = 2
   words_of_command words commands.Loop s = 2
-  words_of_command words commands.Endcase s = 2
+  words_of_command words commands.EndCase s = 2
   words_of_command words commands.Return s = 2
-  words_of_command words (commands.Resultis e) s = 2 + words (Value s e)
+  words_of_command words (commands.ResultIs e) s = 2 + words (Value s e)
   words_of_command words commands.Finish s = 1
   words_of_command words (commands.Goto l) s = 2
   words_of_command words (commands.Nested b) s = words_of_block words b s

@@ -90,7 +90,7 @@ fn expression<'s>(
         Exp::Dyadic(_, left, right) => {
             operands(scope, progress, in_constant, left, right, level)
         }
-        Exp::Condition(test, this, that) => {
+        Exp::Condition { test, this, that } => {
             choice(scope, progress, in_constant, test, this, that, level)
         }
         Exp::Call(routine, values) => call(scope, progress, in_constant, routine, values, level),
@@ -787,10 +787,16 @@ fn command<'s>(
         Command::While(test, body) | Command::Until(test, body) => {
             guarded(scope, progress, allowed.in_a_loop(), test, body, level)
         }
-        Command::Test(test, this, that) => {
+        Command::Test { test, this, that } => {
             tested(scope, progress, allowed, test, this, that, level)
         }
-        Command::For(variable, start, limit, step, body) => match step {
+        Command::For {
+            variable,
+            start,
+            limit,
+            step,
+            body,
+        } => match step {
             None => plain_for(
                 scope, progress, allowed, variable, start, limit, body, level,
             ),

@@ -165,7 +165,7 @@ fn has_cell(scope: &Scope<'_>, e: &Exp<'_>) -> bool
         | Exp::False
         | Exp::Table(_)
         | Exp::Valof(_)
-        | Exp::Condition(_, _, _)
+        | Exp::Condition { .. }
         | Exp::Call(_, _) => false,
     }
 }

@@ -116,7 +116,7 @@ pub switchon_writes : {X : Type 0} (r : Result X GenError) (roots : Roots Marked
     → Set w4 w5 (Plain (execute 23) ∷ []) → Set w5 w6 (Plain (Data count) ∷ []) → Set w6 w7 (Plain (DataLabel d) ∷ [])
     → Set w7 w8 (table_of Plain is (λ v. label_in cs v d))
     → Wrote w8 w9 (emit_items Plain roots is s (record E { cases = past; labels = λ n. label_in ls n 0; case_of = λ v. label_in cs v d; default_of = d }) w8.next)
-    → Puts r w9 w10 (Plain (Label past) ∷ []) → Writes r w0 w10 (emit Plain roots (commands.Switchon e is) s E w0.next)
+    → Puts r w9 w10 (Plain (Label past) ∷ []) → Writes r w0 w10 (emit Plain roots (commands.SwitchOn e is) s E w0.next)
 switchon_writes (Err x) roots E outer e is s past d count ls cs w0 w1 w2 w3 w4 w5 w6 w7 w8 w9 w10 eo t1 p1 ed ec en n2 p2 h3 el n4 p4 h5 h6 h7 h8 h9 h10 = out_of_memory x _ h10
 switchon_writes (Ok x) roots E outer e is s past d count ls cs w0 w1 w2 w3 w4 w5 w6 w7 w8 w9 w10 eo t1 p1 ed ec en n2 p2 h3 el n4 p4 h5 h6 h7 h8 h9 h10 =
     let hl = ap (λ (xs : List Numbered). λ (n : ℕ). label_in xs n 0) el ∙ labelled_is is w3.next outer ∙ ap (λ (g : ℕ → ℕ). labelled is w3.next g) (sym eo) in

@@ -154,13 +154,13 @@ for_taken roots r E start limit by b s f =
     upto (f + 3) _ _ (r.up from 0 (f + 3)) (for_started roots r E start limit by b s f (roots from 0 (f + 3)).1 refl)
 
 -- SWITCHON
-pub switchon_valued : (roots : Roots Marked) → Rising roots → (E : Exits) (e : Exp) (is : Items) (s f m : ℕ) → m ≡ (roots (Value s e) 0 (f + 1 + entries_in is)).1 → m + labels_in is ≤ (emit Plain roots (commands.Switchon e is) s E f).1
+pub switchon_valued : (roots : Roots Marked) → Rising roots → (E : Exits) (e : Exp) (is : Items) (s f m : ℕ) → m ≡ (roots (Value s e) 0 (f + 1 + entries_in is)).1 → m + labels_in is ≤ (emit Plain roots (commands.SwitchOn e is) s E f).1
 switchon_valued roots r E e is s f m h =
     rw h (items_up roots r is s
     (record E { cases = f; labels = labelled is (roots (Value s e) 0 (f + 1 + entries_in is)).1 E.labels; case_of = cased is (f + 1) (defaulted is (f + 1) f); default_of = defaulted is (f + 1) f })
     ((roots (Value s e) 0 (f + 1 + entries_in is)).1 + labels_in is))
 
-pub switchon_taken : (roots : Roots Marked) → Rising roots → (E : Exits) (e : Exp) (is : Items) (s f : ℕ) → f + 1 + entries_in is ≤ (emit Plain roots (commands.Switchon e is) s E f).1
+pub switchon_taken : (roots : Roots Marked) → Rising roots → (E : Exits) (e : Exp) (is : Items) (s f : ℕ) → f + 1 + entries_in is ≤ (emit Plain roots (commands.SwitchOn e is) s E f).1
 switchon_taken roots r E e is s f =
     let g = f + 1 + entries_in is in
     let v = roots (Value s e) 0 g in
@@ -170,7 +170,7 @@ pub switchon_done : (roots : Roots Marked) (E : Exits) (outer : List Numbered) (
     → E.labels ≡ (λ n. label_in outer n 0) → past ≡ f → n1 ≡ f + 1
     → d ≡ defaulted is n1 past → cs ≡ case_pairs is n1 → n2 ≡ n1 + entries_in is
     → n3 ≡ (roots (Value s e) 0 n2).1 → ls ≡ label_pairs is n3 ++ outer → n4 ≡ n3 + labels_in is
-    → (emit_items Plain roots is s (record E { cases = past; labels = λ n. label_in ls n 0; case_of = λ v. label_in cs v d; default_of = d }) n4).1 ≤ (emit Plain roots (commands.Switchon e is) s E f).1
+    → (emit_items Plain roots is s (record E { cases = past; labels = λ n. label_in ls n 0; case_of = λ v. label_in cs v d; default_of = d }) n4).1 ≤ (emit Plain roots (commands.SwitchOn e is) s E f).1
 switchon_done roots E outer e is s past d ls cs f n1 n2 n3 n4 eo ep e1 ed ec e2 e3 el e4 =
     let hl = ap (λ (xs : List Numbered). λ (n : ℕ). label_in xs n 0) el ∙ labelled_is is n3 outer ∙ ap (λ (g : ℕ → ℕ). labelled is n3 g) (sym eo) in
     let hc = ap (λ (xs : List Numbered). λ (v : ℕ). label_in xs v d) ec ∙ cased_is is n1 d in

@@ -79,16 +79,16 @@ mutual
       less f 3 _ (upto (f + 3) i.1 _ (r.up (Assign s1 start (Frame s)) 0 (f + 3)) (upto i.1 n.1 _ (r.up (Assign s1 limit (Frame (s + 1))) 0 i.1)
       (upto n.1 t.1 _ (r.up (Test s1 true (end_of_for by s)) (f + 1) n.1) (upto t.1 x.1 _ (block_up roots r b s1 (record E { broken = f + 1; looped = f + 2 }) t.1)
       (r.up (Assign s1 (step_of_for by s) (Frame s)) 0 x.1)))))
-  command_up roots r (commands.Switchon e is) s E f =
+  command_up roots r (commands.SwitchOn e is) s E f =
       let g = f + 1 + entries_in is in
       let v = roots (Value s e) 0 g in
       let E1 = record E { cases = f; labels = labelled is v.1 E.labels; case_of = cased is (f + 1) (defaulted is (f + 1) f); default_of = defaulted is (f + 1) f } in
       less f 1 _ (less (f + 1) (entries_in is) _ (upto g v.1 _ (r.up (Value s e) 0 g) (less v.1 (labels_in is) _ (items_up roots r is s E1 (v.1 + labels_in is)))))
   command_up roots r commands.Break s E f = omega arith
   command_up roots r commands.Loop s E f = omega arith
-  command_up roots r commands.Endcase s E f = omega arith
+  command_up roots r commands.EndCase s E f = omega arith
   command_up roots r commands.Return s E f = omega arith
-  command_up roots r (commands.Resultis e) s E f = r.up (Value s e) 0 f
+  command_up roots r (commands.ResultIs e) s E f = r.up (Value s e) 0 f
   command_up roots r commands.Finish s E f = omega arith
   command_up roots r (commands.Goto l) s E f = omega arith
   command_up roots r (commands.Nested b) s E f = block_up roots r b s E f

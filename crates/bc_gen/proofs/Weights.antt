@@ -23,7 +23,7 @@ abbrev mutual
   weight (commands.Repeat b) = 1 + weight_of_block b
   weight (commands.RepeatWhile b sense e) = 1 + weight_of_block b
   weight (commands.For start limit by b) = 1 + weight_of_block b
-  weight (commands.Switchon e is) = 1 + weight_of_items is
+  weight (commands.SwitchOn e is) = 1 + weight_of_items is
   weight (commands.Nested b) = 1 + weight_of_block b
   weight _ = 1
 
@@ -63,7 +63,7 @@ weight_repeat_while b c = ap weight (repeat_while_view b c)
 pub weight_for : (start limit : CoreExp) (by : ℕ) (b : CodeBlock) → weight (command (forms.For start limit by b)) ≡ 1 + weight_of_block (block_of b)
 weight_for start limit by b = ap weight (for_view start limit by b)
 
-pub weight_switchon : (e : CoreExp) (is : Vec ListItem Global) → weight (command (forms.Switchon e is)) ≡ 1 + weight_of_items (items is.items)
+pub weight_switchon : (e : CoreExp) (is : Vec ListItem Global) → weight (command (forms.SwitchOn e is)) ≡ 1 + weight_of_items (items is.items)
 weight_switchon e is = ap weight (switchon_view e is)
 
 pub weight_nested : (b : CodeBlock) → weight (command (forms.Nested b)) ≡ 1 + weight_of_block (block_of b)

@@ -113,12 +113,12 @@ impl Writer {
                 by,
                 body,
             } => self.for_loop(around, level, start, limit, *by, body),
-            Command::Switchon(value, list) => self.switchon(around, level, value, list),
+            Command::SwitchOn(value, list) => self.switchon(around, level, value, list),
             Command::Break => self.jump(around.broken),
             Command::Loop => self.jump(around.looped),
-            Command::Endcase => self.jump(around.cases),
+            Command::EndCase => self.jump(around.cases),
             Command::Return => self.return_zero(),
-            Command::Resultis(value) => self.resultis(around, level, value),
+            Command::ResultIs(value) => self.resultis(around, level, value),
             Command::Finish => self.execute(22),
             Command::Goto(number) => self.jump(label_of(around.labels, *number, 0)),
             Command::Nested(body) => self.block(around, level, body),
@@ -299,7 +299,7 @@ impl Writer {
         value: &CoreExp,
         list: &[ListItem],
     ) -> Result<(), GenError>
-        ensures { Writes result self.old self.new (emit Plain (roots_in around.now) (forms.Switchon (exp value.now) (items_view list.now)) level (exits_of around.now) self.old.next) }
+        ensures { Writes result self.old self.new (emit Plain (roots_in around.now) (forms.SwitchOn (exp value.now) (items_view list.now)) level (exits_of around.now) self.old.next) }
     {
         let past = self.take(1)?;
         let found = self.case_labels(list, past)?;
@@ -335,7 +335,7 @@ impl Writer {
 
     #[cycle(commands)]
     fn resultis(&mut self, around: &Around<'_>, level: u16, value: &CoreExp) -> Result<(), GenError>
-        ensures { Writes result self.old self.new (emit Plain (roots_in around.now) (forms.Resultis (exp value.now)) level (exits_of around.now) self.old.next) }
+        ensures { Writes result self.old self.new (emit Plain (roots_in around.now) (forms.ResultIs (exp value.now)) level (exits_of around.now) self.old.next) }
     {
         self.value(around, level, value)?;
         self.jump(around.resulted)

@@ -224,7 +224,7 @@ module _ (A : Around) (roots : Roots Item) (r : SoundRoots A.places roots) where
               (both x.0 _ (hx.speaks n (in_loop (f + 1) (f + 2) end next a) (omega arith) (omega arith)) (item (Label (f + 2)) _ tt
               (both w.0 _ (hw.speaks n (a.places, ((tt, tt), tt), tt) (omega arith) m) (item (jump f) _ begin (item (Label (f + 1)) [] tt nothing))))))));
         }
-    command_sound (commands.Switchon e is) J u h d s E f =
+    command_sound (commands.SwitchOn e is) J u h d s E f =
         let g = f + 1 + entries_in is in
         let v = roots (Value s e) 0 g in
         let D = defaulted is (f + 1) f in
@@ -269,9 +269,9 @@ module _ (A : Around) (roots : Roots Item) (r : SoundRoots A.places roots) where
         }
     command_sound commands.Break J u h d s E f = only f (jump E.broken ∷ []) (λ k. refl) (λ n a. item (jump E.broken) [] (a.broken h) nothing)
     command_sound commands.Loop J u h d s E f = only f (jump E.looped ∷ []) (λ k. refl) (λ n a. item (jump E.looped) [] (a.looped h) nothing)
-    command_sound commands.Endcase J u h d s E f = only f (jump E.cases ∷ []) (λ k. refl) (λ n a. item (jump E.cases) [] (a.cases h) nothing)
+    command_sound commands.EndCase J u h d s E f = only f (jump E.cases ∷ []) (λ k. refl) (λ n a. item (jump E.cases) [] (a.cases h) nothing)
     command_sound commands.Return J u h d s E f = only f (zero_item ∷ execute 4 ∷ []) (λ k. refl) (λ n a. item zero_item _ tt (item (execute 4) [] tt nothing))
-    command_sound (commands.Resultis e) J u h d s E f =
+    command_sound (commands.ResultIs e) J u h d s E f =
         let v = roots (Value s e) 0 f in
         let he = right_true J.in_valof (root_fits A e u) h in
         joined v (jump E.result ∷ [], v.1) (weaker v (λ n a. (a.places, root_names A n a.places e u he, tt)) (r (Value s e) 0 f))

@@ -27,7 +27,7 @@ abbrev mutual
   command_cases_differ (commands.Repeat b) = block_cases_differ b
   command_cases_differ (commands.RepeatWhile b sense e) = block_cases_differ b
   command_cases_differ (commands.For start limit by b) = block_cases_differ b
-  command_cases_differ (commands.Switchon e is) = are_distinct (cases_of is) && nat_le (defaults_in is) 1 && items_cases_differ is
+  command_cases_differ (commands.SwitchOn e is) = are_distinct (cases_of is) && nat_le (defaults_in is) 1 && items_cases_differ is
   command_cases_differ (commands.Nested b) = block_cases_differ b
   command_cases_differ _ = true
 

@@ -18,7 +18,7 @@ no_code = record { pieces = λ r target first. []; labels = λ r. 0; derivation 
 
 -- a routine that is a SWITCHON
 abbrev switch : Items → Core
-switch is = record { places = commands.Code (record { global = Some 1; parameters = 0; body = Does (block [] (command (commands.Switchon (Num 1) is) no_item)) }) ∷ []; valofs = [] }
+switch is = record { places = commands.Code (record { global = Some 1; parameters = 0; body = Does (block [] (command (commands.SwitchOn (Num 1) is) no_item)) }) ∷ []; valofs = [] }
 
 abbrev labels : Core → List ℕ
 labels core = labels_of (section_items no_code core)
@@ -27,7 +27,7 @@ labels core = labels_of (section_items no_code core)
 pub stand_once : labels (switch (case 3 (default (case 4 no_item)))) ≡ 1 ∷ 3 ∷ 4 ∷ 5 ∷ 2 ∷ []
 stand_once = refl
 
-pub spoken_of : uses_of (section_items no_code (switch (case 3 (command commands.Endcase (default no_item))))) ≡ 4 ∷ 3 ∷ 2 ∷ 1 ∷ []
+pub spoken_of : uses_of (section_items no_code (switch (case 3 (command commands.EndCase (default no_item))))) ≡ 4 ∷ 3 ∷ 2 ∷ 1 ∷ []
 spoken_of = refl
 
 abbrev case_twice : Core

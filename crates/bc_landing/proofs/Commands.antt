@@ -207,7 +207,7 @@ module _ (C : Context) (address levels : ℕ → ℕ) (V : Bodies) (S : Moment) 
         (λ limit2 a2. block_lands K1 old1 b p s1 E1 t.1 q3.middle q4.middle q4.front (omega (arith, room)) l.2 limit2 a2)
         (λ limit2 a2. R.assigns K1 old1 (step_of_for by s) (Frame s) p s1 x.1 a2 q4.middle q5.middle limit2 q5.front (omega (arith, room)) (tt, tt) tt)
         (at_label q4.back) (jump_first q5.back) over)))
-    command_lands K old (commands.Switchon e is) p s E f c end st room l limit a =
+    command_lands K old (commands.SwitchOn e is) p s E f c end st room l limit a =
         let v = roots (Value s e) 0 (f + 1 + entries_in is) in
         let d = defaulted is (f + 1) f in
         let own = cased is (f + 1) d in
@@ -223,9 +223,9 @@ module _ (C : Context) (address levels : ℕ → ℕ) (V : Bodies) (S : Moment) 
         (λ at entered limit1 a1. items_land K old is p s E1 (v.1 + labels_in is) q2.middle q3.middle q3.front (omega (arith, room)) l.1 at entered limit1 a1)
     command_lands K old commands.Break p s E f c end st room l limit a = does_done (exit_goal address S E end limit) Broke (λ b2 n le. (end, st))
     command_lands K old commands.Loop p s E f c end st room l limit a = does_done (exit_goal address S E end limit) Looped (λ b2 n le. (end, st))
-    command_lands K old commands.Endcase p s E f c end st room l limit a = does_done (exit_goal address S E end limit) LeftCases (λ b2 n le. (end, st))
+    command_lands K old commands.EndCase p s E f c end st room l limit a = does_done (exit_goal address S E end limit) LeftCases (λ b2 n le. (end, st))
     command_lands K old commands.Return p s E f c end st room l limit a = does_done (exit_goal address S E end limit) Returned (λ b2 n le. (end, st))
-    command_lands K old (commands.Resultis e) p s E f c end st room l limit a =
+    command_lands K old (commands.ResultIs e) p s E f c end st room l limit a =
         let v = roots (Value s e) 0 f in
         let q = parts v.0 (jump E.result ∷ []) st in
         resultis_lands address S K old most E q.middle end (value C e p s) (R.gives K old e p s f a c q.middle limit q.front room l) (jump_first q.back)

@@ -33,8 +33,8 @@ abbrev mutual
   CommandLevelled levels (commands.For start limit by b) s =
       let s1 = level_in_for s in
       SidesLevelled levels start (Frame s) s1 × SidesLevelled levels limit (Frame (s + 1)) s1 × BlockLevelled levels b s1
-  CommandLevelled levels (commands.Switchon e is) s = Levelled levels e s × ItemsLevelled levels is s
-  CommandLevelled levels (commands.Resultis e) s = Levelled levels e s
+  CommandLevelled levels (commands.SwitchOn e is) s = Levelled levels e s × ItemsLevelled levels is s
+  CommandLevelled levels (commands.ResultIs e) s = Levelled levels e s
   CommandLevelled levels (commands.Nested b) s = BlockLevelled levels b s
   CommandLevelled levels _ s = Unit {0}
 

@@ -82,16 +82,16 @@ module _ (levels : ℕ → ℕ) (A : Around) (agrees : Agrees levels A) where
         let k = both_true (assignment_fits A start (Frame s) s1 && assignment_fits A limit (Frame (s + 1)) s1) (block_fits A (in_a_loop J) b s1) h in
         let l = both_true (assignment_fits A start (Frame s) s1) (assignment_fits A limit (Frame (s + 1)) s1) k.0 in
         (sides_levelled start (Frame s) s1 l.0, sides_levelled limit (Frame (s + 1)) s1 l.1, block_levelled (in_a_loop J) b s1 k.1)
-    command_levelled J (commands.Switchon e is) s h =
+    command_levelled J (commands.SwitchOn e is) s h =
         let J1 = in_list is (record J { in_cases = true }) in
         let k = both_true (root_fits A e s && are_distinct (labels_of is)) (items_fit A J1 is s) h in
         let l = both_true (root_fits A e s) (are_distinct (labels_of is)) k.0 in
         (root_levelled e s l.0, items_levelled J1 is s k.1)
-    command_levelled J (commands.Resultis e) s h = let k = both_true J.in_valof (root_fits A e s) h in root_levelled e s k.1
+    command_levelled J (commands.ResultIs e) s h = let k = both_true J.in_valof (root_fits A e s) h in root_levelled e s k.1
     command_levelled J (commands.Nested b) s h = block_levelled J b s h
     command_levelled J commands.Break s h = tt
     command_levelled J commands.Loop s h = tt
-    command_levelled J commands.Endcase s h = tt
+    command_levelled J commands.EndCase s h = tt
     command_levelled J commands.Return s h = tt
     command_levelled J commands.Finish s h = tt
     command_levelled J (commands.Goto l) s h = tt

@@ -187,7 +187,7 @@ module _ (roots : Roots) (plain : PlainRoots roots) where
         let tail1 = Label f ∷ (t.0 ++ (x.0 ++ tail3)) in
         plain_both i.0 (n.0 ++ tail1) (plain _ 0 (f + 3)) (plain_both n.0 tail1 (plain _ 0 i.1)
         (plain_both t.0 (x.0 ++ tail3) (plain _ (f + 1) n.1) (plain_both x.0 tail3 (block_plain b s1 E1 t.1) (plain_both u.0 tail4 (plain _ 0 x.1) tt))))
-    command_plain (commands.Switchon e is) s E f =
+    command_plain (commands.SwitchOn e is) s E f =
         let v = roots (Value s e) 0 (f + 1 + entries_in is) in
         let own = cased is (f + 1) (defaulted is (f + 1) f) in
         let E1 = record E { cases = f; labels = labelled is v.1 E.labels; case_of = own; default_of = defaulted is (f + 1) f } in
@@ -197,9 +197,9 @@ module _ (roots : Roots) (plain : PlainRoots roots) where
         (plain_both (table_of (λ i. i) is own) rest (table_plain is own) (plain_both x.0 (Label f ∷ []) (items_plain is s E1 (v.1 + labels_in is)) tt))
     command_plain commands.Break s E f = tt
     command_plain commands.Loop s E f = tt
-    command_plain commands.Endcase s E f = tt
+    command_plain commands.EndCase s E f = tt
     command_plain commands.Return s E f = tt
-    command_plain (commands.Resultis e) s E f = let v = roots (Value s e) 0 f in plain_both v.0 (jump E.result ∷ []) (plain (Value s e) 0 f) tt
+    command_plain (commands.ResultIs e) s E f = let v = roots (Value s e) 0 f in plain_both v.0 (jump E.result ∷ []) (plain (Value s e) 0 f) tt
     command_plain commands.Finish s E f = tt
     command_plain (commands.Goto l) s E f = tt
     command_plain (commands.Nested b) s E f = block_plain b s E f

@@ -79,7 +79,7 @@ pub fn constant_in(scope: &Scope<'_>, e: &Exp<'_>) -> Option<Word>
         Exp::String(_)
         | Exp::Table(_)
         | Exp::Valof(_)
-        | Exp::Condition(_, _, _)
+        | Exp::Condition { .. }
         | Exp::Call(_, _) => None,
     }
 }

@@ -72,7 +72,7 @@ fn behind(at: Numbers, e: &Exp<'_>) -> Result<Numbers, Memory>
         Exp::Valof(body) => behind_block(at.behind_valof()?, body),
         Exp::Monadic(_, operand) => behind(at, operand),
         Exp::Dyadic(_, left, right) => behind(behind(at, left)?, right),
-        Exp::Condition(test, this, that) => behind(behind(behind(at, test)?, this)?, that),
+        Exp::Condition { test, this, that } => behind(behind(behind(at, test)?, this)?, that),
         Exp::Call(routine, arguments) => behind_all(behind(at, routine)?, arguments),
         Exp::Name(_) | Exp::Number(_) | Exp::Character(_) | Exp::True | Exp::False => Ok(at),
     }
@@ -182,10 +182,10 @@ fn behind_command(at: Numbers, command: &Command<'_>) -> Result<Numbers, Memory>
         | Command::Unless(test, body)
         | Command::While(test, body)
         | Command::Until(test, body) => behind_block(behind(at, test)?, body),
-        Command::Test(test, this, that) => {
+        Command::Test { test, this, that } => {
             behind_block(behind_block(behind(at, test)?, this)?, that)
         }
-        Command::For(_, start, limit, _, body) => {
+        Command::For { start, limit, body, .. } => {
             behind_block(behind(behind(at, start)?, limit)?, body)
         }
         Command::SwitchOn(value, items) => {

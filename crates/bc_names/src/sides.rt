@@ -120,7 +120,7 @@ fn make_kinds(scope: &Scope<'_>, e: &Exp<'_>) -> Kinds
             let right = make_kinds(scope, right);
             kinds_of_dyadic(*sign, left.content, right.content)
         }
-        Exp::Valof(_) | Exp::Condition(_, _, _) | Exp::Call(_, _) => {
+        Exp::Valof(_) | Exp::Condition { .. } | Exp::Call(_, _) => {
             kinds_of_plain(Kind::NoOperand)
         }
     }

@@ -333,12 +333,12 @@ fn test<'s, 't>(
     ensures low { IfOk result (λ x. x.1 ≤ nest) }
 {
     let (test, h, behind) = exp_apart(alloc, nest - 1, round, 1, rest)?;
-    let (first, first_height, behind) = do_body(alloc, nest - 1, round, behind)?;
+    let (this, this_height, behind) = do_body(alloc, nest - 1, round, behind)?;
     let behind = cursor::expect(Symbol::Else, behind)?;
-    let (other, other_height, behind) = body(alloc, nest - 1, round, behind)?;
+    let (that, that_height, behind) = body(alloc, nest - 1, round, behind)?;
     Ok((
-        Command::Test(test, first, other),
-        h.max(first_height).max(other_height) + 1,
+        Command::Test { test, this, that },
+        h.max(this_height).max(that_height) + 1,
         behind,
     ))
 }
@@ -375,15 +375,22 @@ fn for_command<'s, 't>(
     ensures read { (n : ℕ) → nest + round ≤ n + 1 → ReadCommand result (for_read (exp_of n) (command_of n) (definition_of n) nest round (seen rest.entry)) }
     ensures low { IfOk result (λ x. x.1 ≤ nest) }
 {
-    let (name, behind) = cursor::name(rest)?;
+    let (variable, behind) = cursor::name(rest)?;
     let behind = cursor::expect(Symbol::Equal, behind)?;
     let (start, start_height, behind) = exp_apart(alloc, nest - 1, round, 1, behind)?;
     let behind = cursor::expect(Symbol::To, behind)?;
     let (limit, limit_height, behind) = exp_apart(alloc, nest - 1, round, 1, behind)?;
-    let (by, by_height, behind) = step(alloc, nest - 1, round, behind)?;
-    let (found, height, behind) = do_body(alloc, nest - 1, round, behind)?;
-    let height = start_height.max(limit_height).max(by_height).max(height) + 1;
-    Ok((Command::For(name, start, limit, by, found), height, behind))
+    let (step, step_height, behind) = step(alloc, nest - 1, round, behind)?;
+    let (body, height, behind) = do_body(alloc, nest - 1, round, behind)?;
+    let height = start_height.max(limit_height).max(step_height).max(height) + 1;
+    let command = Command::For {
+        variable,
+        start,
+        limit,
+        step,
+        body,
+    };
+    Ok((command, height, behind))
 }
 
 #[cycle(parser)]

@@ -351,13 +351,13 @@ fn chosen<'s, 't>(
     if height >= nest {
         return Err(ReadFault::TooDeep(place));
     }
-    let left = Box::new(alloc, left)?;
-    let (x, x_height, behind) = exp_apart(alloc, nest - 1, round, 1, rest)?;
+    let test = Box::new(alloc, left)?;
+    let (this, this_height, behind) = exp_apart(alloc, nest - 1, round, 1, rest)?;
     let behind = cursor::expect(Symbol::Comma, behind)?;
-    let (y, y_height, behind) = exp_apart(alloc, nest - 1, round, 1, behind)?;
+    let (that, that_height, behind) = exp_apart(alloc, nest - 1, round, 1, behind)?;
     Ok((
-        Exp::Condition(left, x, y),
-        height.max(x_height).max(y_height) + 1,
+        Exp::Condition { test, this, that },
+        height.max(this_height).max(that_height) + 1,
         behind,
     ))
 }

@@ -316,10 +316,10 @@ fn command<'s>(
         Command::Block(tree) => Ok(nested(block(scope, at, tree, level)?)),
         Command::Break => Ok(CoreCommand::Break),
         Command::Loop => Ok(CoreCommand::Loop),
-        Command::EndCase => Ok(CoreCommand::Endcase),
+        Command::EndCase => Ok(CoreCommand::EndCase),
         Command::Return => Ok(CoreCommand::Return),
         Command::Finish => Ok(CoreCommand::Finish),
-        Command::ResultIs(result) => Ok(CoreCommand::Resultis(value(scope, at, result)?)),
+        Command::ResultIs(result) => Ok(CoreCommand::ResultIs(value(scope, at, result)?)),
         Command::Goto(name) => {
             let number = short(label_number(scope.meant_by(name)))?;
             Ok(CoreCommand::Goto(number))
@@ -349,13 +349,19 @@ fn command<'s>(
             let test = condition(scope, at, false, test)?;
             Ok(looped(test, block(scope, at, tree, level)?))
         }
-        Command::Test(test, this, that) => {
+        Command::Test { test, this, that } => {
             let test = value(scope, at, test)?;
             let this = block(scope, at, this, level)?;
             let that = block(scope, at, that, level)?;
             Ok(chosen(test, this, that))
         }
-        Command::For(variable, start, limit, step, tree) => {
+        Command::For {
+            variable,
+            start,
+            limit,
+            step,
+            body: tree,
+        } => {
             let start = value(scope, at, start)?;
             let limit = value(scope, at, limit)?;
             let by = match step {

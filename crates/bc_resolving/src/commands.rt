@@ -1,6 +1,6 @@
 //! Commands that hold blocks and lists.
 ghost use Rattle.std.specs.Prelude.{◌≡◌};
-ghost use Rattle.bc_core.specs.Commands.{If, Test, While, Repeat, RepeatWhile, For, Switchon, Nested};
+ghost use Rattle.bc_core.specs.Commands.{If, Test, While, Repeat, RepeatWhile, For, SwitchOn, Nested};
 ghost use Rattle.bc_core.specs.View.{exp, command, items, block_of};
 
 use bc_core::{Block, Command, Condition, CoreExp, ListItem};
@@ -62,7 +62,7 @@ pub fn counting(start: CoreExp, limit: CoreExp, by: Word, body: Block) -> Comman
 
 /// SWITCHON.
 pub fn switch(of: CoreExp, list: Vec<ListItem>) -> Command
-    ensures { command result ≡ Switchon (exp of) (items list.items) }
+    ensures { command result ≡ SwitchOn (exp of) (items list.items) }
 {
-    Command::Switchon(of, list)
+    Command::SwitchOn(of, list)
 }

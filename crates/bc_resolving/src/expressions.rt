@@ -50,7 +50,7 @@ pub fn expression<'s>(scope: &Scope<'s>, at: &mut Numbers, e: &Exp<'s>) -> Resul
             let right = value(scope, at, right)?;
             of_dyadic(scope.alloc(), operator(*sign), left, right)
         }
-        Exp::Condition(test, this, that) => {
+        Exp::Condition { test, this, that } => {
             let test = boxed(scope, at, test)?;
             let this = boxed(scope, at, this)?;
             let that = boxed(scope, at, that)?;

@@ -125,7 +125,7 @@ fn expression<'s>(
             expression(scope, found, left, above)?;
             expression(scope, found, right, above)
         }
-        Exp::Condition(test, this, that) => {
+        Exp::Condition { test, this, that } => {
             expression(scope, found, test, level)?;
             expression(scope, found, this, level)?;
             expression(scope, found, that, level)
@@ -457,12 +457,18 @@ fn command<'s>(
             expression(scope, found, test, level)?;
             block(scope, found, body, level)
         }
-        Command::Test(test, this, that) => {
+        Command::Test { test, this, that } => {
             expression(scope, found, test, level)?;
             block(scope, found, this, level)?;
             block(scope, found, that, level)
         }
-        Command::For(variable, start, limit, _, body) => {
+        Command::For {
+            variable,
+            start,
+            limit,
+            body,
+            ..
+        } => {
             let above = sum(level, 2)?;
             expression(scope, found, start, above)?;
             expression(scope, found, limit, above)?;

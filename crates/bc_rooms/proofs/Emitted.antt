@@ -104,16 +104,16 @@ module _ {P : Root → Type 0} {L : Exp → Type 0} (suits : Suits P L) (roots :
         (plain _ _ (joined _ _ (test_marks true (end_of_for by s) (suits.end by s) s1 (f + 1) n.1)
         (joined _ _ (block_marks b h.2 s1 (record E { broken = f + 1; looped = f + 2 }) t.1)
         (plain _ _ (joined _ _ (sides_marks (step_of_for by s) (Frame s) (suits.step by s) (suits.frame s) s1 0 x.1) (plain _ _ (item _))))))))
-    command_marks (commands.Switchon e is) h s E f =
+    command_marks (commands.SwitchOn e is) h s E f =
         let v = roots (Value s e) 0 (f + 1 + entries_in is) in
         let E1 = record E { cases = f; labels = labelled is v.1 E.labels; case_of = cased is (f + 1) (defaulted is (f + 1) f); default_of = defaulted is (f + 1) f } in
         joined _ _ (value_marks e h.0 s 0 (f + 1 + entries_in is)) (plain _ _ (plain _ _ (plain _ _ (joined (table_of Plain is E1.case_of) _ (record { each = table_marks (λ m. P m.root) is E1.case_of })
         (joined _ _ (items_marks is h.1 s E1 (v.1 + labels_in is)) (item _))))))
     command_marks commands.Break h s E f = item _
     command_marks commands.Loop h s E f = item _
-    command_marks commands.Endcase h s E f = item _
+    command_marks commands.EndCase h s E f = item _
     command_marks commands.Return h s E f = plain _ _ (item _)
-    command_marks (commands.Resultis e) h s E f = joined _ _ (value_marks e h s 0 f) (item _)
+    command_marks (commands.ResultIs e) h s E f = joined _ _ (value_marks e h s 0 f) (item _)
     command_marks commands.Finish h s E f = item _
     command_marks (commands.Goto l) h s E f = item _
     command_marks (commands.Nested b) h s E f = block_marks b h s E f

@@ -86,7 +86,7 @@ mutual
       let p = and_parts (x && y) (block_fits A (in_a_loop J) b s1) h in
       let q = and_parts x y p.0 in
       ((assignment_few A start (Frame s) s1 q.0).0, (assignment_few A limit (Frame (s + 1)) s1 q.1).0, block_few A (in_a_loop J) b s1 p.1)
-  command_few A J (commands.Switchon e is) s h =
+  command_few A J (commands.SwitchOn e is) s h =
       let x = root_fits A e s in
       let y = are_distinct (labels_of is) in
       let J1 = in_list is (record J { in_cases = true }) in
@@ -94,9 +94,9 @@ mutual
       (root_few A e s (and_parts x y p.0).0, items_few A J1 is s p.1)
   command_few A J commands.Break s h = tt
   command_few A J commands.Loop s h = tt
-  command_few A J commands.Endcase s h = tt
+  command_few A J commands.EndCase s h = tt
   command_few A J commands.Return s h = tt
-  command_few A J (commands.Resultis e) s h = root_few A e s (and_parts J.in_valof (root_fits A e s) h).1
+  command_few A J (commands.ResultIs e) s h = root_few A e s (and_parts J.in_valof (root_fits A e s) h).1
   command_few A J commands.Finish s h = tt
   command_few A J (commands.Goto l) s h = tt
   command_few A J (commands.Nested b) s h = block_few A J b s h

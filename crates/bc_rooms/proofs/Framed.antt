@@ -112,7 +112,7 @@ module _ (V : Bodies) (P : Mark → Type 0) (roots : Roots Marked) (r : (x : Roo
         (marks_both P t.0 _ (r (Test s1 true (end_of_for by s)) (f + 1) n.1 (h1, (up, up), (up, up)))
         (marks_both P x.0 _ (block_framed b s1 (record E { broken = f + 1; looped = f + 2 }) t.1 h1 (right_most cn cb inner))
         (marks_both P u.0 _ (r (Assign s1 (step_of_for by s) (Frame s)) 0 x.1 ((h1, (up, up), up), h1)) tt))))
-    command_framed (commands.Switchon e is) s E f h c =
+    command_framed (commands.SwitchOn e is) s E f h c =
         let v = roots (Value s e) 0 (f + 1 + entries_in is) in
         let E1 = record E { cases = f; labels = labelled is v.1 E.labels; case_of = cased is (f + 1) (defaulted is (f + 1) f); default_of = defaulted is (f + 1) f } in
         let x = emit_items Plain roots is s E1 (v.1 + labels_in is) in
@@ -123,9 +123,9 @@ module _ (V : Bodies) (P : Mark → Type 0) (roots : Roots Marked) (r : (x : Roo
         (marks_both P x.0 _ (items_framed is s E1 (v.1 + labels_in is) h (right_most ce ci c)) tt))
     command_framed commands.Break s E f h c = tt
     command_framed commands.Loop s E f h c = tt
-    command_framed commands.Endcase s E f h c = tt
+    command_framed commands.EndCase s E f h c = tt
     command_framed commands.Return s E f h c = tt
-    command_framed (commands.Resultis e) s E f h c = marks_both P (roots (Value s e) 0 f).0 _ (root_framed e s 0 f h c) tt
+    command_framed (commands.ResultIs e) s E f h c = marks_both P (roots (Value s e) 0 f).0 _ (root_framed e s 0 f h c) tt
     command_framed commands.Finish s E f h c = tt
     command_framed (commands.Goto l) s E f h c = tt
     command_framed (commands.Nested b) s E f h c = block_framed b s E f h c

@@ -83,7 +83,7 @@ module _ (P : Mark → Type 0) (n : ℕ) (roots : Roots Marked) (up : Rising roo
         marks_both P i.0 _ (r (Assign s1 start (Frame s)) 0 (f + 3) hi) (marks_both P l.0 _ (r (Assign s1 limit (Frame (s + 1))) 0 i.1 hl)
         (marks_both P t.0 _ (r (Test s1 true (end_of_for by s)) (f + 1) l.1 ht) (marks_both P x.0 _ (block_ends b s1 E1 t.1 hx)
         (marks_both P u.0 _ (r (Assign s1 (step_of_for by s) (Frame s)) 0 x.1 h) tt))))
-    command_ends (commands.Switchon e is) s E f h =
+    command_ends (commands.SwitchOn e is) s E f h =
         let g = f + 1 + entries_in is in
         let v = roots (Value s e) 0 g in
         let E1 = record E { cases = f; labels = labelled is v.1 E.labels; case_of = cased is (f + 1) (defaulted is (f + 1) f); default_of = defaulted is (f + 1) f } in
@@ -93,9 +93,9 @@ module _ (P : Mark → Type 0) (n : ℕ) (roots : Roots Marked) (up : Rising roo
         (marks_both P x.0 _ (items_end is s E1 (v.1 + labels_in is) h) tt))
     command_ends commands.Break s E f h = tt
     command_ends commands.Loop s E f h = tt
-    command_ends commands.Endcase s E f h = tt
+    command_ends commands.EndCase s E f h = tt
     command_ends commands.Return s E f h = tt
-    command_ends (commands.Resultis e) s E f h = marks_both P (roots (Value s e) 0 f).0 _ (r (Value s e) 0 f h) tt
+    command_ends (commands.ResultIs e) s E f h = marks_both P (roots (Value s e) 0 f).0 _ (r (Value s e) 0 f h) tt
     command_ends commands.Finish s E f h = tt
     command_ends (commands.Goto l) s E f h = tt
     command_ends (commands.Nested b) s E f h = block_ends b s E f h

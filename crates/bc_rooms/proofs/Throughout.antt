@@ -23,12 +23,12 @@ abbrev mutual
   OfCommand L (commands.Repeat b) = OfBlock L b
   OfCommand L (commands.RepeatWhile b sense e) = OfBlock L b × L e
   OfCommand L (commands.For start limit by b) = L start × L limit × OfBlock L b
-  OfCommand L (commands.Switchon e is) = L e × OfItems L is
+  OfCommand L (commands.SwitchOn e is) = L e × OfItems L is
   OfCommand L commands.Break = Unit {0}
   OfCommand L commands.Loop = Unit {0}
-  OfCommand L commands.Endcase = Unit {0}
+  OfCommand L commands.EndCase = Unit {0}
   OfCommand L commands.Return = Unit {0}
-  OfCommand L (commands.Resultis e) = L e
+  OfCommand L (commands.ResultIs e) = L e
   OfCommand L commands.Finish = Unit {0}
   OfCommand L (commands.Goto l) = Unit {0}
   OfCommand L (commands.Nested b) = OfBlock L b

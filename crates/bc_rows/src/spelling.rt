@@ -123,11 +123,11 @@ fn tests_and_choices_stand_in_brackets(rt: HostRuntime) -> Result<(), Fail> {
     );
 
     let test = dyadic(alloc, Exp::Name(b"A"), Dyadic::Equal, number(1))?;
-    let choice = Exp::Condition(
-        Box::new(alloc, test)?,
-        Box::new(alloc, Exp::Name(b"B"))?,
-        Box::new(alloc, Exp::Name(b"C"))?,
-    );
+    let choice = Exp::Condition {
+        test: Box::new(alloc, test)?,
+        this: Box::new(alloc, Exp::Name(b"B"))?,
+        that: Box::new(alloc, Exp::Name(b"C"))?,
+    };
     assert_eq!(rt;
         assigned(alloc, choice)?.as_slice(),
         b"LET S ( ) BE $( X := ( ( A = 1 ) -> B , C ) $)".as_slice()
@@ -160,25 +160,25 @@ fn a_routine_that_is_no_name_stands_in_brackets(rt: HostRuntime) -> Result<(), F
 fn constants_stand_in_brackets(rt: HostRuntime) -> Result<(), Fail> {
     let alloc = rt.alloc();
     let step = monadic(alloc, Monadic::Negate, number(1))?;
-    let round = Command::For(
-        b"I",
-        Box::new(alloc, number(9))?,
-        Box::new(alloc, Exp::Name(b"N"))?,
-        Some(Box::new(alloc, step)?),
-        body(alloc, Command::Loop)?,
-    );
+    let round = Command::For {
+        variable: b"I",
+        start: Box::new(alloc, number(9))?,
+        limit: Box::new(alloc, Exp::Name(b"N"))?,
+        step: Some(Box::new(alloc, step)?),
+        body: body(alloc, Command::Loop)?,
+    };
     assert_eq!(rt;
         text(alloc, round)?.as_slice(),
         b"LET S ( ) BE $( FOR I = 9 TO N BY ( - 1 ) DO $( LOOP $) $)".as_slice()
     );
 
-    let round = Command::For(
-        b"I",
-        Box::new(alloc, number(0))?,
-        Box::new(alloc, number(9))?,
-        None,
-        body(alloc, Command::Break)?,
-    );
+    let round = Command::For {
+        variable: b"I",
+        start: Box::new(alloc, number(0))?,
+        limit: Box::new(alloc, number(9))?,
+        step: None,
+        body: body(alloc, Command::Break)?,
+    };
     assert_eq!(rt;
         text(alloc, round)?.as_slice(),
         b"LET S ( ) BE $( FOR I = 0 TO 9 DO $( BREAK $) $)".as_slice()
@@ -192,7 +192,11 @@ fn both_bodies_of_a_test_are_spelled(rt: HostRuntime) -> Result<(), Fail> {
     let this = body(alloc, called(alloc, b"A")?)?;
     let repeated = Box::new(alloc, called(alloc, b"B")?)?;
     let that = body(alloc, Command::RepeatUntil(repeated, Exp::True))?;
-    let command = Command::Test(Box::new(alloc, Exp::False)?, this, that);
+    let command = Command::Test {
+        test: Box::new(alloc, Exp::False)?,
+        this,
+        that,
+    };
     assert_eq!(rt;
         text(alloc, command)?.as_slice(),
         b"LET S ( ) BE $( TEST FALSE DO $( A ( ) $) ELSE $( B ( ) REPEATUNTIL TRUE $) $)".as_slice()

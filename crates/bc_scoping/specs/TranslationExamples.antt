@@ -220,10 +220,10 @@ section_translated : core_of section ≡ record {
         level = 3;
         body = c.block ((c.Initial (core.Bin operators.Add (at 2) (core.Num 1)) ∷ []) ∷ [])
             (c.command (c.If true (core.Bin operators.Equal (at 3) (core.Num 3)) (c.block [] (c.command (c.Goto 0) c.no_item)))
-            (c.command (c.Resultis (at 3))
-            (c.label 0 (c.command (c.Resultis (core.Valof 1)) c.no_item))));
+            (c.command (c.ResultIs (at 3))
+            (c.label 0 (c.command (c.ResultIs (core.Valof 1)) c.no_item))));
       }
-      ∷ record { level = 4; body = c.block [] (c.command (c.Resultis (core.Bin operators.GreaterEqual (at 3) (core.Num 7))) c.no_item) }
+      ∷ record { level = 4; body = c.block [] (c.command (c.ResultIs (core.Bin operators.GreaterEqual (at 3) (core.Num 7))) c.no_item) }
       ∷ [];
 }
 section_translated = refl

@@ -78,16 +78,16 @@ mutual
       (takes_label f (takes_both (r.each (Test s1 true (end_of_for by s)) (f + 1) n.1)
       (takes_both (block_takes words roots r b s1 (record E { broken = f + 1; looped = f + 2 }) t.1)
       (takes_label (f + 2) (takes_both (r.each (Assign s1 (step_of_for by s) (Frame s)) 0 x.1) (takes_jump f (takes_label (f + 1) takes_none))))))))) (omega arith)
-  command_takes words roots r (commands.Switchon e is) s E f =
+  command_takes words roots r (commands.SwitchOn e is) s E f =
       let v = roots (Value s e) 0 (f + 1 + entries_in is) in
       let E1 = record E { cases = f; labels = labelled is v.1 E.labels; case_of = cased is (f + 1) (defaulted is (f + 1) f); default_of = defaulted is (f + 1) f } in
       takes_as (takes_both (r.each (Value s e) 0 (f + 1 + entries_in is)) (takes_operation functions.Execute false bases.Number 23 (takes_data (cases_in is) (takes_address E1.default_of
       (takes_both (table_takes is E1.case_of) (takes_both (items_take words roots r is s E1 (v.1 + labels_in is)) (takes_label f takes_none))))))) (omega arith)
   command_takes words roots r commands.Break s E f = takes_jump E.broken takes_none
   command_takes words roots r commands.Loop s E f = takes_jump E.looped takes_none
-  command_takes words roots r commands.Endcase s E f = takes_jump E.cases takes_none
+  command_takes words roots r commands.EndCase s E f = takes_jump E.cases takes_none
   command_takes words roots r commands.Return s E f = takes_operation functions.Load false bases.Number 0 (takes_operation functions.Execute false bases.Number 4 takes_none)
-  command_takes words roots r (commands.Resultis e) s E f = takes_as (takes_both (r.each (Value s e) 0 f) (takes_jump E.result takes_none)) (omega arith)
+  command_takes words roots r (commands.ResultIs e) s E f = takes_as (takes_both (r.each (Value s e) 0 f) (takes_jump E.result takes_none)) (omega arith)
   command_takes words roots r commands.Finish s E f = takes_operation functions.Execute false bases.Number 22 takes_none
   command_takes words roots r (commands.Goto l) s E f = takes_jump (E.labels l) takes_none
   command_takes words roots r (commands.Nested b) s E f = block_takes words roots r b s E f

@@ -102,7 +102,7 @@ fn whole<'s>(out: &mut Vec<TokenKind<'s>>, tree: &Exp<'s>) -> Result<(), Memory>
             sign(out, signs::dyadic(*operator))?;
             part(out, right)
         }
-        Exp::Condition(test, this, that) => {
+        Exp::Condition { test, this, that } => {
             part(out, test)?;
             sign(out, Symbol::Arrow)?;
             part(out, this)?;
@@ -420,13 +420,19 @@ fn command<'s>(out: &mut Vec<TokenKind<'s>>, tree: &Command<'s>) -> Result<(), M
             worded(out, Symbol::Until, test)?;
             done(out, body)
         }
-        Command::Test(test, this, that) => {
+        Command::Test { test, this, that } => {
             worded(out, Symbol::Test, test)?;
             done(out, this)?;
             sign(out, Symbol::Else)?;
             block(out, that)
         }
-        Command::For(variable, start, limit, step, body) => {
+        Command::For {
+            variable,
+            start,
+            limit,
+            step,
+            body,
+        } => {
             sign(out, Symbol::For)?;
             name(out, variable)?;
             worded(out, Symbol::Equal, start)?;

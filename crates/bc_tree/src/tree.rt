@@ -50,7 +50,7 @@ pub enum Dyadic {
 
 /// An expression.
 #[cycle(trees)]
-#[derive(Drop)]
+#[derive(Debug, Drop, PartialEq, Eq)]
 pub enum Exp<'s> {
     Name(&'s [u8]),
     Number(Word),
@@ -63,15 +63,19 @@ pub enum Exp<'s> {
     Valof(Block<'s>),
     Monadic(Monadic, Box<Exp<'s>>),
     Dyadic(Dyadic, Box<Exp<'s>>, Box<Exp<'s>>),
-    /// A test, the part for true, the part for false.
-    Condition(Box<Exp<'s>>, Box<Exp<'s>>, Box<Exp<'s>>),
+    /// `test -> this, that`: one part for true, the other for false.
+    Condition {
+        test: Box<Exp<'s>>,
+        this: Box<Exp<'s>>,
+        that: Box<Exp<'s>>,
+    },
     /// A routine and its arguments.
     Call(Box<Exp<'s>>, Vec<Exp<'s>>),
 }
 
 /// Declarations, and the items behind them.
 #[cycle(trees)]
-#[derive(Drop)]
+#[derive(Debug, Drop, PartialEq, Eq)]
 pub struct Block<'s> {
     pub declarations: Vec<Declaration<'s>>,
     pub items: Vec<Item<'s>>,
@@ -79,7 +83,7 @@ pub struct Block<'s> {
 
 /// A declaration.
 #[cycle(trees)]
-#[derive(Drop)]
+#[derive(Debug, Drop, PartialEq, Eq)]
 pub enum Declaration<'s> {
     Constants(Storage, Vec<Constant<'s>>),
     /// The definitions of one LET, which AND joins.
@@ -88,7 +92,7 @@ pub enum Declaration<'s> {
 
 /// A name and its constant.
 #[cycle(trees)]
-#[derive(Drop)]
+#[derive(Debug, Drop, PartialEq, Eq)]
 pub struct Constant<'s> {
     pub name: &'s [u8],
     pub value: Exp<'s>,
@@ -96,7 +100,7 @@ pub struct Constant<'s> {
 
 /// One definition of a LET.
 #[cycle(trees)]
-#[derive(Drop)]
+#[derive(Debug, Drop, PartialEq, Eq)]
 pub enum Definition<'s> {
     /// Variables and their starting values, as many of one as of the other.
     Variables(Vec<&'s [u8]>, Vec<Exp<'s>>),
@@ -110,7 +114,7 @@ pub enum Definition<'s> {
 
 /// An item of a command list.
 #[cycle(trees)]
-#[derive(Drop)]
+#[derive(Debug, Drop, PartialEq, Eq)]
 pub struct Item<'s> {
     pub labels: Vec<Label<'s>>,
     pub command: Option<Command<'s>>,
@@ -118,7 +122,7 @@ pub struct Item<'s> {
 
 /// What may stand before the command of an item.
 #[cycle(trees)]
-#[derive(Drop)]
+#[derive(Debug, Drop, PartialEq, Eq)]
 pub enum Label<'s> {
     Case(Exp<'s>),
     Default,
@@ -128,7 +132,7 @@ pub enum Label<'s> {
 /// A command. The two that hold most, TEST and FOR, hold their expressions in boxes, so that any command
 /// takes little room where it is passed by value.
 #[cycle(trees)]
-#[derive(Drop)]
+#[derive(Debug, Drop, PartialEq, Eq)]
 pub enum Command<'s> {
     /// Left sides and right sides, as many of one as of the other.
     Assign(Vec<Exp<'s>>, Vec<Exp<'s>>),
@@ -149,15 +153,25 @@ pub enum Command<'s> {
     Unless(Exp<'s>, Block<'s>),
     While(Exp<'s>, Block<'s>),
     Until(Exp<'s>, Block<'s>),
-    /// A test, the body for true, the body for false.
-    Test(Box<Exp<'s>>, Block<'s>, Block<'s>),
-    /// A variable, its start and limit, the step if there is one, and the body.
-    For(&'s [u8], Box<Exp<'s>>, Box<Exp<'s>>, Option<Box<Exp<'s>>>, Block<'s>),
+    /// `TEST test THEN this OR that`: one body for true, the other for false.
+    Test {
+        test: Box<Exp<'s>>,
+        this: Block<'s>,
+        that: Block<'s>,
+    },
+    /// `FOR variable = start TO limit BY step DO body`; the step may be left out.
+    For {
+        variable: &'s [u8],
+        start: Box<Exp<'s>>,
+        limit: Box<Exp<'s>>,
+        step: Option<Box<Exp<'s>>>,
+        body: Block<'s>,
+    },
     SwitchOn(Exp<'s>, Vec<Item<'s>>),
 }
 
 /// A section: the declarations of a file.
-#[derive(Drop)]
+#[derive(Debug, Drop, PartialEq, Eq)]
 pub struct Section<'s> {
     pub declarations: Vec<Declaration<'s>>,
 }

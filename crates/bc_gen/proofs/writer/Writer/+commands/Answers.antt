@@ -79,14 +79,14 @@ command-returns-in-Nested t c =
 
 pub command-switchon-requires : goal.command-switchon-requires
 command-switchon-requires t c =
-    let w = ap (λ x. weight (command x)) c.in-Switchon.is ∙ weight_switchon c.in-Switchon.value c.in-Switchon.list in
+    let w = ap (λ x. weight (command x)) c.in-SwitchOn.is ∙ weight_switchon c.in-SwitchOn.value c.in-SwitchOn.list in
     let d = ap (λ xs. weight_of_items (items xs)) c.deref.ensures.value in
     (omega (arith, w, d), tt)
 
-pub command-returns-in-Switchon : goal.command-returns-in-Switchon
-command-returns-in-Switchon t c =
+pub command-returns-in-SwitchOn : goal.command-returns-in-SwitchOn
+command-returns-in-SwitchOn t c =
     command_writes c.switchon.result c.args.self.now c.switchon.new.self (roots_in c.args.around.now) c.args.level (exits_of c.args.around.now) c.args.self.now.next _ _
-    (ap command c.in-Switchon.is ∙ switchon_view c.in-Switchon.value c.in-Switchon.list) (rw c.deref.ensures.value at c.switchon.ensures)
+    (ap command c.in-SwitchOn.is ∙ switchon_view c.in-SwitchOn.value c.in-SwitchOn.list) (rw c.deref.ensures.value at c.switchon.ensures)
 
 pub list-list_item-requires : goal.list-list_item-requires
 list-list_item-requires t c =
@@ -435,35 +435,35 @@ for_loop-returns-in_err-set-3 t c =
 pub switchon-returns-in_err-past : goal.switchon-returns-in_err-past
 switchon-returns-in_err-past t c =
     fails c.from_residual.result c.in_err-past.field-0.0 c.args.self.now c.take.new.self (c.args.self.now.next + 1)
-    (emit Plain (roots_in c.args.around.now) (commands.Switchon (exp c.args.value.now) (items c.args.list.now)) c.args.level (exits_of c.args.around.now) c.args.self.now.next)
+    (emit Plain (roots_in c.args.around.now) (commands.SwitchOn (exp c.args.value.now) (items c.args.list.now)) c.args.level (exits_of c.args.around.now) c.args.self.now.next)
     c.from_residual.ensures.1 c.in_err-past.ensures.out
     (less _ (entries_in (items c.args.list.now)) _ (switchon_taken (roots_in c.args.around.now) (rising c.args.around.now) (exits_of c.args.around.now) (exp c.args.value.now) (items c.args.list.now) c.args.level c.args.self.now.next))
 
 pub switchon-returns-in_err-found : goal.switchon-returns-in_err-found
 switchon-returns-in_err-found t c =
     fails c.from_residual-in_err-found.result c.in_err-found.field-0.0 c.args.self.now c.case_labels.new.self (c.take.new.self.next + entries_in (items c.args.list.now))
-    (emit Plain (roots_in c.args.around.now) (commands.Switchon (exp c.args.value.now) (items c.args.list.now)) c.args.level (exits_of c.args.around.now) c.args.self.now.next)
+    (emit Plain (roots_in c.args.around.now) (commands.SwitchOn (exp c.args.value.now) (items c.args.list.now)) c.args.level (exits_of c.args.around.now) c.args.self.now.next)
     c.from_residual-in_err-found.ensures.1 c.in_err-found.ensures.out
     (grown_on _ _ _ _ c.in_ok-past.ensures.taken.1 (switchon_taken (roots_in c.args.around.now) (rising c.args.around.now) (exits_of c.args.around.now) (exp c.args.value.now) (items c.args.list.now) c.args.level c.args.self.now.next))
 
 pub switchon-returns-in_err-value : goal.switchon-returns-in_err-value
 switchon-returns-in_err-value t c =
     fails c.from_residual-in_err-value.result c.in_err-value.field-0.0 c.args.self.now c.value.new.self (roots_in c.args.around.now (Value c.args.level (exp c.args.value.now)) 0 c.case_labels.new.self.next).1
-    (emit Plain (roots_in c.args.around.now) (commands.Switchon (exp c.args.value.now) (items c.args.list.now)) c.args.level (exits_of c.args.around.now) c.args.self.now.next)
+    (emit Plain (roots_in c.args.around.now) (commands.SwitchOn (exp c.args.value.now) (items c.args.list.now)) c.args.level (exits_of c.args.around.now) c.args.self.now.next)
     c.from_residual-in_err-value.ensures.1 c.in_err-value.ensures
     (less _ (labels_in (items c.args.list.now)) _ (switchon_valued (roots_in c.args.around.now) (rising c.args.around.now) (exits_of c.args.around.now) (exp c.args.value.now) (items c.args.list.now) c.args.level c.args.self.now.next _ (ap (λ (k : ℕ). (roots_in c.args.around.now (Value c.args.level (exp c.args.value.now)) 0 k).1) (c.in_ok-found.ensures.next ∙ ap (λ (k : ℕ). k + entries_in (items c.args.list.now)) c.in_ok-past.ensures.taken.1))))
 
 pub switchon-returns-in_err-labels : goal.switchon-returns-in_err-labels
 switchon-returns-in_err-labels t c =
     fails c.from_residual-in_err-labels.result c.in_err-labels.field-0.0 c.args.self.now c.list_labels.new.self (c.value.new.self.next + labels_in (items c.args.list.now))
-    (emit Plain (roots_in c.args.around.now) (commands.Switchon (exp c.args.value.now) (items c.args.list.now)) c.args.level (exits_of c.args.around.now) c.args.self.now.next)
+    (emit Plain (roots_in c.args.around.now) (commands.SwitchOn (exp c.args.value.now) (items c.args.list.now)) c.args.level (exits_of c.args.around.now) c.args.self.now.next)
     c.from_residual-in_err-labels.ensures.1 c.in_err-labels.ensures.out
     (switchon_valued (roots_in c.args.around.now) (rising c.args.around.now) (exits_of c.args.around.now) (exp c.args.value.now) (items c.args.list.now) c.args.level c.args.self.now.next _ (c.in_ok-value.ensures.1 ∙ ap (λ (k : ℕ). (roots_in c.args.around.now (Value c.args.level (exp c.args.value.now)) 0 k).1) (c.in_ok-found.ensures.next ∙ ap (λ (k : ℕ). k + entries_in (items c.args.list.now)) c.in_ok-past.ensures.taken.1)))
 
 pub switchon-returns-in_err-list : goal.switchon-returns-in_err-list
 switchon-returns-in_err-list t c =
     fails c.from_residual-in_err-list.result c.in_err-list.field-0.0 c.args.self.now c.list.new.self (emit_items Plain (roots_in c.args.around.now) (items c.args.list.now) c.args.level (record (exits_of c.args.around.now) { cases = c.in_ok-past.past; labels = λ n. label_in c.in_ok-labels.labels.items n 0; case_of = λ v. label_in c.in_ok-found.found.cases.items v c.in_ok-found.found.default; default_of = c.in_ok-found.found.default }) c.table.new.self.next).1
-    (emit Plain (roots_in c.args.around.now) (commands.Switchon (exp c.args.value.now) (items c.args.list.now)) c.args.level (exits_of c.args.around.now) c.args.self.now.next)
+    (emit Plain (roots_in c.args.around.now) (commands.SwitchOn (exp c.args.value.now) (items c.args.list.now)) c.args.level (exits_of c.args.around.now) c.args.self.now.next)
     c.from_residual-in_err-list.ensures.1 (rw (c.deref.ensures.value, c.deref-2.ensures.value) at c.in_err-list.ensures)
     (switchon_done (roots_in c.args.around.now) (exits_of c.args.around.now) c.args.around.now.labels.now (exp c.args.value.now) (items c.args.list.now) c.args.level _ _ _ _ c.args.self.now.next _ _ _ _ refl c.in_ok-past.ensures.taken.0 c.in_ok-past.ensures.taken.1 c.in_ok-found.ensures.default c.in_ok-found.ensures.cases c.in_ok-found.ensures.next c.in_ok-value.ensures.1 c.in_ok-labels.ensures.labels (c.in_ok-table.ensures.1 ∙ c.in_ok-data_label.ensures.1 ∙ c.in_ok-data.ensures.1 ∙ c.in_ok-execute.ensures.1 ∙ c.in_ok-labels.ensures.next))
 
