@@ -14,7 +14,7 @@ use Rattle.bc_parse.specs.Parsing.{parsed, TokensSpell}
 use Rattle.bc_parse.specs.declared.error.ParseError.{ParseError}
 use Rattle.bc_core.specs.Commands.{Core}
 use Rattle.bc_scoping.specs.Faults.{section_fault}
-use Rattle.bc_scoping.specs.Found.{core_of}
+use Rattle.bc_scoping.specs.Translation.{core_of}
 use Rattle.bc_emit.specs.Section.{section_items, labels_suffice}
 use Rattle.bc_emit.specs.Entries.{section_entries}
 use Rattle.bc_gen.specs.Chosen.{coding}

@@ -12,7 +12,7 @@ use Rattle.bc_derive.specs.Code.{root_code}
 use Rattle.bc_derive.specs.Entry.{Entry}
 use Rattle.bc_tree.specs.Tree.{Declarations}
 use Rattle.bc_core.specs.Commands.{Core}
-use Rattle.bc_scoping.specs.Found.{core_of}
+use Rattle.bc_scoping.specs.Translation.{core_of}
 use Rattle.bc_least.specs.Chosen.{chosen, chosen_is_least, chosen_has_least_parts}
 use Rattle.bc_emit.specs.Bodies.{Coding}
 use Rattle.bc_emit.specs.Section.{routines_code, section_items, data_items, setting_items}

@@ -20,7 +20,7 @@ use Rattle.bc_step.specs.declared.state.End.{End}
 use Rattle.bc_machine.specs.Ran.{Ran}
 use Rattle.bc_run.specs.Runs.{behind, IsRunOf}
 use Rattle.bc_tree.specs.Tree.{Declarations}
-use Rattle.bc_scoping.specs.Found.{core_of}
+use Rattle.bc_scoping.specs.Translation.{core_of}
 use Rattle.bc_derive.specs.declared.rule.Table.TheVariants.{Two}
 use Rattle.bc_least.specs.Chosen.{chosen}
 use Rattle.bc_sizes.proofs.Sections.{sections_have_their_size}

@@ -18,7 +18,7 @@ use Rattle.bc_tree.specs.Tree.{Declarations}
 use Rattle.bc_core.specs.Map.{Map, IsMap}
 use Rattle.bc_core.specs.Commands.{Core}
 use Rattle.bc_core.specs.Same.{Same}
-use Rattle.bc_scoping.specs.Found.{core_of}
+use Rattle.bc_scoping.specs.Translation.{core_of}
 use Rattle.bc_scoping.specs.Sections.{meaning_of_sections}
 use Rattle.bc_derive.specs.declared.rule.Table.TheVariants.{Two}
 use Rattle.bc_least.specs.Chosen.{chosen}

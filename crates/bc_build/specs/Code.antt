@@ -6,7 +6,7 @@ use Rattle.bc_derive.specs.View.{entry as entry_view}
 use Rattle.bc_derive.specs.declared.entry.Entry as code
 use Rattle.bc_tree.specs.Tree.{Declarations}
 use Rattle.bc_lex.specs.Files.{File}
-use Rattle.bc_scoping.specs.Found.{core_of}
+use Rattle.bc_scoping.specs.Translation.{core_of}
 use Rattle.bc_emit.specs.Section.{section_items}
 use Rattle.bc_emit.specs.Entries.{section_entries}
 use Rattle.bc_gen.specs.Chosen.{coding}

@@ -9,7 +9,7 @@ use Rattle.bc_tree.specs.Height.{declarations_height}
 use Rattle.bc_parse.specs.Parsing.{parsed, TokensSpell}
 use Rattle.bc_scoping.specs.Faults.{section_fault}
 use Rattle.bc_emit.specs.Section.{labels_suffice}
-use Rattle.bc_scoping.specs.Found.{core_of}
+use Rattle.bc_scoping.specs.Translation.{core_of}
 use Rattle.bc_gen.specs.Chosen.{coding}
 
 -- the source has these tokens, and they spell this section, which is no greater and nests no deeper than any that is parsed

@@ -9,7 +9,7 @@ use Rattle.bc_parse.specs.declared.error.ParseError.TheVariants as parse_errors
 use Rattle.bc_parse.specs.Parsing.{parsed}
 use Rattle.bc_scoping.specs.Faults as scopes
 use Rattle.bc_scoping.specs.Faults.{Fault, section_fault}
-use Rattle.bc_scoping.specs.Found.{core_of}
+use Rattle.bc_scoping.specs.Translation.{core_of}
 use Rattle.bc_emit.specs.Section.{labels_suffice}
 use Rattle.bc_gen.specs.Chosen.{coding}
 use Rattle.bc_gen.specs.declared.gen_error.GenError.{GenError}

@@ -9,7 +9,7 @@ use Rattle.bc_tree.specs.Tree.{Declarations}
 use Rattle.bc_core.specs.Map.{Map, IsMap}
 use Rattle.bc_core.specs.Meaning.{Result}
 use Rattle.bc_core.specs.Same.{Same}
-use Rattle.bc_scoping.specs.Found.{core_of}
+use Rattle.bc_scoping.specs.Translation.{core_of}
 use Rattle.bc_scoping.specs.Sections.{meaning_of_sections}
 use Rattle.bc_simulation.specs.Leads.{HoldsBytes}
 

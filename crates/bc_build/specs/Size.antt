@@ -2,7 +2,7 @@
 use Rattle.std.specs.Prelude.{◌≡◌, ℕ, ◌+◌, List, [], ◌∷◌}
 use Rattle.bc_image.specs.declared.image.Image.{Image}
 use Rattle.bc_tree.specs.Tree.{Declarations}
-use Rattle.bc_scoping.specs.Found.{core_of}
+use Rattle.bc_scoping.specs.Translation.{core_of}
 use Rattle.bc_derive.specs.declared.rule.Table.TheVariants.{Two}
 use Rattle.bc_derive.specs.Code.{root_cost}
 use Rattle.bc_least.specs.Chosen.{chosen}

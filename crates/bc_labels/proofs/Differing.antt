@@ -9,8 +9,8 @@ use Rattle.bc_core.specs.WellFormed.{has, are_distinct}
 use Rattle.bc_scoping.specs.Scope.{Env, Numbers, behind_labels}
 use Rattle.bc_scoping.specs.Numbering.{behind, behind_all, behind_declarations, behind_command, behind_block, labels_of, labels_in}
 use Rattle.bc_scoping.specs.Scoping.{constant, in_declarations, level_behind, in_for, in_list}
-use Rattle.bc_scoping.specs.Translation.{Forms, forms_of_all, assignments, assignment, core_labels, core_block, core_items, core_command}
-use Rattle.bc_scoping.specs.Found.{RoutineBody, Gives, Does, Thing, AValof, ARoutine, Data, AStatic, ATable, AText, found_in_section, core_body, places_of, valofs_of}
+use Rattle.bc_scoping.specs.Translation.{Forms, forms_of_all, assignments, assignment, core_labels, core_block, core_items, core_command, core_body, places_of, valofs_of}
+use Rattle.bc_scoping.specs.Found.{RoutineBody, Gives, Does, Thing, AValof, ARoutine, Data, AStatic, ATable, AText, found_in_section}
 use Rattle.bc_scoping.specs.Faults.{Fault, ACaseTwice, AMisplaced, or_else, unless, Met, met_label, met_labels, has_value, Allowed, labels_fault, items_fault, section_fault}
 use Rattle.bc_scoping.specs.Faults as faults
 use Rattle.bc_translation.proofs.Fits.{AllThings, none_left, none_right, no_fault}

@@ -8,7 +8,7 @@ use Rattle.bc_core.specs.WellFormed.{is_core}
 use Rattle.bc_tree.specs.Tree.{Declarations}
 use Rattle.bc_tree.specs.Size.{declarations_size}
 use Rattle.bc_scoping.specs.Faults.{section_fault}
-use Rattle.bc_scoping.specs.Found.{core_of}
+use Rattle.bc_scoping.specs.Translation.{core_of}
 use Rattle.bc_derive.specs.declared.rule.Table.{Table}
 use Rattle.bc_derive.specs.Rules.{RootDerives}
 use Rattle.bc_emit.specs.Bodies.{coding_of}

@@ -5,7 +5,8 @@ use Rattle.bc_core.specs.Commands as core
 use Rattle.bc_scoping.specs.Scope.{Env, Numbers, behind_labels}
 use Rattle.bc_scoping.specs.Scoping.{in_list}
 use Rattle.bc_scoping.specs.Numbering.{labels_of, labels_in, behind, behind_command, behind_items}
-use Rattle.bc_scoping.specs.Found.{Thing, AValof, ARoutine, Data, valof_of, core_routine, core_datum, places_of, valofs_of, found, found_in_sides, found_in_command, found_in_items}
+use Rattle.bc_scoping.specs.Found.{Thing, AValof, ARoutine, Data, found, found_in_sides, found_in_command, found_in_items}
+use Rattle.bc_scoping.specs.Translation.{valof_of, core_routine, core_datum, places_of, valofs_of}
 use Rattle.bc_names.specs.View.{numbers_view}
 use Rattle.bc_tree.specs.Tree.{Exp, Exps, more, Items, no_items, item, Labelled, Labels_alone}
 use Rattle.bc_resolving.specs.declared.gathering.Gathered.{Gathered}

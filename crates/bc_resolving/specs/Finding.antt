@@ -7,7 +7,8 @@ use Rattle.bc_resolving.specs.declared.gathering.Gathered.{Gathered}
 use Rattle.bc_scoping.specs.Scope as scoping
 use Rattle.bc_scoping.specs.Scope.{Env}
 use Rattle.bc_scoping.specs.Numbering.{behind_item}
-use Rattle.bc_scoping.specs.Found.{Thing, AValof, ARoutine, Data, valof_of, core_routine, core_datum, found_in_command}
+use Rattle.bc_scoping.specs.Found.{Thing, AValof, ARoutine, Data, found_in_command}
+use Rattle.bc_scoping.specs.Translation.{valof_of, core_routine, core_datum}
 use Rattle.bc_names.specs.View.{numbers_view}
 use Rattle.bc_tree.specs.Tree.{Item, Items, no_items, item, Labelled, Labels_alone}
 

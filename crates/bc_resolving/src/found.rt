@@ -8,7 +8,8 @@ ghost use Rattle.bc_scoping.specs.Characters.{decoded as decoded_of};
 ghost use Rattle.bc_scoping.specs.Scope.{behind_valof, behind_labels, behind_place};
 ghost use Rattle.bc_scoping.specs.Scoping.{in_entries, in_declaration, in_declarations, in_list, in_for, cells_in, level_behind};
 ghost use Rattle.bc_scoping.specs.Numbering.{labels_in as labels_in_of, behind_entry as behind_entry_of, behind_entries, behind, behind_all, behind_block, behind_declarations, behind_definitions, behind_declaration, behind_definition, behind_items, behind_item, behind_command};
-ghost use Rattle.bc_scoping.specs.Found.{Data, AText, ATable, Gives, Does, routine as routine_of, global_of as global_of_meant, words_of_table as words_of, found_entry, found_in_entries, found as found_in, found_in_arguments, found_in_sides, found_in_initials, found_in_definition, found_in_definitions, found_in_declaration, found_in_declarations, found_in_block, found_in_command, in_parameters as names_in, core_of};
+ghost use Rattle.bc_scoping.specs.Found.{Data, AText, ATable, Gives, Does, routine as routine_of, global_of as global_of_meant, words_of_table as words_of, found_entry, found_in_entries, found as found_in, found_in_arguments, found_in_sides, found_in_initials, found_in_definition, found_in_definitions, found_in_declaration, found_in_declarations, found_in_block, found_in_command, in_parameters as names_in};
+ghost use Rattle.bc_scoping.specs.Translation.{core_of};
 ghost use Rattle.bc_names.specs.View.{meant_view, scope_view, numbers_view};
 ghost use Rattle.bc_resolving.specs.Finding.{Gathers, core_view, found_behind, found_items, item_found, head_level};
 

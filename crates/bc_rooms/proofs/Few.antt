@@ -9,7 +9,7 @@ use Rattle.bc_core.specs.Level.{side_level, cells_of_all, cells_declared, level_
 use Rattle.bc_core.specs.Layout.{frame_size}
 use Rattle.bc_core.specs.WellFormed.{Around, Jumps, nodes, most_nodes, exp_fits, root_fits, assignment_fits, variables_fit, declarations_fit, labels_of, are_distinct, has_entries, in_a_loop, in_list, command_fits, block_fits, items_fit, jumps_in_routine, jumps_in_valof, body_fits, global_fits, places_fit, valofs_fit}
 use Rattle.bc_least.specs.Nodes.{root_nodes}
-use Rattle.bc_scoping.specs.Found.{core_of}
+use Rattle.bc_scoping.specs.Translation.{core_of}
 use Rattle.bc_translation.proofs.Fitting.{sections_fit}
 use Rattle.bc_emit.specs.Bodies.{coding_of}
 use Rattle.bc_rooms.specs.Laws.{RootsHaveFewNodes}

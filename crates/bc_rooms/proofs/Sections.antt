@@ -5,8 +5,8 @@ use Rattle.bc_core.specs.Tree.{Root}
 use Rattle.bc_core.specs.Commands as core
 use Rattle.bc_core.specs.Level.{level_behind_parameters}
 use Rattle.bc_core.specs.Layout.{Bodies, cells_of_block, cells_of_body}
-use Rattle.bc_scoping.specs.Found.{Found, FoundRoutine, RoutineBody, Gives, Does, Thing, AValof, ARoutine, Data, AStatic, ATable, AText, valofs_of, places_of, core_body, core_routine, found_in_section, core_of, section_start}
-use Rattle.bc_scoping.specs.Translation.{core_block}
+use Rattle.bc_scoping.specs.Found.{Found, FoundRoutine, RoutineBody, Gives, Does, Thing, AValof, ARoutine, Data, AStatic, ATable, AText, found_in_section, section_start}
+use Rattle.bc_scoping.specs.Translation.{core_block, valofs_of, places_of, core_body, core_routine, core_of}
 use Rattle.bc_scoping.specs.Frames.{width_of_body, frame_of}
 use Rattle.bc_scoping.specs.Faults.{Fault, AFrameTooLarge, or_else, unless, frames_fault, places_fault, declarations_fault}
 use Rattle.bc_translation.proofs.Table.{same_number, other_number}

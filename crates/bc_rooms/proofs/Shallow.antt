@@ -1,6 +1,7 @@
 -- The roots of a section that nests at most 200 deep are shallow.
 use Rattle.std.proofs.Common.{List, [], ◌∷◌, arith}
-use Rattle.bc_scoping.specs.Found.{Thing, AValof, ARoutine, Data, AStatic, ATable, AText, valofs_of, places_of, section_start, found_in_section, core_of}
+use Rattle.bc_scoping.specs.Found.{Thing, AValof, ARoutine, Data, AStatic, ATable, AText, section_start, found_in_section}
+use Rattle.bc_scoping.specs.Translation.{valofs_of, places_of, core_of}
 use Rattle.bc_rooms.specs.Laws.{IsShallow, RootsAreShallow}
 use Rattle.bc_rooms.proofs.Throughout.{OfPlaces, OfValofs}
 use Rattle.bc_rooms.proofs.Commands.{Low}

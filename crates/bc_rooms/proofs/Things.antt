@@ -9,7 +9,8 @@ use Rattle.bc_scoping.specs.Scope.{Env, Numbers, behind_valof, behind_labels, be
 use Rattle.bc_scoping.specs.Numbering.{behind, behind_all, behind_declarations, behind_declaration, behind_definition, behind_command, behind_block, labels_of, labels_in}
 use Rattle.bc_scoping.specs.Scoping.{count, pending, in_entry, before_let, in_let, in_declaration, in_declarations, cells_in, cells_of_all, level_behind, in_for, in_list, in_valof}
 use Rattle.bc_scoping.specs.Sides.{side_levels}
-use Rattle.bc_scoping.specs.Found.{Thing, AValof, ARoutine, Data, core_routine, valof_of, in_parameters, found_in_entries, found, found_in_arguments, found_in_sides, found_in_initials, found_in_definition, found_in_definitions, found_in_declaration, found_in_declarations, found_in_block, found_in_items, found_in_command}
+use Rattle.bc_scoping.specs.Found.{Thing, AValof, ARoutine, Data, in_parameters, found_in_entries, found, found_in_arguments, found_in_sides, found_in_initials, found_in_definition, found_in_definitions, found_in_declaration, found_in_declarations, found_in_block, found_in_items, found_in_command}
+use Rattle.bc_scoping.specs.Translation.{core_routine, valof_of}
 use Rattle.bc_translation.proofs.Fits.{AllThings}
 use Rattle.bc_translation.proofs.Cleanness.{all_joined}
 use Rattle.bc_rooms.proofs.Throughout.{OfBlock, OfBody}

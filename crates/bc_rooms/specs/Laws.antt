@@ -9,7 +9,7 @@ use Rattle.bc_tree.specs.Tree.{Declarations}
 use Rattle.bc_tree.specs.Height.{declarations_height}
 use Rattle.bc_tree.specs.Size.{declarations_size}
 use Rattle.bc_scoping.specs.Faults.{section_fault}
-use Rattle.bc_scoping.specs.Found.{core_of}
+use Rattle.bc_scoping.specs.Translation.{core_of}
 use Rattle.bc_derive.specs.declared.rule.Table.{Table}
 use Rattle.bc_derive.specs.declared.rule.Table.TheVariants.{Two}
 use Rattle.bc_derive.specs.Rules.{RootDerives}

@@ -1,5 +1,5 @@
 -- From the first fault and the translation to what resolving answers.
-use Rattle.std.proofs.Common.{◌≡◌, ℕ, ◌≤◌, ◌<◌, refl, ap, sym, ◌∙◌, List, [], length, nat_le, IsTrue, false, Option, Some, None, arith}
+use Rattle.std.proofs.Common.{◌≡◌, ℕ, ◌≤◌, ◌<◌, refl, ap, sym, ◌∙◌, suc, List, [], ◌∷◌, length, nat_le, IsTrue, false, Option, Some, None, arith}
 use Rattle.std.proofs.lemmas.List.{length-map}
 use Rattle.bc_core.specs.View.{section, place_of}
 use Rattle.bc_core.specs.WellFormed.{is_core}
@@ -10,8 +10,9 @@ use Rattle.bc_tree.specs.Size.{declarations_size}
 use Rattle.bc_names.specs.declared.error.ScopeError.{ScopeError}
 use Rattle.bc_names.specs.declared.error.ScopeError.TheVariants as code
 use Rattle.bc_faults.specs.Judged.{IsFault}
-use Rattle.bc_scoping.specs.Found.{section_start, found_in_section, places_of, core_of}
-use Rattle.bc_scoping.specs.Faults.{Fault, ATooManyPlaces, unless, or_else, declarations_fault, frames_fault, places_fault, section_fault}
+use Rattle.bc_scoping.specs.Found.{Thing, AValof, ARoutine, Data, section_start, found_in_section}
+use Rattle.bc_scoping.specs.Translation.{places_of, core_of}
+use Rattle.bc_scoping.specs.Faults.{Fault, ATooManyPlaces, unless, or_else, declarations_fault, frames_fault, places_among, places_fault, section_fault}
 use Rattle.bc_translation.proofs.Fitting.{sections_fit}
 
 -- the first fault but for the number of places
@@ -48,8 +49,14 @@ pub then_places : (ds : Declarations) → judged ds ≡ None → section_fault d
 then_places ds h = places_last ds ∙ ap (λ x. or_else x (places_fault (found_in_section ds))) h
 
 -- as many places as were found
-pub counted : (ds : Declarations) (ps : List Place) (vs : List Valof) → section (ps, vs) ≡ core_of ds → length ps ≡ length (places_of (found_in_section ds))
-counted ds ps vs e = sym (length-map ps place_of) ∙ ap (λ c. length c.places) e
+each_place : (things : List Thing) → length (places_of things) ≡ places_among things
+each_place [] = refl
+each_place (AValof f ∷ things) = each_place things
+each_place (ARoutine r ∷ things) = ap suc (each_place things)
+each_place (Data m d ∷ things) = ap suc (each_place things)
+
+pub counted : (ds : Declarations) (ps : List Place) (vs : List Valof) → section (ps, vs) ≡ core_of ds → length ps ≡ places_among (found_in_section ds)
+counted ds ps vs e = sym (length-map ps place_of) ∙ ap (λ c. length c.places) e ∙ each_place (found_in_section ds)
 
 small : (n : ℕ) → n ≤ 8000 → unless (nat_le n 8000) ATooManyPlaces ≡ None
 small n h = grind arith

@@ -6,7 +6,7 @@ use Rattle.bc_core.specs.declared.command.Valof.{Valof}
 use Rattle.bc_tree.specs.Tree.{Declarations}
 use Rattle.bc_names.specs.declared.error.ScopeError.{ScopeError}
 use Rattle.bc_faults.specs.Judged.{IsFault}
-use Rattle.bc_scoping.specs.Found.{core_of}
+use Rattle.bc_scoping.specs.Translation.{core_of}
 use Rattle.bc_scoping.specs.Faults.{section_fault}
 
 -- a section without fault is resolved to its translation; of another the answer is its first fault; or memory ran out

@@ -12,8 +12,8 @@ use Rattle.bc_core.specs.Commands as c
 use Rattle.bc_scoping.specs.Scope.{Env, Constant, Global, Routine, Variable}
 use Rattle.bc_scoping.specs.Scoping.{level_behind}
 use Rattle.bc_scoping.specs.Sides.{side_level_of}
-use Rattle.bc_scoping.specs.Translation.{forms}
-use Rattle.bc_scoping.specs.Found.{section_start, found_in_section, core_of}
+use Rattle.bc_scoping.specs.Translation.{forms, core_of}
+use Rattle.bc_scoping.specs.Found.{section_start, found_in_section}
 use Rattle.bc_scoping.specs.Frames.{frames_found}
 use Rattle.bc_scoping.specs.Examples.{a, b, f, g, l, v, x, y, start, wrch, of, number, two, list, call, set, do_call, plain, labelled, body, commands, lets, variables, variable, constants, declarations, alone, program}
 

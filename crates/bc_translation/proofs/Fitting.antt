@@ -8,9 +8,9 @@ use Rattle.bc_core.specs.Level.{level_behind_parameters}
 use Rattle.bc_core.specs.Layout.{frame_size, cells_of_valofs}
 use Rattle.bc_core.specs.WellFormed.{Around, stands_at, body_fits, places_fit, valofs_fit}
 use Rattle.bc_scoping.specs.Scope.{Env}
-use Rattle.bc_scoping.specs.Found.{RoutineBody, Gives, Does, Thing, AValof, ARoutine, Data, AStatic, ATable, AText, found_in_section, core_body, core_routine, places_of, valofs_of, section_start}
+use Rattle.bc_scoping.specs.Found.{RoutineBody, Gives, Does, Thing, AValof, ARoutine, Data, AStatic, ATable, AText, found_in_section, section_start}
 use Rattle.bc_scoping.specs.Frames.{frame_of}
-use Rattle.bc_scoping.specs.Translation.{forms}
+use Rattle.bc_scoping.specs.Translation.{forms, core_body, core_routine, places_of, valofs_of}
 use Rattle.bc_scoping.specs.Faults.{Fault, AFrameTooLarge, or_else, unless, declarations_fault, frames_fault, places_fault, section_fault, allowed_in_routine, allowed_in_valof}
 use Rattle.bc_translation.specs.Laws.{SectionsFit}
 use Rattle.bc_translation.proofs.Small.{small}

@@ -2,8 +2,8 @@
 use Rattle.std.proofs.Common.{◌≡◌, ◌∙◌, ℕ, ◌+◌, List, [], ◌∷◌, map, refl, sym, subst}
 use Rattle.bc_core.specs.Level.{side_level}
 use Rattle.bc_core.specs.Layout.{cells_of_valofs}
-use Rattle.bc_scoping.specs.Translation.{Forms, forms_of_all}
-use Rattle.bc_scoping.specs.Found.{Thing, AValof, ARoutine, Data, AStatic, ATable, AText, found_in_section, places_of, valofs_of}
+use Rattle.bc_scoping.specs.Translation.{Forms, forms_of_all, places_of, valofs_of}
+use Rattle.bc_scoping.specs.Found.{Thing, AValof, ARoutine, Data, AStatic, ATable, AText, found_in_section}
 use Rattle.bc_scoping.specs.Frames.{frames_found}
 use Rattle.bc_translation.specs.Laws.{LevelsAreTheSections, FramesAreTheSections, NumbersRise, frames_of_places, labels_found, numbers_found, counted}
 use Rattle.bc_translation.proofs.Forms.{count_kept}

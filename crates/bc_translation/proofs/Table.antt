@@ -4,7 +4,8 @@ use Rattle.bc_core.specs.Outcome.{Run, then_do}
 use Rattle.bc_core.specs.Command.{perform_block}
 use Rattle.bc_core.specs.Meaning.{valof_value, valofs_from}
 use Rattle.bc_scoping.specs.Source.{Around}
-use Rattle.bc_scoping.specs.Found.{Found, Thing, AValof, ARoutine, Data, valof_of, valofs_of}
+use Rattle.bc_scoping.specs.Found.{Found, Thing, AValof, ARoutine, Data}
+use Rattle.bc_scoping.specs.Translation.{valof_of, valofs_of}
 use Rattle.bc_translation.specs.Laws.{ExpressionsKeepTheirMeaning, CommandsKeepTheirMeaning}
 use Rattle.bc_scoping.specs.Found.{found, found_in_command}
 use Rattle.bc_translation.proofs.Forms.{in_context}

@@ -15,8 +15,8 @@ use Rattle.bc_scoping.specs.Scope as scope
 use Rattle.bc_scoping.specs.Numbering.{behind, behind_all, behind_declarations, behind_declaration, behind_definition, behind_command, behind_block, labels_of, labels_in}
 use Rattle.bc_scoping.specs.Scoping.{operator, count, pending, in_entry, before_let, in_let, in_declaration, in_declarations, cells_in, cells_of_all, level_behind, in_for, in_list, in_valof}
 use Rattle.bc_scoping.specs.Sides.{side_levels}
-use Rattle.bc_scoping.specs.Translation.{Forms, form_of_name, form_of_monadic, form_of_dyadic, negation, opposite, or_not, forms, core_arguments, forms_of_all, assignments, assignment, initials, core_definition, core_definitions, core_declarations, core_labels, core_block, core_items, core_command, block_of}
-use Rattle.bc_scoping.specs.Found.{Thing, AValof, ARoutine, Data, AStatic, ATable, AText, core_datum, core_routine, valof_of, places_of, valofs_of, in_parameters, section_start, found_in_section, found_in_entries, found, found_in_arguments, found_in_sides, found_in_initials, found_in_definition, found_in_definitions, found_in_declaration, found_in_declarations, found_in_block, found_in_items, found_in_command}
+use Rattle.bc_scoping.specs.Translation.{Forms, form_of_name, form_of_monadic, form_of_dyadic, negation, opposite, or_not, forms, core_arguments, forms_of_all, assignments, assignment, initials, core_definition, core_definitions, core_declarations, core_labels, core_block, core_items, core_command, block_of, core_datum, core_routine, valof_of, places_of, valofs_of}
+use Rattle.bc_scoping.specs.Found.{Thing, AValof, ARoutine, Data, AStatic, ATable, AText, in_parameters, section_start, found_in_section, found_in_entries, found, found_in_arguments, found_in_sides, found_in_initials, found_in_definition, found_in_definitions, found_in_declaration, found_in_declarations, found_in_block, found_in_items, found_in_command}
 use Rattle.bc_scoping.specs.Words.{ExpHasWords, ExpsHaveWords, BlockHasWords, DeclarationHasWords, DeclarationsHaveWords, EntriesHaveWords, DefinitionHasWords, DefinitionsHaveWords, ItemsHaveWords, LabelsHaveWords, CommandHasWords}
 use Rattle.bc_translation.specs.Laws.{WordsAreKept}
 use Rattle.bc_translation.proofs.Constants.{MeansWord, Wordy, word_is, meant_word, word_of_constant, table_words, text_is_bytes, wordy_pending, wordy_entry, wordy_before, wordy_let, wordy_declaration, wordy_declarations, wordy_list, wordy_valof, wordy_parameters}

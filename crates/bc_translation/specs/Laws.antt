@@ -17,8 +17,8 @@ use Rattle.bc_scoping.specs.Scope.{Env, Numbers}
 use Rattle.bc_scoping.specs.Scoping.{count, level_behind}
 use Rattle.bc_scoping.specs.Sides.{side_levels}
 use Rattle.bc_scoping.specs.Source.{Around, worth, run_command}
-use Rattle.bc_scoping.specs.Translation.{Forms, forms, forms_of_all, core_arguments, core_declarations, core_command}
-use Rattle.bc_scoping.specs.Found.{Thing, AValof, ARoutine, Data, found, found_in_command, valofs_of, found_in_section, core_of}
+use Rattle.bc_scoping.specs.Translation.{Forms, forms, forms_of_all, core_arguments, core_declarations, core_command, valofs_of, core_of}
+use Rattle.bc_scoping.specs.Found.{Thing, AValof, ARoutine, Data, found, found_in_command, found_in_section}
 use Rattle.bc_scoping.specs.Frames.{frames_found}
 use Rattle.bc_scoping.specs.Faults.{section_fault}
 use Rattle.bc_scoping.specs.Words.{DeclarationsHaveWords}

@@ -6,7 +6,7 @@ use Rattle.bc_step.specs.State.{start}
 use Rattle.bc_tree.specs.Tree.{Declarations}
 use Rattle.bc_core.specs.WellFormed.{is_core}
 use Rattle.bc_core.specs.Same.{Same}
-use Rattle.bc_scoping.specs.Found.{core_of}
+use Rattle.bc_scoping.specs.Translation.{core_of}
 use Rattle.bc_emit.specs.Bodies.{coding_of}
 use Rattle.bc_link.specs.Layout.{stack_base_of}
 use Rattle.bc_link.specs.Store.{store_of}

@@ -5,7 +5,7 @@ use Rattle.bc_step.specs.State.{start}
 use Rattle.bc_tree.specs.Tree.{Declarations}
 use Rattle.bc_tree.specs.Size.{declarations_size}
 use Rattle.bc_core.specs.Same.{Same}
-use Rattle.bc_scoping.specs.Found.{core_of}
+use Rattle.bc_scoping.specs.Translation.{core_of}
 use Rattle.bc_scoping.specs.Faults.{section_fault}
 use Rattle.bc_scoping.specs.Sections.{meaning_of_sections}
 use Rattle.bc_derive.specs.declared.rule.Table.{Table}
