@@ -26,6 +26,16 @@ fn first<'s, 't>(rest: Rest<'s, 't>) -> Option<(&'t Part<'s>, Rest<'s, 't>)>
     Some((part, Rest { parts }))
 }
 
+/// The symbol in front, and the parts after it.
+fn symbol<'s, 't>(rest: Rest<'s, 't>) -> Option<(Symbol, Rest<'s, 't>)>
+    ensures { option_map (λ x. (x.0, seen x.1)) result ≡ word_in Some (seen rest.entry) }
+{
+    match first(rest) {
+        Some((Part::Symbol(symbol), behind)) => Some((*symbol, behind)),
+        _ => None,
+    }
+}
+
 /// The parts after this symbol, where it stands in front.
 pub fn after<'s, 't>(wanted: Symbol, rest: Rest<'s, 't>) -> Option<Rest<'s, 't>>
     ensures { option_map (λ x. seen x) result ≡ after_of wanted (seen rest.entry) }
@@ -88,61 +98,36 @@ pub fn leaf<'s, 't>(rest: Rest<'s, 't>) -> Option<(Exp<'s>, Rest<'s, 't>)>
 pub fn start_word<'s, 't>(rest: Rest<'s, 't>) -> Option<(Start, Rest<'s, 't>)>
     ensures { option_map (λ x. (x.0, seen x.1)) result ≡ word_in start_of (seen rest.entry) }
 {
-    match first(rest) {
-        Some((Part::Symbol(symbol), behind)) => {
-            let word = words::start_word(*symbol)?;
-            Some((word, behind))
-        }
-        _ => None,
-    }
+    let (symbol, behind) = symbol(rest)?;
+    Some((words::start_word(symbol)?, behind))
 }
 
 pub fn command_word<'s, 't>(rest: Rest<'s, 't>) -> Option<(CommandWord, Rest<'s, 't>)>
     ensures { option_map (λ x. (x.0, seen x.1)) result ≡ word_in command_word_of (seen rest.entry) }
 {
-    match first(rest) {
-        Some((Part::Symbol(symbol), behind)) => {
-            let word = words::command_word(*symbol)?;
-            Some((word, behind))
-        }
-        _ => None,
-    }
+    let (symbol, behind) = symbol(rest)?;
+    Some((words::command_word(symbol)?, behind))
 }
 
 pub fn simple_word<'s, 't>(rest: Rest<'s, 't>) -> Option<(SimpleWord, Rest<'s, 't>)>
     ensures { option_map (λ x. (x.0, seen x.1)) result ≡ word_in simple_word_of (seen rest.entry) }
 {
-    match first(rest) {
-        Some((Part::Symbol(symbol), behind)) => {
-            let word = words::simple_word(*symbol)?;
-            Some((word, behind))
-        }
-        _ => None,
-    }
+    let (symbol, behind) = symbol(rest)?;
+    Some((words::simple_word(symbol)?, behind))
 }
 
 pub fn repeat_word<'s, 't>(rest: Rest<'s, 't>) -> Option<(RepeatWord, Rest<'s, 't>)>
     ensures { option_map (λ x. (x.0, seen x.1)) result ≡ word_in repeat_word_of (seen rest.entry) }
 {
-    match first(rest) {
-        Some((Part::Symbol(symbol), behind)) => {
-            let word = words::repeat_word(*symbol)?;
-            Some((word, behind))
-        }
-        _ => None,
-    }
+    let (symbol, behind) = symbol(rest)?;
+    Some((words::repeat_word(symbol)?, behind))
 }
 
 pub fn declaration_word<'s, 't>(rest: Rest<'s, 't>) -> Option<(DeclarationWord, Rest<'s, 't>)>
     ensures { option_map (λ x. (x.0, seen x.1)) result ≡ word_in declaration_word_of (seen rest.entry) }
 {
-    match first(rest) {
-        Some((Part::Symbol(symbol), behind)) => {
-            let word = words::declaration_word(*symbol)?;
-            Some((word, behind))
-        }
-        _ => None,
-    }
+    let (symbol, behind) = symbol(rest)?;
+    Some((words::declaration_word(symbol)?, behind))
 }
 
 /// What goes on behind an operand.
