@@ -1,7 +1,8 @@
 #!/usr/bin/env python3
 """make_names.py KIND TOKENS: a BCPL section of about so many tokens that asks much of scopes. Kinds: constants (many names of one scope, each
 used once), routines (many routines, each with a block), blocks (many blocks with a VALOF behind many names), nested (190 routines one
-within another with the same number of parameters each)."""
+within another with the same number of parameters each), one (the same number of parameters of one routine), tiny (routines of one parameter
+each, below thousands of globals)."""
 import sys
 
 DEPTH = 190
@@ -38,8 +39,19 @@ def nested(tokens):
     yield "$)" * DEPTH
 
 
+def one(tokens):
+    yield "LET G(" + ",".join(f"N{i}" for i in range(tokens // 2 - 6)) + ") BE N0 := N1"
+
+
+def tiny(tokens):
+    names = tokens // 20
+    yield "GLOBAL $( " + "; ".join(f"NAME{k}:{k % 512}" for k in range(names)) + " $)"
+    for k in range((tokens - 4 * names) // 9 - 1):
+        yield f"LET F{k}(A) BE A := NAME{k * 7 % names}"
+
+
 def main():
-    kinds = {"constants": constants, "routines": routines, "blocks": blocks, "nested": nested}
+    kinds = {"constants": constants, "routines": routines, "blocks": blocks, "nested": nested, "one": one, "tiny": tiny}
     for line in kinds[sys.argv[1]](int(sys.argv[2])):
         print(line)
 

@@ -5,3 +5,4 @@ pub mod Anywhere
 pub mod Lists
 pub mod Turns
 pub mod Held
+pub mod Sets

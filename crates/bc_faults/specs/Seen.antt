@@ -19,7 +19,7 @@ abbrev pub names_view : List (Bor (List ℕ)) → List (List ℕ)
 names_view ns = map (λ n. n.now) ns
 
 abbrev pub met_view : code_met.Met → Met
-met_view m = record { names = names_view m.names.items; values = m.values.items; default = m.default }
+met_view m = record { names = names_view m.names.keys; values = m.values.keys; default = m.default }
 
 -- whether each frame has at most 32,768 cells, where those before have
 abbrev pub frames_fit : Bool → List Thing → Bool

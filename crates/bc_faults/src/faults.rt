@@ -32,6 +32,7 @@ use bc_names::{
     labels_in, side_levels, sum,
 };
 use bc_tree::{Block, Command, Constant, Declaration, Definition, Exp, Item, Label, Storage};
+use indexmap::IndexSet;
 use std::alloc::Global;
 
 /// What the definitions of a LET stand among: whether they stand in a block, the names for their
@@ -260,7 +261,7 @@ fn entries<'s>(
 ) -> Result<(), ScopeError<'s>>
     ensures { Entered result (entries_fault storage [] (numbers_view progress.old.at) (entries_view list.now) (scope_view scope.old)) progress.old progress.new (behind_entries storage (numbers_view progress.old.at) (entries_view list.now)) (found_in_entries storage (numbers_view progress.old.at) (entries_view list.now) (scope_view scope.old)) scope.new (in_entries storage (numbers_view progress.old.at) (entries_view list.now) (scope_view scope.old)) }
 {
-    let mut before = Vec::new(scope.alloc());
+    let mut before = IndexSet::new(scope.alloc());
     for entry in list {
         declare_once(&mut before, entry.name)?;
         constant_fault(scope, *progress, &entry.value)?;
@@ -276,12 +277,12 @@ fn entries<'s>(
 #[tactic(auto, using(crate::proofs::Frames::frames_along, crate::proofs::Frames::max_along))]
 fn definition<'s>(
     among: Among<'_, 's>,
-    before: &mut Vec<&'s [u8]>,
+    before: &mut IndexSet<&'s [u8]>,
     progress: &mut Progress,
     tree: &Definition<'s>,
     level: u64,
 ) -> Result<u64, ScopeError<'s>>
-    ensures { Defined result (definition_fault among.entry.inside (names_view before.old.items) (scope_view among.entry.constants.now) (scope_view among.entry.names.now) (numbers_view progress.old.at) (definition_view tree.now) level) progress.old progress.new (behind_definition (numbers_view progress.old.at) (definition_view tree.now)) (found_in_definition (scope_view among.entry.names.now) (scope_view among.entry.names.now) (numbers_view progress.old.at) (definition_view tree.now) level) (width_of_definition (scope_view among.entry.names.now) (numbers_view progress.old.at) (definition_view tree.now) level) (names_view before.new.items) (names_view before.old.items ++ names_of (definition_view tree.now)) }
+    ensures { Defined result (definition_fault among.entry.inside (names_view before.old.keys) (scope_view among.entry.constants.now) (scope_view among.entry.names.now) (numbers_view progress.old.at) (definition_view tree.now) level) progress.old progress.new (behind_definition (numbers_view progress.old.at) (definition_view tree.now)) (found_in_definition (scope_view among.entry.names.now) (scope_view among.entry.names.now) (numbers_view progress.old.at) (definition_view tree.now) level) (width_of_definition (scope_view among.entry.names.now) (numbers_view progress.old.at) (definition_view tree.now) level) (names_view before.new.keys) (names_view before.old.keys ++ names_of (definition_view tree.now)) }
 {
     match tree {
         Definition::Variables(names, values) => {
@@ -360,7 +361,7 @@ fn definitions<'s>(
 ) -> Result<u64, ScopeError<'s>>
     ensures { Walks result (definitions_fault among.entry.inside [] (scope_view among.entry.constants.now) (scope_view among.entry.names.now) (numbers_view progress.old.at) (definitions_view list.now) level) progress.old progress.new (behind_definitions (numbers_view progress.old.at) (definitions_view list.now)) (found_in_definitions (scope_view among.entry.names.now) (scope_view among.entry.names.now) (numbers_view progress.old.at) (definitions_view list.now) level) (width_of_definitions (scope_view among.entry.names.now) (numbers_view progress.old.at) (definitions_view list.now) level) }
 {
-    let mut before = Vec::new(among.names.alloc());
+    let mut before = IndexSet::new(among.names.alloc());
     let mut width = 0u64;
     for tree in list {
         width = width.max(definition(among, &mut before, progress, tree, level)?);

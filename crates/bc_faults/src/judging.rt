@@ -2,7 +2,7 @@
 ghost use Rattle.std.specs.Prelude.{◌≡◌, true, None, length, drop, [], ◌∷◌, ◌++◌, IfOk};
 ghost use Rattle.bc_tree.specs.View.{exp_view, exps_view};
 ghost use Rattle.bc_scoping.specs.Frames.{all_held, widest};
-ghost use Rattle.bc_scoping.specs.Faults.{AMisplaced, unless, allowed_in_routine, allowed_in_valof, in_a_loop, in_a_switch, name_fault, jump_fault, is_cell, is_load, is_index, has_cell, address_fault, all_have_cells, is_among, twice_fault, all_twice_fault, none_met, case_fault, default_fault, has_value, entry_fault};
+ghost use Rattle.bc_scoping.specs.Faults.{AMisplaced, unless, allowed_in_routine, allowed_in_valof, in_a_loop, in_a_switch, name_fault, jump_fault, is_cell, is_load, is_index, has_cell, address_fault, all_have_cells, twice_fault, all_twice_fault, none_met, case_fault, default_fault, entry_fault};
 ghost use Rattle.bc_names.specs.View.{meant_view, scope_view};
 ghost use Rattle.bc_core.specs.Level.{level_behind_parameters};
 ghost use Rattle.bc_faults.specs.Parts.{head_level, side_width};
@@ -12,6 +12,7 @@ ghost use Rattle.bc_faults.specs.Seen.{allowed_view, names_view, met_view};
 use bc_names::{Meant, Scope, ScopeError, constant, is_operand, sum};
 use bc_tree::{Dyadic, Exp, Monadic, Storage};
 use bc_word::{Memory, Word};
+use indexmap::IndexSet;
 use std::alloc::Global;
 
 /// What a command may do where it stands.
@@ -201,42 +202,26 @@ pub fn all_have_cells(scope: &Scope<'_>, places: &[Exp<'_>]) -> bool
     true
 }
 
-fn is_among(names: &[&[u8]], name: &[u8]) -> bool
-    ensures { result ≡ is_among (names_view names.now) name.now }
-{
-    for other in names {
-        if *other == name {
-            return true;
-        }
-    }
-    false
-}
-
-/// A name behind these.
-pub fn twice_fault<'s>(before: &[&'s [u8]], name: &'s [u8]) -> Result<(), ScopeError<'s>>
-    ensures { Passes result (twice_fault (names_view before.now) name.entry.now) }
-{
-    if is_among(before, name) {
-        Err(ScopeError::DeclaredTwice(name))
-    } else {
-        Ok(())
-    }
-}
-
 /// One name more, behind those that it must differ from.
-pub fn declare_once<'s>(before: &mut Vec<&'s [u8]>, name: &'s [u8]) -> Result<(), ScopeError<'s>>
-    ensures { Judges result (twice_fault (names_view before.old.items) name.entry.now) (λ _. names_view before.new.items ≡ names_view before.old.items ++ name.entry.now ∷ []) }
+pub fn declare_once<'s>(
+    before: &mut IndexSet<&'s [u8]>,
+    name: &'s [u8],
+) -> Result<(), ScopeError<'s>>
+    ensures { Judges result (twice_fault (names_view before.old.keys) name.entry.now) (λ _. names_view before.new.keys ≡ names_view before.old.keys ++ name.entry.now ∷ []) }
 {
-    twice_fault(before, name)?;
-    Ok(before.push(name)?)
+    if before.insert(name)? {
+        Ok(())
+    } else {
+        Err(ScopeError::DeclaredTwice(name))
+    }
 }
 
 /// Names, behind those that they must differ from.
 pub fn declare_all_once<'s>(
-    before: &mut Vec<&'s [u8]>,
+    before: &mut IndexSet<&'s [u8]>,
     names: &[&'s [u8]],
 ) -> Result<(), ScopeError<'s>>
-    ensures { Judges result (all_twice_fault (names_view before.old.items) (names_view names.now)) (λ _. names_view before.new.items ≡ names_view before.old.items ++ names_view names.now) }
+    ensures { Judges result (all_twice_fault (names_view before.old.keys) (names_view names.now)) (λ _. names_view before.new.keys ≡ names_view before.old.keys ++ names_view names.now) }
 {
     for name in names {
         declare_once(before, name)?;
@@ -248,15 +233,15 @@ pub fn declare_all_once<'s>(
 pub fn parameters_fault<'s>(alloc: Global, names: &[&'s [u8]]) -> Result<(), ScopeError<'s>>
     ensures { Passes result (all_twice_fault [] (names_view names.now)) }
 {
-    let mut before = Vec::new(alloc);
+    let mut before = IndexSet::new(alloc);
     declare_all_once(&mut before, names)
 }
 
 /// The labels of a list that were met so far.
 #[derive(Debug, Drop)]
 pub struct Met<'s> {
-    pub names: Vec<&'s [u8]>,
-    pub values: Vec<u16>,
+    pub names: IndexSet<&'s [u8]>,
+    pub values: IndexSet<u16>,
     pub default: bool,
 }
 
@@ -265,8 +250,8 @@ impl<'s> Met<'s> {
         ensures { met_view result ≡ none_met }
     {
         Met {
-            names: Vec::new(alloc),
-            values: Vec::new(alloc),
+            names: IndexSet::new(alloc),
+            values: IndexSet::new(alloc),
             default: false,
         }
     }
@@ -276,11 +261,11 @@ impl<'s> Met<'s> {
         ensures { Judges result (case_fault in_cases (met_view self.old) value) (λ _. met_view self.new ≡ record { names = (met_view self.old).names; values = (met_view self.old).values ++ value ∷ []; default = self.old.default }) }
     {
         unless_misplaced(in_cases)?;
-        let value = value.get();
-        if has_value(&self.values, value) {
-            return Err(ScopeError::CaseTwice);
+        if self.values.insert(value.get())? {
+            Ok(())
+        } else {
+            Err(ScopeError::CaseTwice)
         }
-        Ok(self.values.push(value)?)
     }
 
     /// DEFAULT.
@@ -301,17 +286,6 @@ impl<'s> Met<'s> {
     {
         declare_once(&mut self.names, name)
     }
-}
-
-fn has_value(values: &[u16], value: u16) -> bool
-    ensures { result ≡ has_value values.now value }
-{
-    for other in values {
-        if *other == value {
-            return true;
-        }
-    }
-    false
 }
 
 /// The number of a global is at most 511.

@@ -1,11 +1,15 @@
 -- Names that are known, oldest first in the code and newest first in the definitions.
-use Rattle.std.proofs.Common.{◌≡◌, ℕ, ◌+◌, ◌<◌, refl, ap, ◌∙◌, sym, List, [], ◌∷◌, ◌++◌, length, get_or, take, ◌==◌, ◌&&◌, false, suc, arith}
+use Rattle.std.proofs.Common.{◌≡◌, ℕ, ◌+◌, ◌-◌, ◌<◌, refl, ap, ◌∙◌, sym, List, [], ◌∷◌, ◌++◌, length, get_or, take, ◌==◌, ◌&&◌, Bool, true, false, true≢false, cond, Option, Some, suc, arith}
+use Rattle.std.proofs.Math.Seq.{take-length}
 use Rattle.std.proofs.Math.Bool.{and-true, and-false, and_assoc}
 use Rattle.std.proofs.lemmas.List.{take_more, length-take-le}
 use Rattle.bc_names.specs.declared.scope.Border.{Border}
 use Rattle.bc_names.specs.declared.scope.Border.TheVariants as border
 use Rattle.bc_names.specs.declared.scope.Group.{Group}
 use Rattle.bc_names.specs.declared.scope.Named.{Named}
+use Rattle.std.specs.Str.{bytes_eq}
+use Rattle.bc_names.specs.declared.scope.Meant as code
+use Rattle.bc_names.specs.Index.{found_over}
 use Rattle.bc_names.specs.View.{known_over, groups_over, meant_view}
 use Rattle.bc_names.specs.Crossing.{outer, outside, over, joined, all_over}
 use Rattle.bc_scoping.specs.Scope.{Env, Name, is_name, meant_by, Meant, Constant, Pending, Static, Global, Routine, Variable, Label, OuterVariable, OuterLabel, LabelOutside, Undeclared}
@@ -18,18 +22,51 @@ known_push b E (m ∷ ns) n = known_push b ((m.name.now, over b (meant_view m.me
 pub known_take : (b : Border) (E : Env) (ns : List Named) (i : ℕ) (n : Named) → i < length ns → known_over b E (take (i + 1) ns) ≡ ((get_or ns i n).name.now, over b (meant_view (get_or ns i n).meant)) ∷ known_over b E (take i ns)
 known_take b E ns i n h = ap (known_over b E) (take_more ns i n h) ∙ known_push b E (take i ns) (get_or ns i n)
 
-pub groups_push : (E : Env) (gs : List Group) (g : Group) → groups_over E (gs ++ g ∷ []) ≡ known_over g.border (groups_over E gs) g.names.value.items
+pub groups_push : (E : Env) (gs : List Group) (g : Group) → groups_over E (gs ++ g ∷ []) ≡ known_over g.border (groups_over E gs) g.names.value
 groups_push E [] g = refl
-groups_push E (h ∷ gs) g = groups_push (known_over h.border E h.names.value.items) gs g
+groups_push E (h ∷ gs) g = groups_push (known_over h.border E h.names.value) gs g
 
-pub groups_take : (gs : List Group) (i : ℕ) (g : Group) → i < length gs → groups_over [] (take (i + 1) gs) ≡ known_over (get_or gs i g).border (groups_over [] (take i gs)) (get_or gs i g).names.value.items
+pub groups_take : (gs : List Group) (i : ℕ) (g : Group) → i < length gs → groups_over [] (take (i + 1) gs) ≡ known_over (get_or gs i g).border (groups_over [] (take i gs)) (get_or gs i g).names.value
 groups_take gs i g h = ap (groups_over []) (take_more gs i g h) ∙ groups_push [] (take i gs) (get_or gs i g)
 
+-- a group in the place of the last two, by which as much is known
+pub merged_last : (gs : List Group) (c : ℕ) (o n m : Group) → c ≡ length gs → 1 < c → o ≡ get_or gs (c - 2) o → n ≡ get_or gs (c - 1) n → ((E : Env) → known_over m.border E m.names.value ≡ known_over n.border (known_over o.border E o.names.value) n.names.value) → groups_over [] (take (c - 2) gs ++ m ∷ []) ≡ groups_over [] gs
+merged_last gs c o n m len two eo en same =
+    let before = groups_over [] (take (c - 2) gs) in
+    let next : c - 2 + 1 ≡ c - 1 = omega arith in
+    let last : c - 1 + 1 ≡ length gs = omega arith in
+    groups_push [] (take (c - 2) gs) m ∙ same before
+    ∙ ap (λ y. known_over n.border (known_over y.border before y.names.value) n.names.value) eo
+    ∙ ap (λ F. known_over n.border F n.names.value) (sym (groups_take gs (c - 2) o (omega arith)))
+    ∙ ap (λ k. known_over n.border (groups_over [] (take k gs)) n.names.value) next
+    ∙ ap (λ y. known_over y.border (groups_over [] (take (c - 1) gs)) y.names.value) en
+    ∙ sym (groups_take gs (c - 1) n (omega arith))
+    ∙ ap (λ k. groups_over [] (take k gs)) last ∙ ap (groups_over []) (take-length gs)
+
 -- what a name means by the groups up to one, where it is known what it means by that one
-pub group_found : (gs : List Group) (i : ℕ) (g : Group) (ns : List Named) (n : Name) (m : Meant) → i < length gs → g ≡ get_or gs i g → ns ≡ g.names.value.items → meant_by (known_over g.border (groups_over [] (take i gs)) ns) n ≡ m → meant_by (groups_over [] (take (i + 1) gs)) n ≡ m
+pub group_found : (gs : List Group) (i : ℕ) (g : Group) (ns : List Named) (n : Name) (m : Meant) → i < length gs → g ≡ get_or gs i g → ns ≡ g.names.value → meant_by (known_over g.border (groups_over [] (take i gs)) ns) n ≡ m → meant_by (groups_over [] (take (i + 1) gs)) n ≡ m
 group_found gs i g ns n m h eg ens e =
     let E = groups_over [] (take i gs) in
-    ap (λ F. meant_by F n) (groups_take gs i g h) ∙ ap (λ y. meant_by (known_over y.border E y.names.value.items) n) (sym eg) ∙ ap (λ l. meant_by (known_over g.border E l) n) (sym ens) ∙ e
+    ap (λ F. meant_by F n) (groups_take gs i g h) ∙ ap (λ y. meant_by (known_over y.border E y.names.value) n) (sym eg) ∙ ap (λ l. meant_by (known_over g.border E l) n) (sym ens) ∙ e
+
+is_name-bytes_eq : (a b : Name) → is_name a b ≡ bytes_eq a b
+is_name-bytes_eq [] [] = refl
+is_name-bytes_eq [] (y ∷ b) = refl
+is_name-bytes_eq (x ∷ a) [] = refl
+is_name-bytes_eq (x ∷ a) (y ∷ b) = ap (λ t. (x == y) && t) (is_name-bytes_eq a b)
+
+-- one name more, and an index in which it has its meaning
+pub indexed_push : (b : Border) (E : Env) (ns : List Named) (n : Named) (q : Name) (r r1 : Option code.Meant) → r1 ≡ cond (bytes_eq n.name.now q) (Some n.meant) r → meant_by (known_over b E ns) q ≡ found_over b (meant_by E q) r → meant_by (known_over b E (ns ++ n ∷ [])) q ≡ found_over b (meant_by E q) r1
+indexed_push b E ns n q r r1 put e = ap (λ F. meant_by F q) (known_push b E ns n) ∙ by (is_name n.name.now q) (bytes_eq n.name.now q) (is_name-bytes_eq n.name.now q) ∙ ap (found_over b (meant_by E q)) (sym put)
+  where
+    by : (t u : Bool) → t ≡ u → elim t [ true ↦ over b (meant_view n.meant) | false ↦ meant_by (known_over b E ns) q ] ≡ found_over b (meant_by E q) (cond u (Some n.meant) r)
+    by true true h = refl
+    by true false h = absurd (true≢false h)
+    by false true h = absurd (true≢false (sym h))
+    by false false h = e
+
+pub indexed_take : (b : Border) (E : Env) (ns : List Named) (i : ℕ) (n : Named) (q : Name) (r r1 : Option code.Meant) → i < length ns → r1 ≡ cond (bytes_eq (get_or ns i n).name.now q) (Some (get_or ns i n).meant) r → meant_by (known_over b E (take i ns)) q ≡ found_over b (meant_by E q) r → meant_by (known_over b E (take (i + 1) ns)) q ≡ found_over b (meant_by E q) r1
+indexed_take b E ns i n q r r1 h put e = ap (λ l. meant_by (known_over b E l) q) (take_more ns i n h) ∙ indexed_push b E (take i ns) (get_or ns i n) q r r1 put e
 
 -- a border over which nothing more is seen otherwise
 outer_outer : (m : Meant) → outer (outer m) ≡ outer m

@@ -1,3 +1,5 @@
+pub mod Known
 pub mod View
 pub mod Crossing
+pub mod Index
 pub mod Kinds

@@ -9,6 +9,7 @@ mod numbers;
 mod refused;
 mod scope;
 mod sides;
+mod table;
 
 pub use constants::{constant, constant_in, operator};
 pub use declaring::{

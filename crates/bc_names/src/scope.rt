@@ -1,9 +1,10 @@
-ghost use Rattle.std.specs.Prelude.{◌≡◌, [], ◌∷◌, IfOk, List};
+ghost use Rattle.std.specs.Prelude.{◌≡◌, ◌<◌, [], ◌∷◌, IfOk, OnOk, IsTrue, List, length};
 ghost use Rattle.bc_scoping.specs.Scope.{Env, is_name, meant_by};
 ghost use Rattle.bc_scoping.specs.Scoping.{in_routine, in_valof};
 ghost use Rattle.bc_names.specs.View.{meant_view, scope_view, known_over, groups_over, found_or};
 ghost use Rattle.bc_names.specs.Crossing.{outer, outside, joined, over, all_over};
 
+use crate::table::NameTable;
 use bc_word::Memory;
 use std::alloc::Global;
 use std::mem;
@@ -11,6 +12,9 @@ use std::rc::Rc;
 
 /// How many of its newest names a scope has for itself. The older ones are shared with the scopes that it was copied from.
 const OWN: usize = 32;
+
+/// How many names a scope may move from groups to larger ones for each name that is declared in it.
+const MOVES: usize = 16;
 
 /// What a name means where it stands.
 #[derive(Clone, Copy, Debug, PartialEq, Eq)]
@@ -46,16 +50,16 @@ pub struct Named<'s> {
 
 /// What stands between a name and the place where it is seen.
 #[derive(Clone, Copy, Debug, PartialEq, Eq)]
-enum Border {
+pub(crate) enum Border {
     Open,
     Valof,
     Routine,
 }
 
-/// Names that scopes share, oldest first, and what stands between them and this scope's place.
+/// Names that scopes share, and what stands between them and this scope's place.
 #[derive(Drop)]
 struct Group<'s> {
-    names: Rc<Vec<Named<'s>>>,
+    names: Rc<NameTable<'s>>,
     border: Border,
 }
 
@@ -65,6 +69,8 @@ pub struct Scope<'s> {
     alloc: Global,
     groups: Vec<Group<'s>>,
     newest: Vec<Named<'s>>,
+    /// How many names may yet be moved from groups to larger ones. A copy begins with none, so that small copies move few.
+    moves: usize,
 }
 
 impl<'s> Scope<'s> {
@@ -77,6 +83,7 @@ impl<'s> Scope<'s> {
             alloc,
             groups: Vec::new(alloc),
             newest: Vec::new(alloc),
+            moves: 0,
         }
     }
 
@@ -92,10 +99,42 @@ impl<'s> Scope<'s> {
     {
         let none = Vec::with_capacity(self.alloc, OWN)?;
         let names = mem::replace(&mut self.newest, none);
+        let names = NameTable::new(self.alloc, names)?;
         self.groups.push(Group {
             names: Rc::new(self.alloc, names)?,
             border: Border::Open,
         })?;
+        Ok(())
+    }
+
+    /// The last two groups become one, if the older is at most twice as long and the moves suffice. Whether they did.
+    fn merge_last(&mut self) -> Result<bool, Memory>
+        ensures same { IfOk result (λ _. scope_view self.new ≡ scope_view self.old) }
+        ensures fewer { IfOk result (λ merged. IsTrue merged → length self.new.groups.items < length self.old.groups.items) }
+    {
+        let count = self.groups.len();
+        if count < 2 {
+            return Ok(false);
+        }
+        let older = &self.groups[count - 2];
+        let newer = &self.groups[count - 1];
+        let behind = newer.names.names().len();
+        let before = older.names.names().len();
+        if before / 2 > behind || before + behind > self.moves {
+            return Ok(false);
+        }
+        let merged = merged(self.alloc, older, newer)?;
+        self.groups.truncate(count - 2);
+        self.groups.push(merged)?;
+        self.moves -= before + behind;
+        Ok(true)
+    }
+
+    /// Last groups of like length become one, so that there are few, as far as the moves suffice.
+    fn merge(&mut self) -> Result<(), Memory>
+        ensures { IfOk result (λ _. scope_view self.new ≡ scope_view self.old) }
+    {
+        while self.merge_last()? {}
         Ok(())
     }
 
@@ -106,7 +145,9 @@ impl<'s> Scope<'s> {
     {
         if self.newest.len() >= OWN {
             self.share()?;
+            self.merge()?;
         }
+        self.moves = self.moves.saturating_add(MOVES);
         Ok(self.newest.push(Named { name, meant })?)
     }
 
@@ -115,14 +156,14 @@ impl<'s> Scope<'s> {
     pub fn meant_by(&self, name: &[u8]) -> Meant
         ensures { meant_view result ≡ meant_by (scope_view self.now) name.now }
     {
-        if let Some(meant) = find(&self.newest, Border::Open, name) {
+        if let Some(meant) = find(&self.newest, name) {
             return meant;
         }
         let mut i = self.groups.len();
         while i > 0 {
             i -= 1;
             let group = &self.groups[i];
-            if let Some(meant) = find(&group.names, group.border, name) {
+            if let Some(meant) = group.names.find(group.border, name) {
                 return meant;
             }
         }
@@ -145,17 +186,12 @@ impl<'s> Scope<'s> {
     }
 
     /// The newest names as they are seen over a border.
-    #[tactic(auto, using(crate::proofs::Names::known_push, crate::proofs::Names::known_take))]
+    #[tactic(auto, using(crate::proofs::Names::known_carried))]
     fn newest_over(&self, border: Border) -> Result<Vec<Named<'s>>, Memory>
         ensures { IfOk result (λ ns. (E : Env) → known_over Border.Open (all_over border E) ns.items ≡ all_over border (known_over Border.Open E self.now.newest.items)) }
     {
         let mut newest = Vec::with_capacity(self.alloc, OWN)?;
-        for named in &self.newest {
-            newest.push(Named {
-                name: named.name,
-                meant: meant_over(border, named.meant),
-            })?;
-        }
+        push_over(&mut newest, border, &self.newest)?;
         Ok(newest)
     }
 
@@ -168,6 +204,7 @@ impl<'s> Scope<'s> {
             alloc: self.alloc,
             groups: self.groups_over(border)?,
             newest: self.newest_over(border)?,
+            moves: 0,
         })
     }
 
@@ -196,17 +233,51 @@ impl<'s> Scope<'s> {
     }
 }
 
-/// What the newest of these names that is spelled so means, seen over a border.
+/// Two groups as one, whose names are seen as each group saw its own.
+fn merged<'s>(alloc: Global, older: &Group<'s>, newer: &Group<'s>) -> Result<Group<'s>, Memory>
+    ensures { IfOk result (λ g. (E : Env) → known_over g.border E g.names.value ≡ known_over newer.now.border (known_over older.now.border E older.now.names.value) newer.now.names.value) }
+{
+    let before = older.names.names();
+    let behind = newer.names.names();
+    let mut names = Vec::with_capacity(alloc, before.len() + behind.len())?;
+    push_over(&mut names, older.border, before)?;
+    push_over(&mut names, newer.border, behind)?;
+    let names = NameTable::new(alloc, names)?;
+    Ok(Group {
+        names: Rc::new(alloc, names)?,
+        border: Border::Open,
+    })
+}
+
+/// Names as they are seen over a border, behind those that are there.
+#[tactic(auto, using(crate::proofs::Names::known_push, crate::proofs::Names::known_take))]
+fn push_over<'s>(
+    before: &mut Vec<Named<'s>>,
+    border: Border,
+    names: &[Named<'s>],
+) -> Result<(), Memory>
+    ensures { IfOk result (λ _. (E : Env) → known_over Border.Open E before.new.items ≡ known_over border (known_over Border.Open E before.old.items) names.now) }
+{
+    for named in names {
+        before.push(Named {
+            name: named.name,
+            meant: meant_over(border, named.meant),
+        })?;
+    }
+    Ok(())
+}
+
+/// What the newest of these names that is spelled so means.
 #[tactic(auto, using(crate::proofs::Names::known_take))]
-fn find(names: &[Named<'_>], border: Border, name: &[u8]) -> Option<Meant>
-    ensures { (E : Env) → meant_by (known_over border E names.now) name.now ≡ found_or (meant_by E name.now) result }
+fn find(names: &[Named<'_>], name: &[u8]) -> Option<Meant>
+    ensures { (E : Env) → meant_by (known_over Border.Open E names.now) name.now ≡ found_or (meant_by E name.now) result }
 {
     let mut i = names.len();
     while i > 0 {
         i -= 1;
         let named = names[i];
         if is_spelled(named.name, name) {
-            return Some(meant_over(border, named.meant));
+            return Some(named.meant);
         }
     }
     None
@@ -241,7 +312,7 @@ fn joined(first: Border, second: Border) -> Border
     }
 }
 
-fn meant_over(border: Border, meant: Meant) -> Meant
+pub(crate) fn meant_over(border: Border, meant: Meant) -> Meant
     ensures { meant_view result ≡ over border (meant_view meant) }
 {
     match border {

@@ -288,6 +288,59 @@ fn labels_are_counted(rt: HostRuntime) -> Result<(), Fail> {
     Ok(())
 }
 
+/// A hundred names of two letters each.
+const NAMES: &[u8] =
+    b"A0A1A2A3A4A5A6A7A8A9B0B1B2B3B4B5B6B7B8B9C0C1C2C3C4C5C6C7C8C9D0D1D2D3D4D5D6D7D8D9E0E1E2E3E4E5E6E7E8E9F0F1F2F3F4F5F6F7F8F9G0G1G2G3G4G5G6G7G8G9H0H1H2H3H4H5H6H7H8H9I0I1I2I3I4I5I6I7I8I9J0J1J2J3J4J5J6J7J8J9";
+
+/// Where a hundred names are variables, and in a routine there each of them is a constant as well, and in a VALOF in that each is
+/// a label: how many names mean a variable outside, a constant in the routine, an outer variable in another
+/// routine, and a label outside of its VALOF in one more.
+fn many_known(alloc: Global) -> Result<[u64; 4], Memory> {
+    let mut outside = Scope::new(alloc);
+    for name in NAMES.chunks(2) {
+        outside.declare(name, Meant::Variable(3))?;
+    }
+    let mut routine = outside.in_routine()?;
+    let other = outside.in_routine()?;
+    for name in NAMES.chunks(2) {
+        routine.declare(name, Meant::Constant(4))?;
+    }
+    let mut valof = routine.in_valof()?;
+    for name in NAMES.chunks(2) {
+        valof.declare(name, Meant::Label(5))?;
+    }
+    let within = valof.in_valof()?;
+    Ok([
+        meaning(&outside, Meant::Variable(3)),
+        meaning(&routine, Meant::Constant(4)),
+        meaning(&other, Meant::OuterVariable),
+        meaning(&within, Meant::LabelOutside),
+    ])
+}
+
+/// How many of the names mean this.
+fn meaning(scope: &Scope<'_>, meant: Meant) -> u64 {
+    let mut count = 0u64;
+    for name in NAMES.chunks(2) {
+        if scope.meant_by(name) == meant {
+            count = count.saturating_add(1);
+        }
+    }
+    count
+}
+
+/// Names go into groups, and groups into larger ones.
+#[test]
+fn many_names_are_known(rt: HostRuntime) -> Result<(), Fail> {
+    assert_eq!(rt; many_known(rt.alloc())?, [100, 100, 100, 100]);
+    Ok(())
+}
+
+#[test]
+fn refused_groups_are_memory(rt: HostRuntime) {
+    assert!(rt; matches!(many_known(rt.alloc()), Ok([100, 100, 100, 100]) | Err(Memory)));
+}
+
 /// The first fault that `resolve` answers to sections that make it take memory in each of its ways, if there is one.
 fn grown(alloc: Global) -> Option<ScopeError<'static>> {
     let texts: [&[u8]; 2] = [

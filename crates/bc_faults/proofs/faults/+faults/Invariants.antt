@@ -135,14 +135,14 @@ invariant-initials-loop-e l =
 
 abbrev pub invariant-entries-loop-entry : goal.invariant-entries-loop-entry
 invariant-entries-loop-entry l =
-    (entries_fault l.storage (names_view l.before.items) (numbers_view l.progress.at) (entries_view (drop l.entry-index l.list)) (scope_view l.scope) ≡ entries_fault l.storage [] (numbers_view l.fn.progress.at) (entries_view l.list) (scope_view l.fn.scope))
+    (entries_fault l.storage (names_view l.before.keys) (numbers_view l.progress.at) (entries_view (drop l.entry-index l.list)) (scope_view l.scope) ≡ entries_fault l.storage [] (numbers_view l.fn.progress.at) (entries_view l.list) (scope_view l.fn.scope))
     × (in_entries l.storage (numbers_view l.progress.at) (entries_view (drop l.entry-index l.list)) (scope_view l.scope) ≡ in_entries l.storage (numbers_view l.fn.progress.at) (entries_view l.list) (scope_view l.fn.scope))
     × (behind_entries l.storage (numbers_view l.progress.at) (entries_view (drop l.entry-index l.list)) ≡ behind_entries l.storage (numbers_view l.fn.progress.at) (entries_view l.list))
     × (frames_fit l.progress.fits (found_in_entries l.storage (numbers_view l.progress.at) (entries_view (drop l.entry-index l.list)) (scope_view l.scope)) ≡ frames_fit l.fn.progress.fits (found_in_entries l.storage (numbers_view l.fn.progress.at) (entries_view l.list) (scope_view l.fn.scope)))
 
 abbrev pub invariant-definitions-loop-tree : goal.invariant-definitions-loop-tree
 invariant-definitions-loop-tree l =
-    (definitions_fault l.among.inside (names_view l.before.items) (scope_view l.among.constants.now) (scope_view l.among.names.now) (numbers_view l.progress.at) (definitions_view (drop l.tree-index l.list)) l.level ≡ definitions_fault l.among.inside [] (scope_view l.among.constants.now) (scope_view l.among.names.now) (numbers_view l.fn.progress.at) (definitions_view l.list) l.level)
+    (definitions_fault l.among.inside (names_view l.before.keys) (scope_view l.among.constants.now) (scope_view l.among.names.now) (numbers_view l.progress.at) (definitions_view (drop l.tree-index l.list)) l.level ≡ definitions_fault l.among.inside [] (scope_view l.among.constants.now) (scope_view l.among.names.now) (numbers_view l.fn.progress.at) (definitions_view l.list) l.level)
     × (max l.width (width_of_definitions (scope_view l.among.names.now) (numbers_view l.progress.at) (definitions_view (drop l.tree-index l.list)) l.level) ≡ width_of_definitions (scope_view l.among.names.now) (numbers_view l.fn.progress.at) (definitions_view l.list) l.level)
     × (behind_definitions (numbers_view l.progress.at) (definitions_view (drop l.tree-index l.list)) ≡ behind_definitions (numbers_view l.fn.progress.at) (definitions_view l.list))
     × (frames_fit l.progress.fits (found_in_definitions (scope_view l.among.names.now) (scope_view l.among.names.now) (numbers_view l.progress.at) (definitions_view (drop l.tree-index l.list)) l.level) ≡ frames_fit l.fn.progress.fits (found_in_definitions (scope_view l.among.names.now) (scope_view l.among.names.now) (numbers_view l.fn.progress.at) (definitions_view l.list) l.level))

@@ -5,4 +5,4 @@ use Rattle.bc_faults.proofs.judging.declare_all_once.Given as goal
 
 abbrev pub invariant-loop-name : goal.invariant-loop-name
 invariant-loop-name l =
-    (all_twice_fault (names_view l.before.items) (names_view (drop l.name-index l.names)) ≡ all_twice_fault (names_view l.fn.before.items) (names_view l.names)) × (names_view l.before.items ++ names_view (drop l.name-index l.names) ≡ names_view l.fn.before.items ++ names_view l.names)
+    (all_twice_fault (names_view l.before.keys) (names_view (drop l.name-index l.names)) ≡ all_twice_fault (names_view l.fn.before.keys) (names_view l.names)) × (names_view l.before.keys ++ names_view (drop l.name-index l.names) ≡ names_view l.fn.before.keys ++ names_view l.names)

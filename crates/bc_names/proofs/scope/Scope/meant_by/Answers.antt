@@ -12,6 +12,6 @@ returns-in-Some-find c =
     let n = c.args.name.now in
     let i : c.loop-i.i - 1 + 1 ≡ c.loop-i.i = omega arith in
     let e = ap (λ k. meant_by (groups_over [] (take k gs)) n) i in
-    let m = group_found gs (c.loop-i.i - 1) c.index-group.result.now c.deref-in-loop-i-2.result.now n (meant_view c.in-Some-find.meant) (omega arith) c.index-group.ensures (search rules) (c.in-Some-find.ensures (groups_over [] (take (c.loop-i.i - 1) gs))) in
+    let m = group_found gs (c.loop-i.i - 1) c.index-group.result.now c.deref-in-loop-i.result.now n (meant_view c.in-Some-find.meant) (omega arith) c.index-group.ensures (search rules) (c.in-Some-find.ensures (groups_over [] (take (c.loop-i.i - 1) gs))) in
     let own = ap (λ ns. meant_by (known_over border.Open (groups_over [] gs) ns) n) c.deref.ensures.value in
     sym m ∙ e ∙ c.loop-i.invariant.1 ∙ sym (c.in_default.ensures (groups_over [] gs)) ∙ own

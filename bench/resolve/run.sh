@@ -1,0 +1,23 @@
+#!/usr/bin/env bash
+# bench/resolve/run.sh: the time of `resolve` alone, on a generated program of almost 60,000 tokens and on one of half as many, and on programs that
+# ask much of scopes (bench/build/make_names.py): the best of twenty runs of each, taken in turn.
+set -eu
+cd "$(dirname "$0")"
+. ../workspace.sh
+make_workspace resolve_bench resolve.rt.in anyhow bc_lex bc_parse bc_scope
+python3 ../build/make_program.py 59950 >"$work/program-whole"
+python3 ../build/make_program.py 29950 >"$work/program-half"
+for kind in constants routines blocks nested one tiny; do
+    python3 ../build/make_names.py "$kind" 59000 >"$work/$kind-whole"
+    python3 ../build/make_names.py "$kind" 29500 >"$work/$kind-half"
+done
+build_program <"$work/program-half"
+for kind in program constants routines blocks nested one tiny; do
+    for _ in $(seq 20); do
+        echo "$("$program" <"$work/$kind-whole") $("$program" <"$work/$kind-half")"
+    done | awk -v kind="$kind" '
+        NR == 1 || $1 < whole { whole = $1 }
+        NR == 1 || $4 < half { half = $4 }
+        { tokens = $2; resolved = $3 " " $6 }
+        END { printf "%s: %d tokens in %.1f ms, twice the program takes %.2f times as long (resolved: %s)\n", kind, tokens, whole / 1000000, whole / half, resolved }'
+done

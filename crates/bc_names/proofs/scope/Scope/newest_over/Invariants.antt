@@ -1,9 +1,0 @@
-use Rattle.std.proofs.Common.{◌≡◌, take}
-use Rattle.bc_scoping.specs.Scope.{Env}
-use Rattle.bc_names.specs.declared.scope.Border.TheVariants as border
-use Rattle.bc_names.specs.View.{known_over}
-use Rattle.bc_names.specs.Crossing.{all_over}
-use Rattle.bc_names.proofs.scope.Scope.newest_over.Given as goal
-
-abbrev pub invariant-loop-named : goal.invariant-loop-named
-invariant-loop-named l = (E : Env) → known_over border.Open (all_over l.border E) l.newest.items ≡ all_over l.border (known_over border.Open E (take l.named-index l.self.newest.items))
