@@ -12,8 +12,8 @@ ghost use Rattle.bc_least.specs.Chosen.{assign_choice as assignment_of};
 ghost use Rattle.bc_select.specs.Small.{Small, AreSmall};
 
 use crate::candidates::{
-    alone, any_words, better, both, is, least_from, number_cost, number_words, operand_words, plus, sum,
-    with_operand, with_operand_and, words,
+    alone, any_words, better, both, is, least_from, number_cost, number_words, operand_words, plus,
+    sum, with_operand, with_operand_and, words,
 };
 use bc_core::Operand;
 use bc_derive::Rule;
