@@ -142,22 +142,16 @@ pub fn is(op: Op, wanted: Op) -> bool
     Word::from(op).get() == Word::from(wanted).get()
 }
 
-/// The better one of a choice and a candidate; of equal ones the choice.
-fn better(best: Option<Choice>, candidate: Candidate) -> Option<Choice>
-    ensures { result ≡ better_of best candidate.rule candidate.words }
+/// The better one of a choice and of a rule's words; of equal ones the choice.
+pub fn better(best: Option<Choice>, rule: Rule, words: Option<u64>) -> Option<Choice>
+    ensures { result ≡ better_of best rule words }
 {
-    match (best, candidate.words) {
+    match (best, words) {
         (_, None) => best,
-        (None, Some(words)) => Some(Choice {
-            words,
-            rule: candidate.rule,
-        }),
+        (None, Some(words)) => Some(Choice { words, rule }),
         (Some(b), Some(words)) => {
             if words < b.words {
-                Some(Choice {
-                    words,
-                    rule: candidate.rule,
-                })
+                Some(Choice { words, rule })
             } else {
                 Some(b)
             }
@@ -171,7 +165,7 @@ pub fn least_from(best: Option<Choice>, candidates: &[Candidate]) -> Option<Choi
 {
     let mut least = best;
     for candidate in candidates {
-        least = better(least, *candidate);
+        least = better(least, candidate.rule, candidate.words);
     }
     least
 }

@@ -1,18 +1,19 @@
 // The choices of a binary operator, from those of its operands.
-#![tactic(auto, unfolding(bc_least::specs::Options::given))]
+#![tactic(auto, unfolding(bc_least::specs::Options::given, bc_least::specs::Options::better, bc_least::specs::Options::least_from))]
 
-ghost use Rattle.std.specs.Prelude.{◌≡◌, ◌<◌, ◌≤◌, ◌+◌, ◌^◌, ◌∷◌, ◌++◌, None};
+ghost use Rattle.std.specs.Prelude.{◌≡◌, ◌<◌, ◌≤◌, ◌+◌, ◌^◌, ◌∷◌, ◌++◌, None, true, false};
 ghost use Rattle.bc_derive.specs.declared.rule.Table.TheVariants.{Two};
-ghost use Rattle.bc_derive.specs.declared.rule.Rule.TheVariants.{V0};
-ghost use Rattle.bc_derive.specs.Free.{is_plain_operator, direct_operand};
-ghost use Rattle.bc_least.specs.Options.{least_from as least_of, words_of, given as given_of, only as only_of, candidate};
-ghost use Rattle.bc_least.specs.Choices.{zero_number, beside as beside_of, without as without_of, free as are_free, mixed as mixed_of, worked as worked_of, pair_tests as tests_of, pair_choices as choices_of};
+ghost use Rattle.bc_derive.specs.declared.rule.Rule.TheVariants.{V0, J6};
+ghost use Rattle.bc_word.specs.declared.operator.Op.TheVariants.{Add, Subtract};
+ghost use Rattle.bc_derive.specs.Free.{direct_operand};
+ghost use Rattle.bc_least.specs.Options.{least_from as least_of, better as better_of, plus as plus_of, words_of, given as given_of, only as only_of, candidate};
+ghost use Rattle.bc_least.specs.Choices.{zero_number, beside as beside_of, free as are_free, mixed as mixed_of, worked as worked_of, pair_tests as tests_of, pair_choices as choices_of};
 ghost use Rattle.bc_least.specs.Chosen.{assign_choice as assignment_of};
 ghost use Rattle.bc_select.specs.Small.{Small, AreSmall};
 
 use crate::candidates::{
-    alone, any_words, both, is, least_from, number_cost, number_words, operand_words, plus, sum,
-    with_operand, with_operand_and, words,
+    alone, any_words, better, both, is, least_from, number_cost, number_words, operand_words, plus,
+    sum, with_operand, with_operand_and, words,
 };
 use bc_core::Operand;
 use bc_derive::Rule;
@@ -65,30 +66,6 @@ fn only(wanted: Op, op: Op, x: Option<u64>) -> Option<u64>
     given(is(op, wanted), x)
 }
 
-/// Whether the test of an operator is made of its value.
-fn is_plain(op: Op) -> bool
-    ensures { result ≡ is_plain_operator op }
-{
-    match op {
-        Op::And | Op::Or => false,
-        Op::Multiply
-        | Op::Divide
-        | Op::Remainder
-        | Op::Add
-        | Op::Subtract
-        | Op::Equal
-        | Op::NotEqual
-        | Op::Less
-        | Op::GreaterEqual
-        | Op::Greater
-        | Op::LessEqual
-        | Op::ShiftLeft
-        | Op::ShiftRight
-        | Op::NotEquivalent
-        | Op::Equivalent => true,
-    }
-}
-
 /// Of the words of two operands those of the one beside a 0; the second 0 is taken first.
 fn beside(pair: &Pair, x: Option<u64>, y: Option<u64>) -> Option<u64>
     requires first { Small x }
@@ -105,15 +82,53 @@ fn beside(pair: &Pair, x: Option<u64>, y: Option<u64>) -> Option<u64>
     }
 }
 
-/// The same for a sum, and for a difference where the second operand is 0.
-fn without_zero(pair: &Pair, x: Option<u64>, y: Option<u64>) -> Option<u64>
+/// The rules of a sum by which one operand stays in the instruction, where the operands have these words.
+fn mixed_sum(best: Option<Choice>, pair: &Pair, x: Option<u64>, y: Option<u64>) -> Option<Choice>
+    requires sum { pair.now.op ≡ Add }
     requires first { Small x }
     requires second { Small y }
-    ensures { result ≡ without_of pair.now.op pair.now.left pair.now.right x y }
+    ensures { result ≡ least_of best (mixed_of pair.now.op pair.now.left pair.now.right x y) }
+{
+    let free = free(&pair.left, &pair.right);
+    let add_second = with_operand(x, pair.right.operand);
+    let add_first = given(free, with_operand(y, pair.left.operand));
+    let best = better(best, Rule::V6, add_second);
+    let best = better(best, Rule::V7, add_first);
+    better(best, Rule::V8, beside(pair, x, y))
+}
+
+/// The rules of a difference.
+fn mixed_difference(
+    best: Option<Choice>,
+    pair: &Pair,
+    x: Option<u64>,
+    y: Option<u64>,
+) -> Option<Choice>
+    requires difference { pair.now.op ≡ Subtract }
+    requires first { Small x }
+    requires second { Small y }
+    ensures { result ≡ least_of best (mixed_of pair.now.op pair.now.left pair.now.right x y) }
+{
+    let free = free(&pair.left, &pair.right);
+    let less_number = sum(x, number_cost(pair.right.number));
+    let less_second = with_operand_and(x, pair.right.operand, 2);
+    let from_first = given(free, with_operand_and(y, pair.left.operand, 1));
+    let best = better(best, Rule::V8, given(is_zero(pair.right.number), x));
+    let best = better(best, Rule::V9, less_number);
+    let best = better(best, Rule::V10, less_second);
+    better(best, Rule::V11, from_first)
+}
+
+/// The rules by which one operand stays in the instruction, where the operands have these words: only sums and
+/// differences have any.
+fn mixed(best: Option<Choice>, pair: &Pair, x: Option<u64>, y: Option<u64>) -> Option<Choice>
+    requires first { Small x }
+    requires second { Small y }
+    ensures { result ≡ least_of best (mixed_of pair.now.op pair.now.left pair.now.right x y) }
 {
     match pair.op {
-        Op::Add => beside(pair, x, y),
-        Op::Subtract => given(is_zero(pair.right.number), x),
+        Op::Add => mixed_sum(best, pair, x, y),
+        Op::Subtract => mixed_difference(best, pair, x, y),
         Op::Multiply
         | Op::Divide
         | Op::Remainder
@@ -128,53 +143,8 @@ fn without_zero(pair: &Pair, x: Option<u64>, y: Option<u64>) -> Option<u64>
         | Op::And
         | Op::Or
         | Op::NotEquivalent
-        | Op::Equivalent => None,
+        | Op::Equivalent => best,
     }
-}
-
-/// The rules by which one operand stays in the instruction, where the operands have these words.
-fn mixed(best: Option<Choice>, pair: &Pair, x: Option<u64>, y: Option<u64>) -> Option<Choice>
-    requires first { Small x }
-    requires second { Small y }
-    ensures { result ≡ least_of best (mixed_of pair.now.op pair.now.left pair.now.right x y) }
-{
-    let op = pair.op;
-    let free = free(&pair.left, &pair.right);
-    let add_second = only(Op::Add, op, with_operand(x, pair.right.operand));
-    let add_first = only(Op::Add, op, given(free, with_operand(y, pair.left.operand)));
-    let less_number = only(Op::Subtract, op, sum(x, number_cost(pair.right.number)));
-    let less_second = only(Op::Subtract, op, with_operand_and(x, pair.right.operand, 2));
-    let negated_first = with_operand_and(y, pair.left.operand, 1);
-    let from_first = only(Op::Subtract, op, given(free, negated_first));
-    least_from(
-        best,
-        &[
-            Candidate {
-                rule: Rule::V6,
-                words: add_second,
-            },
-            Candidate {
-                rule: Rule::V7,
-                words: add_first,
-            },
-            Candidate {
-                rule: Rule::V8,
-                words: without_zero(pair, x, y),
-            },
-            Candidate {
-                rule: Rule::V9,
-                words: less_number,
-            },
-            Candidate {
-                rule: Rule::V10,
-                words: less_second,
-            },
-            Candidate {
-                rule: Rule::V11,
-                words: from_first,
-            },
-        ],
-    )
 }
 
 /// The rules by which both operands are worked out.
@@ -196,107 +166,86 @@ fn worked(best: Option<Choice>, pair: &Pair) -> Option<Choice>
     let exchanged = both(y, pushed_first, 1);
     let from_pushed = given(free, both(y, pushed_first, 2));
     let difference = both(x, y, 1 + held);
-    least_from(
-        best,
-        &[
-            Candidate {
-                rule: Rule::V12,
-                words: both(x, pushed_second, 1),
-            },
-            Candidate {
-                rule: Rule::V13,
-                words: given(mirrored, given(free, exchanged)),
-            },
-            Candidate {
-                rule: Rule::V14,
-                words: only(Op::Subtract, op, from_pushed),
-            },
-            Candidate {
-                rule: Rule::V15,
-                words: given(mirrored, difference),
-            },
-            Candidate {
-                rule: Rule::V16,
-                words: given(free, both(y, x, 1 + held)),
-            },
-            Candidate {
-                rule: Rule::V17,
-                words: both(x, y, 1 + held + held_too),
-            },
-            Candidate {
-                rule: Rule::V18,
-                words: only(Op::Add, op, both(x, y, held)),
-            },
-            Candidate {
-                rule: Rule::V19,
-                words: only(Op::Subtract, op, difference),
-            },
-        ],
-    )
+    let best = better(best, Rule::V12, both(x, pushed_second, 1));
+    let best = better(best, Rule::V13, given(mirrored, given(free, exchanged)));
+    let best = better(best, Rule::V14, only(Op::Subtract, op, from_pushed));
+    let best = better(best, Rule::V15, given(mirrored, difference));
+    let best = better(best, Rule::V16, given(free, both(y, x, 1 + held)));
+    let best = better(best, Rule::V17, both(x, y, 1 + held + held_too));
+    let best = better(best, Rule::V18, only(Op::Add, op, both(x, y, held)));
+    better(best, Rule::V19, only(Op::Subtract, op, difference))
 }
 
-/// The rules of a jump on this sense, where the value takes so many words.
-fn tests(pair: &Pair, any: Option<u64>, sense: bool) -> Option<Choice>
+/// The choice of a jump that is made of a value of so many words.
+fn value_test(any: Option<u64>) -> Option<Choice>
+    requires { Small any }
+    ensures { result ≡ better_of None J6 (plus_of any 2) }
+{
+    better(None, Rule::J6, plus(any, 2))
+}
+
+/// The words of a jump on whether an operand is 0, where the other one is.
+fn zero_test(pair: &Pair) -> Option<u64>
+    requires first { AreSmall pair.now.left.choices }
+    requires second { AreSmall pair.now.right.choices }
+    ensures { result ≡ plus_of (beside_of pair.now.left pair.now.right (words_of pair.now.left.choices.any) (words_of pair.now.right.choices.any)) 2 }
+{
+    let x = words(pair.left.choices.any);
+    let y = words(pair.right.choices.any);
+    plus(beside(pair, x, y), 2)
+}
+
+/// The rules of a jump on false, where the value takes so many words.
+fn tests_on_false(pair: &Pair, any: Option<u64>) -> Option<Choice>
     requires first { AreSmall pair.now.left.choices }
     requires second { AreSmall pair.now.right.choices }
     requires value { Small any }
-    ensures { result ≡ least_of None (tests_of Two pair.now.op pair.now.left pair.now.right any sense) }
+    ensures { result ≡ least_of None (tests_of Two pair.now.op pair.now.left pair.now.right any false) }
 {
-    let op = pair.op;
-    let left = pair.left.choices;
-    let right = pair.right.choices;
-    let by_value = given(is_plain(op), plus(any, 2));
-    let zero = plus(beside(pair, words(left.any), words(right.any)), 2);
-    let equal = Candidate {
-        rule: Rule::J8,
-        words: only(Op::Equal, op, zero),
-    };
-    let not_equal = Candidate {
-        rule: Rule::J9,
-        words: only(Op::NotEqual, op, zero),
-    };
-    let value = Candidate {
-        rule: Rule::J6,
-        words: by_value,
-    };
-    if sense {
-        let conjunction = sum(words(left.on_false), words(right.on_true));
-        let disjunction = sum(words(left.on_true), words(right.on_true));
-        least_from(
-            None,
-            &[
-                Candidate {
-                    rule: Rule::J3,
-                    words: only(Op::And, op, conjunction),
-                },
-                Candidate {
-                    rule: Rule::J4,
-                    words: only(Op::Or, op, disjunction),
-                },
-                value,
-                equal,
-                not_equal,
-            ],
-        )
-    } else {
-        let conjunction = sum(words(left.on_false), words(right.on_false));
-        let disjunction = sum(words(left.on_true), words(right.on_false));
-        least_from(
-            None,
-            &[
-                Candidate {
-                    rule: Rule::J2,
-                    words: only(Op::And, op, conjunction),
-                },
-                Candidate {
-                    rule: Rule::J5,
-                    words: only(Op::Or, op, disjunction),
-                },
-                value,
-                equal,
-                not_equal,
-            ],
-        )
+    let left = &pair.left.choices;
+    let right = &pair.right.choices;
+    match pair.op {
+        Op::And => {
+            let conjunction = sum(words(left.on_false), words(right.on_false));
+            better(None, Rule::J2, conjunction)
+        }
+        Op::Or => {
+            let disjunction = sum(words(left.on_true), words(right.on_false));
+            better(None, Rule::J5, disjunction)
+        }
+        Op::Equal => better(value_test(any), Rule::J8, zero_test(pair)),
+        Op::NotEqual => better(value_test(any), Rule::J9, zero_test(pair)),
+        Op::Multiply | Op::Divide | Op::Remainder | Op::Add | Op::Subtract => value_test(any),
+        Op::Less | Op::GreaterEqual | Op::Greater | Op::LessEqual => value_test(any),
+        Op::ShiftLeft | Op::ShiftRight => value_test(any),
+        Op::NotEquivalent | Op::Equivalent => value_test(any),
+    }
+}
+
+/// The rules of a jump on true, where the value takes so many words.
+fn tests_on_true(pair: &Pair, any: Option<u64>) -> Option<Choice>
+    requires first { AreSmall pair.now.left.choices }
+    requires second { AreSmall pair.now.right.choices }
+    requires value { Small any }
+    ensures { result ≡ least_of None (tests_of Two pair.now.op pair.now.left pair.now.right any true) }
+{
+    let left = &pair.left.choices;
+    let right = &pair.right.choices;
+    match pair.op {
+        Op::And => {
+            let conjunction = sum(words(left.on_false), words(right.on_true));
+            better(None, Rule::J3, conjunction)
+        }
+        Op::Or => {
+            let disjunction = sum(words(left.on_true), words(right.on_true));
+            better(None, Rule::J4, disjunction)
+        }
+        Op::Equal => better(value_test(any), Rule::J8, zero_test(pair)),
+        Op::NotEqual => better(value_test(any), Rule::J9, zero_test(pair)),
+        Op::Multiply | Op::Divide | Op::Remainder | Op::Add | Op::Subtract => value_test(any),
+        Op::Less | Op::GreaterEqual | Op::Greater | Op::LessEqual => value_test(any),
+        Op::ShiftLeft | Op::ShiftRight => value_test(any),
+        Op::NotEquivalent | Op::Equivalent => value_test(any),
     }
 }
 
@@ -358,8 +307,8 @@ pub fn pair_choices(pair: &Pair, operand: Option<Operand>) -> Choices
     Choices {
         any,
         push,
-        on_false: tests(pair, value, false),
-        on_true: tests(pair, value, true),
+        on_false: tests_on_false(pair, value),
+        on_true: tests_on_true(pair, value),
     }
 }
 

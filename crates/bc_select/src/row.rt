@@ -48,7 +48,7 @@ fn row_from(part: &Part) -> Row
 pub fn rows_of(alloc: Global, parts: &[Part]) -> Result<Vec<Row>, Memory>
     ensures { IfOk result (λ v. v.items ≡ map row_of parts.now) }
 {
-    let mut rows = Vec::new(alloc);
+    let mut rows = Vec::with_capacity(alloc, parts.len())?;
     for part in parts {
         rows.push(row_from(part))?;
     }

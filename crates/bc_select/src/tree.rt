@@ -20,7 +20,7 @@ pub fn tree(rule: Rule, parts: Vec<Derivation>) -> Derivation
 pub fn one(alloc: Global, first: Derivation) -> Result<Vec<Derivation>, Memory>
     ensures { IfOk result (λ v. derivations v.items ≡ one_tree (derivation first)) }
 {
-    let mut parts = Vec::new(alloc);
+    let mut parts = Vec::with_capacity(alloc, 1)?;
     parts.push(first)?;
     Ok(parts)
 }
@@ -29,7 +29,7 @@ pub fn one(alloc: Global, first: Derivation) -> Result<Vec<Derivation>, Memory>
 pub fn two(alloc: Global, first: Derivation, second: Derivation) -> Result<Vec<Derivation>, Memory>
     ensures { IfOk result (λ v. derivations v.items ≡ two_trees (derivation first) (derivation second)) }
 {
-    let mut parts = Vec::new(alloc);
+    let mut parts = Vec::with_capacity(alloc, 2)?;
     parts.push(first)?;
     parts.push(second)?;
     Ok(parts)
@@ -44,7 +44,7 @@ pub fn three(
 ) -> Result<Vec<Derivation>, Memory>
     ensures { IfOk result (λ v. derivations v.items ≡ three_trees (derivation first) (derivation second) (derivation third)) }
 {
-    let mut parts = Vec::new(alloc);
+    let mut parts = Vec::with_capacity(alloc, 3)?;
     parts.push(first)?;
     parts.push(second)?;
     parts.push(third)?;
