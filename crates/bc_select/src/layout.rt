@@ -1,6 +1,4 @@
 // The nodes of an expression in one vector, parts before wholes.
-//
-// A function of its own for each form keeps the stack small that a deep expression takes: it is touched as the vector is.
 
 ghost use Rattle.std.specs.Prelude.{◌≡◌, ◌<◌, ◌≤◌, ◌+◌, ◌*◌, ◌^◌, ◌++◌, IfOk, OnOk};
 ghost use Rattle.bc_core.specs.Tree as tree;
@@ -54,7 +52,6 @@ pub fn operand_node(e: &CoreExp, part: &Part) -> Node
 }
 
 /// The node of a binary operator, which is this operand.
-#[inline(never)]
 fn pair_part(pair: &Pair, operand: Option<Operand>) -> Part
     requires first { AreSmall pair.now.left.choices }
     requires second { AreSmall pair.now.right.choices }
@@ -72,7 +69,6 @@ fn pair_part(pair: &Pair, operand: Option<Operand>) -> Part
 
 /// The content of a cell.
 #[cycle(laying)]
-#[inline(never)]
 fn load_node(address: &CoreExp, level: u64, nodes: &mut Vec<Part>) -> Result<Part, Memory>
     requires { level + 2 * nodes_in (tree.Load (exp address.now)) ≤ 2 ^ 40 }
     ensures node { IfOk result (λ n. n ≡ node_of (tree.Load (exp address.now)) level) }
@@ -88,7 +84,6 @@ fn load_node(address: &CoreExp, level: u64, nodes: &mut Vec<Part>) -> Result<Par
 
 /// A negation.
 #[cycle(laying)]
-#[inline(never)]
 fn neg_node(part: &CoreExp, level: u64, nodes: &mut Vec<Part>) -> Result<Part, Memory>
     requires { level + 2 * nodes_in (tree.Neg (exp part.now)) ≤ 2 ^ 40 }
     ensures node { IfOk result (λ n. n ≡ node_of (tree.Neg (exp part.now)) level) }
@@ -104,7 +99,6 @@ fn neg_node(part: &CoreExp, level: u64, nodes: &mut Vec<Part>) -> Result<Part, M
 
 /// NOT.
 #[cycle(laying)]
-#[inline(never)]
 fn not_node(part: &CoreExp, level: u64, nodes: &mut Vec<Part>) -> Result<Part, Memory>
     requires { level + 2 * nodes_in (tree.Not (exp part.now)) ≤ 2 ^ 40 }
     ensures node { IfOk result (λ n. n ≡ node_of (tree.Not (exp part.now)) level) }
@@ -120,7 +114,6 @@ fn not_node(part: &CoreExp, level: u64, nodes: &mut Vec<Part>) -> Result<Part, M
 
 /// A binary operator.
 #[cycle(laying)]
-#[inline(never)]
 fn pair_node(
     operator: &Operator,
     left: &CoreExp,
@@ -145,7 +138,6 @@ fn pair_node(
 
 /// `condition -> this, that`.
 #[cycle(laying)]
-#[inline(never)]
 fn cond_node(
     condition: &CoreExp,
     this: &CoreExp,
@@ -196,7 +188,6 @@ fn arguments_nodes(
 
 /// A call.
 #[cycle(laying)]
-#[inline(never)]
 fn call_node(
     arguments: &[CoreExp],
     routine: &CoreExp,

@@ -80,7 +80,6 @@ fn test_choice(any: Option<Choice>) -> Option<Choice>
 }
 
 /// The choices of an expression whose test is made of its value.
-#[inline(never)]
 fn line(operand: Option<Operand>, pushes: &[Candidate], values: &[Candidate]) -> Choices
     requires { Small (words_of (line_of operand pushes.now values.now by_value_of).any) }
     ensures { result ≡ line_of operand pushes.now values.now by_value_of }
@@ -125,7 +124,6 @@ fn number_test(number: Word, any: Option<Choice>, sense: bool) -> Option<Choice>
 }
 
 /// Those of a number, which is this operand.
-#[inline(never)]
 pub fn number_choices(operand: Option<Operand>, number: Word) -> Choices
     requires { Small (words_of (number_of operand number).any) }
     ensures { result ≡ number_of operand number }
@@ -158,7 +156,6 @@ pub fn unary_choices(rule: Rule, operand: Option<Operand>, part: &Choices) -> Ch
 }
 
 /// Those of NOT.
-#[inline(never)]
 pub fn not_choices(part: &Choices) -> Choices
     requires { AreSmall part.now }
     ensures { result ≡ not_of part.now }
