@@ -76,11 +76,8 @@ pub fn constant_in(scope: &Scope<'_>, e: &Exp<'_>) -> Option<Word>
             let right = constant_in(scope, right);
             of_dyadic(operator(*sign), left, right)
         }
-        Exp::String(_)
-        | Exp::Table(_)
-        | Exp::Valof(_)
-        | Exp::Condition { .. }
-        | Exp::Call(_, _) => None,
+        Exp::String(_) | Exp::Table(_) | Exp::Valof(_) | Exp::Condition { .. } | Exp::Call(_, _) =>
+            None,
     }
 }
 

@@ -185,9 +185,12 @@ fn behind_command(at: Numbers, command: &Command<'_>) -> Result<Numbers, Memory>
         Command::Test { test, this, that } => {
             behind_block(behind_block(behind(at, test)?, this)?, that)
         }
-        Command::For { start, limit, body, .. } => {
-            behind_block(behind(behind(at, start)?, limit)?, body)
-        }
+        Command::For {
+            start,
+            limit,
+            body,
+            ..
+        } => { behind_block(behind(behind(at, start)?, limit)?, body) }
         Command::SwitchOn(value, items) => {
             let at = behind(at, value)?;
             behind_items(at.behind_labels(labels_in(items)?)?, items)

@@ -338,7 +338,12 @@ fn many_names_are_known(rt: HostRuntime) -> Result<(), Fail> {
 
 #[test]
 fn refused_groups_are_memory(rt: HostRuntime) {
-    assert!(rt; matches!(many_known(rt.alloc()), Ok([100, 100, 100, 100]) | Err(Memory)));
+    assert!(rt;
+        matches!(
+            many_known(rt.alloc()),
+            Ok([100, 100, 100, 100]) | Err(Memory)
+        )
+    );
 }
 
 /// The first fault that `resolve` answers to sections that make it take memory in each of its ways, if there is one.
