@@ -1,5 +1,5 @@
 -- From the first fault and the translation to what resolving answers.
-use Rattle.std.proofs.Common.{◌≡◌, ℕ, ◌≤◌, ◌<◌, refl, ap, sym, ◌∙◌, suc, List, [], ◌∷◌, length, nat_le, IsTrue, false, Option, Some, None, arith}
+use Rattle.std.proofs.Common.{◌≡◌, ℕ, ◌+◌, ◌≤◌, ◌<◌, refl, ap, sym, ◌∙◌, suc, List, [], ◌∷◌, length, nat_le, IsTrue, false, Option, Some, None, arith}
 use Rattle.std.proofs.lemmas.List.{length-map}
 use Rattle.bc_core.specs.View.{section, place_of}
 use Rattle.bc_core.specs.WellFormed.{is_core}
@@ -48,12 +48,15 @@ fault_stays e ds h = let s = stays e (judged ds) (places_fault (found_in_section
 pub then_places : (ds : Declarations) → judged ds ≡ None → section_fault ds ≡ places_fault (found_in_section ds)
 then_places ds h = places_last ds ∙ ap (λ x. or_else x (places_fault (found_in_section ds))) h
 
+one_more : (a b : ℕ) → a ≡ b → suc a ≡ 1 + b
+one_more a b h = omega (arith, h)
+
 -- as many places as were found
 each_place : (things : List Thing) → length (places_of things) ≡ places_among things
 each_place [] = refl
 each_place (AValof f ∷ things) = each_place things
-each_place (ARoutine r ∷ things) = ap suc (each_place things)
-each_place (Data m d ∷ things) = ap suc (each_place things)
+each_place (ARoutine r ∷ things) = one_more _ _ (each_place things)
+each_place (Data m d ∷ things) = one_more _ _ (each_place things)
 
 pub counted : (ds : Declarations) (ps : List Place) (vs : List Valof) → section (ps, vs) ≡ core_of ds → length ps ≡ places_among (found_in_section ds)
 counted ds ps vs e = sym (length-map ps place_of) ∙ ap (λ c. length c.places) e ∙ each_place (found_in_section ds)
