@@ -336,16 +336,6 @@ fn many_names_are_known(rt: HostRuntime) -> Result<(), Fail> {
     Ok(())
 }
 
-#[test]
-fn refused_groups_are_memory(rt: HostRuntime) {
-    assert!(rt;
-        matches!(
-            many_known(rt.alloc()),
-            Ok([100, 100, 100, 100]) | Err(Memory)
-        )
-    );
-}
-
 /// The first fault that `resolve` answers to sections that make it take memory in each of its ways, if there is one.
 fn grown(alloc: Global) -> Option<ScopeError<'static>> {
     let texts: [&[u8]; 2] = [
