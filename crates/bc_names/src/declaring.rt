@@ -179,7 +179,7 @@ pub fn in_let<'s>(
 ) -> Result<Scope<'s>, Memory>
     ensures { IfOk result (λ s. scope_view s ≡ in_definitions (scope_view before.now) (scope_view constants.now) (numbers_view at) level (definitions_view definitions.now) (scope_view before.now)) }
 {
-    let mut scope = before.copied()?;
+    let mut scope = before.continued()?;
     let mut at = at;
     let mut offset = level;
     for definition in definitions {

@@ -216,6 +216,16 @@ impl<'s> Scope<'s> {
         self.seen_over(Border::Open)
     }
 
+    /// The same names for what follows them, with what may yet be moved.
+    #[tactic(auto, unfolding(crate::specs::View::scope_view))]
+    pub fn continued(&self) -> Result<Scope<'s>, Memory>
+        ensures { IfOk result (λ s. scope_view s ≡ scope_view self.now) }
+    {
+        let mut scope = self.copied()?;
+        scope.moves = self.moves;
+        Ok(scope)
+    }
+
     /// The same names as they are known in a routine that stands here.
     #[tactic(auto, using(crate::proofs::Names::all_outer))]
     pub fn in_routine(&self) -> Result<Scope<'s>, Memory>
