@@ -12,8 +12,6 @@ mod mark;
 mod nodes;
 mod rule_names;
 mod slot;
-#[cfg(test)]
-mod tests;
 mod text;
 mod trees;
 mod walk;

@@ -11,8 +11,6 @@ mod exchange;
 mod levels;
 mod parts;
 mod sizes;
-#[cfg(test)]
-mod tests;
 mod writer;
 mod writing;
 

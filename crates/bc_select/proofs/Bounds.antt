@@ -24,11 +24,7 @@ use Rattle.bc_least.specs.declared.choice.Candidate.{Candidate}
 use Rattle.bc_least.specs.declared.choice.Node.{Node}
 use Rattle.bc_least.specs.Options.{plus, more, sum, given, operand_cost, words_of, choice, candidate, better, least_from}
 use Rattle.bc_least.specs.Choices.{words_for, line, by_value, number_tests, not_tests, zero_number, number_cost, without, mixed, worked, pair_tests, choices, words_of_all, node_of}
-use Rattle.bc_select.specs.Small.{Small, AreSmall}
-
-abbrev pub UpTo : Option ℕ → ℕ → Type 0
-UpTo None k = Unit {0}
-UpTo (Some n) k = n ≤ k
+use Rattle.bc_select.specs.Small.{Small, AreSmall, UpTo}
 
 pub record Bound (x : Option ℕ) (k : ℕ) : Type 0 where
   pub fact : UpTo x k
@@ -43,7 +39,7 @@ wider_up : (x : Option ℕ) (k j : ℕ) → k ≤ j → UpTo x k → UpTo x j
 wider_up None k j h i = tt
 wider_up (Some n) k j h i = omega arith
 
-wider : (x : Option ℕ) (k j : ℕ) → Bound x k → k ≤ j → Bound x j
+pub wider : (x : Option ℕ) (k j : ℕ) → Bound x k → k ≤ j → Bound x j
 wider x k j i h = record { fact = wider_up x k j h i.fact }
 
 plus_up : (x : Option ℕ) (k j : ℕ) → UpTo x k → UpTo (plus x j) (k + j)
@@ -51,7 +47,7 @@ unfolding plus
 plus_up None k j h = tt
 plus_up (Some n) k j h = omega arith
 
-plus_bound : (x : Option ℕ) (k j : ℕ) → Bound x k → Bound (plus x j) (k + j)
+pub plus_bound : (x : Option ℕ) (k j : ℕ) → Bound x k → Bound (plus x j) (k + j)
 plus_bound x k j h = record { fact = plus_up x k j h.fact }
 
 more_up : (x : Option ℕ) (k j : ℕ) → UpTo x k → UpTo (more j x) (j + k)
@@ -68,7 +64,7 @@ sum_up None y k j h i = tt
 sum_up (Some n) None k j h i = tt
 sum_up (Some n) (Some m) k j h i = omega arith
 
-sum_bound : (x y : Option ℕ) (k j : ℕ) → Bound x k → Bound y j → Bound (sum x y) (k + j)
+pub sum_bound : (x y : Option ℕ) (k j : ℕ) → Bound x k → Bound y j → Bound (sum x y) (k + j)
 sum_bound x y k j h i = record { fact = sum_up x y k j h.fact i.fact }
 
 given_bound : (b : Bool) (x : Option ℕ) (k : ℕ) → Bound x k → Bound (given b x) k

@@ -6,3 +6,5 @@ pub mod Trees
 pub mod Cuts
 pub mod Readings
 pub mod Vectors
+pub mod Laid
+pub mod Tables

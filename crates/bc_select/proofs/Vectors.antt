@@ -1,5 +1,6 @@
 -- The rows of the nodes say what they are to say.
 use Rattle.std.proofs.Common.{◌≡◌, ℕ, ◌+◌, List, [], ◌∷◌, ◌++◌, map, Option, Some, None, Result, Ok, Err, refl, ap, sym, subst, ◌∙◌}
+use Rattle.std.proofs.lemmas.List.{map-append}
 use Rattle.std.specs.Prelude.{true, false, IfOk}
 use Rattle.std.specs.List.{AllZip}
 use Rattle.bc_core.specs.Tree.{Exp, Num, Frame, Glob, Place, Load, Neg, Not, Bin, Cond, Call, Valof, Args, no_argument, argument, count, Root, Value, Test, Assign}
@@ -17,11 +18,11 @@ use Rattle.bc_select.specs.declared.part.Part.{Part}
 use Rattle.bc_select.specs.declared.row.Row.{Row}
 use Rattle.bc_select.specs.Vector.{node, before_all, vector}
 use Rattle.bc_select.specs.Selection.{root_vector, words_or_none}
-use Rattle.bc_select.specs.Row.{row_of}
+use Rattle.bc_select.specs.Row.{row_of_part}
 use Rattle.bc_select.specs.Rows.{IsRowOf}
 
 row_at : Exp × ℕ → Row
-row_at at = row_of (node at.0 at.1)
+row_at at = row_of_part (node at.0 at.1)
 
 row_right : (at : Exp × ℕ) → IsRowOf at (row_at at)
 unfolding row_at
@@ -36,19 +37,15 @@ all_right : (ats : List (Exp × ℕ)) → AllZip IsRowOf ats (map row_at ats)
 all_right [] = tt
 all_right (at ∷ ats) = (row_right at, all_right ats)
 
-map_append : {A B : Type 0} (f : A → B) (xs ys : List A) → map f (xs ++ ys) ≡ map f xs ++ map f ys
-map_append f [] ys = refl
-map_append f (x ∷ xs) ys = ap (λ zs. f x ∷ zs) (map_append f xs ys)
+both : (xs ys : List Part) (ats bts : List (Exp × ℕ)) → map row_of_part xs ≡ map row_at ats → map row_of_part ys ≡ map row_at bts → map row_of_part (xs ++ ys) ≡ map row_at (ats ++ bts)
+both xs ys ats bts h i = map-append row_of_part xs ys ∙ ap (λ zs. zs ++ map row_of_part ys) h ∙ ap (λ zs. map row_at ats ++ zs) i ∙ sym (map-append row_at ats bts)
 
-both : (xs ys : List Part) (ats bts : List (Exp × ℕ)) → map row_of xs ≡ map row_at ats → map row_of ys ≡ map row_at bts → map row_of (xs ++ ys) ≡ map row_at (ats ++ bts)
-both xs ys ats bts h i = map_append row_of xs ys ∙ ap (λ zs. zs ++ map row_of ys) h ∙ ap (λ zs. map row_at ats ++ zs) i ∙ sym (map_append row_at ats bts)
-
-own : (e : Exp) (s : ℕ) → map row_of (node e s ∷ []) ≡ map row_at ((e, s) ∷ [])
+own : (e : Exp) (s : ℕ) → map row_of_part (node e s ∷ []) ≡ map row_at ((e, s) ∷ [])
 unfolding row_at
 own e s = refl
 
 mutual
-  vector_rows : (e : Exp) (s : ℕ) → map row_of (vector e s) ≡ map row_at (in_order e s)
+  vector_rows : (e : Exp) (s : ℕ) → map row_of_part (vector e s) ≡ map row_at (in_order e s)
   vector_rows (Num n) s = own (Num n) s
   vector_rows (Frame k) s = own (Frame k) s
   vector_rows (Glob n) s = own (Glob n) s
@@ -61,16 +58,16 @@ mutual
   vector_rows (Call es f) s = both _ _ _ _ (both (before_all es (s + 2)) (vector f (s + 2 + count es)) (all_in_order es (s + 2)) (in_order f (s + 2 + count es)) (all_rows es (s + 2)) (vector_rows f (s + 2 + count es))) (own (Call es f) s)
   vector_rows (Valof n) s = own (Valof n) s
 
-  all_rows : (es : Args) (s : ℕ) → map row_of (before_all es s) ≡ map row_at (all_in_order es s)
+  all_rows : (es : Args) (s : ℕ) → map row_of_part (before_all es s) ≡ map row_at (all_in_order es s)
   all_rows no_argument s = refl
   all_rows (argument e es) s = both (vector e s) (before_all es (s + 1)) (in_order e s) (all_in_order es (s + 1)) (vector_rows e s) (all_rows es (s + 1))
 
-root_rows : (r : Root) → map row_of (root_vector r) ≡ map row_at (root_in_order r)
+root_rows : (r : Root) → map row_of_part (root_vector r) ≡ map row_at (root_in_order r)
 root_rows (Value s e) = vector_rows e s
 root_rows (Test s sense e) = vector_rows e s
 root_rows (Assign s v a) = both (vector v (side_level a s)) (vector a (side_level a s)) (in_order v (side_level a s)) (in_order a (side_level a s)) (vector_rows v (side_level a s)) (vector_rows a (side_level a s))
 
-pub rows_right : (r : Root) → AllZip IsRowOf (root_in_order r) (map row_of (root_vector r))
+pub rows_right : (r : Root) → AllZip IsRowOf (root_in_order r) (map row_of_part (root_vector r))
 rows_right r = let P : List Row → Type 0 = λ rows. AllZip IsRowOf (root_in_order r) rows in subst P (sym (root_rows r)) (all_right (root_in_order r))
 
 counted : (x : Option Choice) (n : ℕ) → words_of x ≡ Some n → words_or_none x ≡ n

@@ -3,6 +3,8 @@ pub mod Vector
 pub mod Planned
 pub mod Reads
 pub mod Cut
+pub mod Laid
+pub mod Pushed
 pub mod Row
 pub mod Selection
 pub mod Rows

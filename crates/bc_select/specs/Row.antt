@@ -1,13 +1,41 @@
--- For proofs: the row of a node.
-use Rattle.std.specs.Prelude.{[], ◌∷◌}
+-- For proofs: the row of a node, and the node that a row and a span stand for.
+use Rattle.std.specs.Prelude.{ℕ, List, [], ◌∷◌, ◌≡◌, map, Option, Some, None}
+use Rattle.bc_derive.specs.declared.rule.Rule.{Rule}
+use Rattle.bc_least.specs.declared.choice.Choice.{Choice}
+use Rattle.bc_least.specs.declared.choice.Choices.{Choices}
 use Rattle.bc_least.specs.Options.{words_of, rule_of}
 use Rattle.bc_select.specs.declared.part.Part.{Part}
 use Rattle.bc_select.specs.declared.row.Row.{Row}
+use Rattle.bc_select.specs.declared.table.Span.{Span}
 
-abbrev pub row_of : Part → Row
-row_of p =
-    let c = p.choices in
-    record {
-      costs = words_of c.any ∷ words_of c.push ∷ words_of c.on_false ∷ words_of c.on_true ∷ [];
-      rules = rule_of c.any ∷ rule_of c.push ∷ rule_of c.on_false ∷ rule_of c.on_true ∷ [];
-    }
+abbrev pub row_of : Choices → Row
+row_of c = record {
+  costs = words_of c.any ∷ words_of c.push ∷ words_of c.on_false ∷ words_of c.on_true ∷ [];
+  rules = rule_of c.any ∷ rule_of c.push ∷ rule_of c.on_false ∷ rule_of c.on_true ∷ [];
+}
+
+abbrev pub row_of_part : Part → Row
+row_of_part p = row_of p.choices
+
+abbrev pub span_of : Part → Span
+span_of p = record { calls = p.calls; nodes = p.nodes }
+
+abbrev pub choice_in : Option ℕ → Option Rule → Option Choice
+choice_in (Some w) (Some r) = Some (record { words = w; rule = r })
+choice_in _ _ = None
+
+abbrev pub choices_in : List (Option ℕ) → List (Option Rule) → Choices
+choices_in (a ∷ b ∷ c ∷ d ∷ []) (p ∷ q ∷ r ∷ t ∷ []) = record { any = choice_in a p; push = choice_in b q; on_false = choice_in c r; on_true = choice_in d t }
+choices_in _ _ = record { any = None; push = None; on_false = None; on_true = None }
+
+abbrev pub part_in : Row → Span → Part
+part_in row span = record { choices = choices_in row.costs row.rules; calls = span.calls; nodes = span.nodes }
+
+abbrev pub parts_in : List Row → List Span → List Part
+parts_in (row ∷ rows) (span ∷ spans) = part_in row span ∷ parts_in rows spans
+parts_in _ _ = []
+
+-- as many of the one as of the other, and each row has a rule just where it has words
+pub record AreParts (rows : List Row) (spans : List Span) : Type 0 where
+  pub rows_are : rows ≡ map row_of_part (parts_in rows spans)
+  pub spans_are : spans ≡ map span_of (parts_in rows spans)

@@ -1,11 +1,15 @@
 -- For proofs: words that are far from any bound of the machine's numbers.
-use Rattle.std.specs.Prelude.{ℕ, ◌<◌, ◌^◌, Option, Some, None}
+use Rattle.std.specs.Prelude.{ℕ, ◌<◌, ◌≤◌, ◌^◌, Option, Some, None}
 use Rattle.bc_least.specs.declared.choice.Choices.{Choices}
 use Rattle.bc_least.specs.Options.{words_of}
 
 abbrev pub Small : Option ℕ → Type 0
 Small None = Unit {0}
 Small (Some n) = n < 2 ^ 60
+
+abbrev pub UpTo : Option ℕ → ℕ → Type 0
+UpTo None k = Unit {0}
+UpTo (Some n) k = n ≤ k
 
 pub record AreSmall (c : Choices) : Type 0 where
   pub any : Small (words_of c.any)

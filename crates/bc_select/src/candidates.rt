@@ -1,16 +1,16 @@
 // Words of candidates, and the least of them.
-#![tactic(auto, unfolding(bc_least::specs::Options::plus, bc_least::specs::Options::more, bc_least::specs::Options::sum, bc_least::specs::Options::operand_cost, bc_least::specs::Options::better, bc_least::specs::Options::least_from, bc_least::specs::Choices::number_cost))]
+#![tactic(auto, unfolding(bc_least::specs::Options::plus, bc_least::specs::Options::more, bc_least::specs::Options::sum, bc_least::specs::Options::operand_cost, bc_least::specs::Options::better, bc_least::specs::Choices::number_cost))]
 
 ghost use Rattle.std.specs.Prelude.{◌≡◌, ◌<◌, ◌≤◌, ◌+◌, ◌==◌, ◌^◌};
 ghost use Rattle.bc_word.specs.Words.{number_of};
 ghost use Rattle.bc_derive.specs.Piece.{w, operand_words as words_of_operand};
-ghost use Rattle.bc_least.specs.Options.{plus as plus_of, more, sum as sum_of, operand_cost, words_of, better as better_of, least_from as least_of};
+ghost use Rattle.bc_least.specs.Options.{plus as plus_of, more, sum as sum_of, operand_cost, words_of, better as better_of};
 ghost use Rattle.bc_least.specs.Choices.{number_cost as cost_of_number};
 ghost use Rattle.bc_select.specs.Small.{Small};
 
 use bc_core::{Base, Operand};
 use bc_derive::Rule;
-use bc_least::{Candidate, Choice};
+use bc_least::Choice;
 use bc_word::{Op, Word};
 
 /// The words that a number takes in an instruction.
@@ -42,6 +42,7 @@ pub fn number_cost(number: Option<Word>) -> Option<u64>
 }
 
 /// The words of a choice.
+#[inline(always)]
 pub fn words(choice: Option<Choice>) -> Option<u64>
     requires { Small (words_of choice) }
     ensures words { result ≡ words_of choice }
@@ -52,6 +53,7 @@ pub fn words(choice: Option<Choice>) -> Option<u64>
 }
 
 /// The same, however many they are.
+#[inline(always)]
 pub fn any_words(choice: Option<Choice>) -> Option<u64>
     ensures { result ≡ words_of choice }
 {
@@ -60,6 +62,7 @@ pub fn any_words(choice: Option<Choice>) -> Option<u64>
 }
 
 /// So many words more.
+#[inline(always)]
 pub fn plus(x: Option<u64>, k: u64) -> Option<u64>
     requires small { Small x }
     requires few { k ≤ 16 }
@@ -70,6 +73,7 @@ pub fn plus(x: Option<u64>, k: u64) -> Option<u64>
 }
 
 /// The words of both.
+#[inline(always)]
 pub fn sum(x: Option<u64>, y: Option<u64>) -> Option<u64>
     requires first { Small x }
     requires second { Small y }
@@ -81,6 +85,7 @@ pub fn sum(x: Option<u64>, y: Option<u64>) -> Option<u64>
 }
 
 /// The words of both, and so many more.
+#[inline(always)]
 pub fn both(x: Option<u64>, y: Option<u64>, k: u64) -> Option<u64>
     requires first { Small x }
     requires second { Small y }
@@ -143,6 +148,7 @@ pub fn is(op: Op, wanted: Op) -> bool
 }
 
 /// The better one of a choice and of a rule's words; of equal ones the choice.
+#[inline(always)]
 pub fn better(best: Option<Choice>, rule: Rule, words: Option<u64>) -> Option<Choice>
     ensures { result ≡ better_of best rule words }
 {
@@ -157,15 +163,4 @@ pub fn better(best: Option<Choice>, rule: Rule, words: Option<u64>) -> Option<Ch
             }
         }
     }
-}
-
-/// The least of a choice and of candidates; of equal ones the first.
-pub fn least_from(best: Option<Choice>, candidates: &[Candidate]) -> Option<Choice>
-    ensures { result ≡ least_of best candidates.now }
-{
-    let mut least = best;
-    for candidate in candidates {
-        least = better(least, candidate.rule, candidate.words);
-    }
-    least
 }

@@ -11,11 +11,10 @@ mod reading;
 mod row;
 mod selection;
 mod split;
+mod table;
 mod tree;
+mod whole;
 
 pub use bc_derive::{Derivation, Rule};
 pub use row::Row;
 pub use selection::{Selected, rows, select};
-
-#[cfg(test)]
-mod tests;

@@ -1,17 +1,17 @@
 // The choices of the other forms of expressions, from those of their parts.
+#![tactic(auto, unfolding(bc_least::specs::Options::better, bc_least::specs::Options::least_from, bc_least::specs::Options::operand_cost))]
 
-ghost use Rattle.std.specs.Prelude.{◌≡◌, ◌<◌, ◌≤◌, ◌+◌, ◌^◌, ◌∷◌, ◌++◌, None, [], false};
-ghost use Rattle.bc_derive.specs.declared.rule.Rule.TheVariants.{V0, V1};
+ghost use Rattle.std.specs.Prelude.{◌≡◌, ◌<◌, ◌≤◌, ◌+◌, ◌^◌, None, true, false};
 ghost use Rattle.bc_derive.specs.Free.{jumps_at as jumps_of};
 ghost use Rattle.bc_core.specs.Operand.{content_of};
-ghost use Rattle.bc_least.specs.Options.{words_of, operand_cost, candidate, least_from as least_of};
-ghost use Rattle.bc_least.specs.Choices.{line as line_of, number_tests, leaf_choices as leaf_of, number_choices as number_of, unary_choices as unary_of, not_choices as not_of, cond_choices as cond_of, call_choices as call_of, valof_choices as valof_of, by_value as by_value_of};
+ghost use Rattle.bc_least.specs.Options.{words_of, least_from as least_of};
+ghost use Rattle.bc_least.specs.Choices.{number_tests, leaf_choices as leaf_of, number_choices as number_of, unary_choices as unary_of, not_choices as not_of, cond_choices as cond_of, call_choices as call_of, valof_choices as valof_of, by_value as by_value_of};
 ghost use Rattle.bc_select.specs.Small.{Small, AreSmall};
 
-use crate::candidates::{alone, any_words, both, least_from, number_words, plus, three, words};
+use crate::candidates::{alone, any_words, better, both, number_words, plus, three, words};
 use bc_core::Operand;
 use bc_derive::Rule;
-use bc_least::{Candidate, Choice, Choices};
+use bc_least::{Choice, Choices};
 use bc_word::Word;
 
 /// The content of the cell at an operand, if one instruction can take it.
@@ -37,56 +37,20 @@ fn jumps(sense: bool, number: Word) -> bool
     (number.get() != 0) == sense
 }
 
-/// The choice of a value that is pushed, from its operand and its own rules.
-fn push_choice(operand: Option<Operand>, own: &[Candidate]) -> Option<Choice>
-    ensures { result ≡ least_of None (candidate V1 (operand_cost operand) ∷ own.now) }
-{
-    let alone = least_from(
-        None,
-        &[Candidate {
-            rule: Rule::V1,
-            words: alone(operand),
-        }],
-    );
-    least_from(alone, own)
-}
-
-/// The choice of a value, from how it is pushed and from its own rules.
-fn any_choice(push: Option<Choice>, own: &[Candidate]) -> Option<Choice>
-    ensures { result ≡ least_of None (candidate V0 (words_of push) ∷ own.now) }
-{
-    let pushed = least_from(
-        None,
-        &[Candidate {
-            rule: Rule::V0,
-            words: any_words(push),
-        }],
-    );
-    least_from(pushed, own)
-}
-
 /// The choice of a test that is made of a value.
-fn test_choice(any: Option<Choice>) -> Option<Choice>
+fn value_test(any: Option<Choice>) -> Option<Choice>
     requires { Small (words_of any) }
     ensures { result ≡ least_of None (by_value_of (words_of any) false) }
 {
-    least_from(
-        None,
-        &[Candidate {
-            rule: Rule::J6,
-            words: plus(words(any), 2),
-        }],
-    )
+    better(None, Rule::J6, plus(words(any), 2))
 }
 
 /// The choices of an expression whose test is made of its value.
-fn line(operand: Option<Operand>, pushes: &[Candidate], values: &[Candidate]) -> Choices
-    requires { Small (words_of (line_of operand pushes.now values.now by_value_of).any) }
-    ensures { result ≡ line_of operand pushes.now values.now by_value_of }
+fn tested_by_value(push: Option<Choice>, any: Option<Choice>) -> Choices
+    requires { Small (words_of any) }
+    ensures { result ≡ record { any = any; push = push; on_false = least_of None (by_value_of (words_of any) false); on_true = least_of None (by_value_of (words_of any) true) } }
 {
-    let push = push_choice(operand, pushes);
-    let any = any_choice(push, values);
-    let test = test_choice(any);
+    let test = value_test(any);
     Choices {
         any,
         push,
@@ -100,7 +64,9 @@ pub fn leaf_choices(operand: Option<Operand>) -> Choices
     requires { Small (words_of (leaf_of operand).any) }
     ensures { result ≡ leaf_of operand }
 {
-    line(operand, &[], &[])
+    let push = better(None, Rule::V1, alone(operand));
+    let any = better(None, Rule::V0, any_words(push));
+    tested_by_value(push, any)
 }
 
 fn number_test(number: Word, any: Option<Choice>, sense: bool) -> Option<Choice>
@@ -108,19 +74,8 @@ fn number_test(number: Word, any: Option<Choice>, sense: bool) -> Option<Choice>
     ensures { result ≡ least_of None (number_tests number (words_of any) sense) }
 {
     let jump = if jumps(sense, number) { 2 } else { 0 };
-    least_from(
-        None,
-        &[
-            Candidate {
-                rule: Rule::J6,
-                words: plus(words(any), 2),
-            },
-            Candidate {
-                rule: Rule::J7,
-                words: Some(jump),
-            },
-        ],
-    )
+    let test = better(None, Rule::J6, plus(words(any), 2));
+    better(test, Rule::J7, Some(jump))
 }
 
 /// Those of a number, which is this operand.
@@ -128,8 +83,8 @@ pub fn number_choices(operand: Option<Operand>, number: Word) -> Choices
     requires { Small (words_of (number_of operand number).any) }
     ensures { result ≡ number_of operand number }
 {
-    let push = push_choice(operand, &[]);
-    let any = any_choice(push, &[]);
+    let push = better(None, Rule::V1, alone(operand));
+    let any = better(None, Rule::V0, any_words(push));
     Choices {
         any,
         push,
@@ -144,15 +99,11 @@ pub fn unary_choices(rule: Rule, operand: Option<Operand>, part: &Choices) -> Ch
     requires value { Small (words_of (unary_of rule operand part.now).any) }
     ensures { result ≡ unary_of rule operand part.now }
 {
-    let push = Candidate {
-        rule,
-        words: plus(words(part.push), 1),
-    };
-    let any = Candidate {
-        rule,
-        words: plus(words(part.any), 1),
-    };
-    line(operand, &[push], &[any])
+    let push = better(None, Rule::V1, alone(operand));
+    let push = better(push, rule, plus(words(part.push), 1));
+    let any = better(None, Rule::V0, any_words(push));
+    let any = better(any, rule, plus(words(part.any), 1));
+    tested_by_value(push, any)
 }
 
 /// Those of NOT.
@@ -160,29 +111,13 @@ pub fn not_choices(part: &Choices) -> Choices
     requires { AreSmall part.now }
     ensures { result ≡ not_of part.now }
 {
-    let pushed = Candidate {
-        rule: Rule::V4,
-        words: plus(words(part.push), 1),
-    };
-    let value = Candidate {
-        rule: Rule::V4,
-        words: plus(words(part.any), 1),
-    };
-    let push = push_choice(None, &[pushed]);
-    let any = any_choice(push, &[value]);
-    let on_false = Candidate {
-        rule: Rule::J1,
-        words: words(part.on_true),
-    };
-    let on_true = Candidate {
-        rule: Rule::J1,
-        words: words(part.on_false),
-    };
+    let push = better(None, Rule::V4, plus(words(part.push), 1));
+    let any = better(None, Rule::V0, any_words(push));
     Choices {
-        any,
+        any: better(any, Rule::V4, plus(words(part.any), 1)),
         push,
-        on_false: least_from(None, &[on_false]),
-        on_true: least_from(None, &[on_true]),
+        on_false: better(None, Rule::J1, words(part.on_true)),
+        on_true: better(None, Rule::J1, words(part.on_false)),
     }
 }
 
@@ -196,15 +131,11 @@ pub fn cond_choices(condition: &Choices, this: &Choices, that: &Choices) -> Choi
 {
     let x = words(this.any);
     let y = words(that.any);
-    let this_first = Candidate {
-        rule: Rule::V20,
-        words: three(words(condition.on_false), x, y, 2),
-    };
-    let that_first = Candidate {
-        rule: Rule::V21,
-        words: three(words(condition.on_true), y, x, 2),
-    };
-    line(None, &[], &[this_first, that_first])
+    let this_first = three(words(condition.on_false), x, y, 2);
+    let that_first = three(words(condition.on_true), y, x, 2);
+    let any = better(None, Rule::V20, this_first);
+    let any = better(any, Rule::V21, that_first);
+    tested_by_value(None, any)
 }
 
 /// Those of a call, from the words of all its arguments.
@@ -215,26 +146,12 @@ pub fn call_choices(arguments: Option<u64>, routine: &Choices, level: u64) -> Ch
     ensures { result ≡ call_of arguments routine.now level }
 {
     let all = both(arguments, words(routine.any), number_words(level));
-    line(
-        None,
-        &[],
-        &[Candidate {
-            rule: Rule::V22,
-            words: all,
-        }],
-    )
+    tested_by_value(None, better(None, Rule::V22, all))
 }
 
 /// Those of a VALOF.
 pub fn valof_choices() -> Choices
     ensures { result ≡ valof_of }
 {
-    line(
-        None,
-        &[],
-        &[Candidate {
-            rule: Rule::V22,
-            words: Some(0),
-        }],
-    )
+    tested_by_value(None, better(None, Rule::V22, Some(0)))
 }

@@ -12,12 +12,12 @@ ghost use Rattle.bc_least.specs.Chosen.{assign_choice as assignment_of};
 ghost use Rattle.bc_select.specs.Small.{Small, AreSmall};
 
 use crate::candidates::{
-    alone, any_words, better, both, is, least_from, number_cost, number_words, operand_words, plus,
-    sum, with_operand, with_operand_and, words,
+    alone, any_words, better, both, is, number_cost, number_words, operand_words, plus, sum,
+    with_operand, with_operand_and, words,
 };
 use bc_core::Operand;
 use bc_derive::Rule;
-use bc_least::{Candidate, Choice, Choices, Node};
+use bc_least::{Choice, Choices, Node};
 use bc_word::{Op, Word, mirror};
 
 /// A binary operator at a level, with its operands.
@@ -255,13 +255,7 @@ fn pushed(pair: &Pair, operand: Option<Operand>) -> Option<Choice>
     requires second { AreSmall pair.now.right.choices }
     ensures { result ≡ (choices_of Two pair.now.op operand pair.now.left pair.now.right pair.now.level).push }
 {
-    let own = least_from(
-        None,
-        &[Candidate {
-            rule: Rule::V1,
-            words: alone(operand),
-        }],
-    );
+    let own = better(None, Rule::V1, alone(operand));
     mixed(
         own,
         pair,
@@ -277,13 +271,7 @@ fn any(pair: &Pair, push: Option<Choice>) -> Option<Choice>
     requires level { pair.now.level < 2 ^ 60 }
     ensures { result ≡ least_of None (candidate V0 (words_of push) ∷ (mixed_of pair.now.op pair.now.left pair.now.right (words_of pair.now.left.choices.any) (words_of pair.now.right.choices.any) ++ worked_of pair.now.op pair.now.left pair.now.right pair.now.level)) }
 {
-    let own = least_from(
-        None,
-        &[Candidate {
-            rule: Rule::V0,
-            words: any_words(push),
-        }],
-    );
+    let own = better(None, Rule::V0, any_words(push));
     let mixed = mixed(
         own,
         pair,
@@ -329,31 +317,14 @@ pub fn assign_choice(
     match operand {
         Some(operand) => {
             let stored = plus(v, operand_words(operand));
-            least_from(
-                None,
-                &[Candidate {
-                    rule: Rule::A1,
-                    words: stored,
-                }],
-            )
+            better(None, Rule::A1, stored)
         }
         None => {
             let held = 2 * number_words(level);
             let held_too = 2 * number_words(level + 1);
             let address_first = given(free(value, address), both(a, v, held));
-            least_from(
-                None,
-                &[
-                    Candidate {
-                        rule: Rule::A2,
-                        words: address_first,
-                    },
-                    Candidate {
-                        rule: Rule::A3,
-                        words: both(v, a, held + held_too),
-                    },
-                ],
-            )
+            let choice = better(None, Rule::A2, address_first);
+            better(choice, Rule::A3, both(v, a, held + held_too))
         }
     }
 }

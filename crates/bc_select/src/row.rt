@@ -1,13 +1,12 @@
-ghost use Rattle.std.specs.Prelude.{◌≡◌, IfOk, map};
-ghost use Rattle.bc_select.specs.Row.{row_of};
+ghost use Rattle.std.specs.Prelude.{◌≡◌, List, ◌∷◌, [], ◌++◌};
+ghost use Rattle.bc_select.specs.Row.{row_of, choice_in};
+ghost use Rattle.bc_select.specs.Reads.{rule_or_v1};
 ghost use Rattle.bc_least.specs.Options.{rule_of};
+ghost use Rattle.bc_least.specs.Choices.{choice_for as choice_of};
 
 use crate::candidates::any_words;
-use crate::part::Part;
-use bc_derive::Rule;
-use bc_least::Choice;
-use bc_word::Memory;
-use std::alloc::Global;
+use bc_derive::{Aim, Mode, Rule};
+use bc_least::{Choice, Choices};
 
 /// The least words of a node for each aim, and the least rule that gives them: as a value, as a value
 /// that is pushed, as a jump on false, as a jump on true. There is none where there is no derivation.
@@ -24,10 +23,10 @@ fn rule(choice: Option<Choice>) -> Option<Rule>
     Some(choice.rule)
 }
 
-fn row_from(part: &Part) -> Row
-    ensures { result ≡ row_of part.now }
+/// The row of a node with these choices.
+pub fn row_from(choices: &Choices) -> Row
+    ensures { result ≡ row_of choices.now }
 {
-    let choices = &part.choices;
     Row {
         costs: [
             any_words(choices.any),
@@ -44,13 +43,66 @@ fn row_from(part: &Part) -> Row
     }
 }
 
-/// The rows of nodes.
-pub fn rows_of(alloc: Global, parts: &[Part]) -> Result<Vec<Row>, Memory>
-    ensures { IfOk result (λ v. v.items ≡ map row_of parts.now) }
+#[inline(always)]
+fn choice(words: Option<u64>, rule: Option<Rule>) -> Option<Choice>
+    ensures { result ≡ choice_in words rule }
 {
-    let mut rows = Vec::with_capacity(alloc, parts.len())?;
-    for part in parts {
-        rows.push(row_from(part))?;
+    let words = words?;
+    let rule = rule?;
+    Some(Choice { words, rule })
+}
+
+/// The choices of a node that has this row.
+#[inline(always)]
+fn choices_from(row: &Row) -> Choices
+    ensures { (c : Choices) → row.now ≡ row_of c → result ≡ c }
+{
+    Choices {
+        any: choice(row.costs[0], row.rules[0]),
+        push: choice(row.costs[1], row.rules[1]),
+        on_false: choice(row.costs[2], row.rules[2]),
+        on_true: choice(row.costs[3], row.rules[3]),
     }
-    Ok(rows)
+}
+
+/// The rule for an aim by which a node with this row gets its code.
+fn rule_from(row: &Row, aim: Aim) -> Rule
+    ensures { (c : Choices) → row.now ≡ row_of c → result ≡ rule_or_v1 (choice_of aim c) }
+{
+    let rule = match aim {
+        Aim::Gets(Mode::Any) => row.rules[0],
+        Aim::Gets(Mode::Push) => row.rules[1],
+        Aim::Jumps(false) => row.rules[2],
+        Aim::Jumps(true) => row.rules[3],
+    };
+    match rule {
+        Some(rule) => rule,
+        None => Rule::V1,
+    }
+}
+
+/// The choices of the last node.
+#[inline(always)]
+pub fn last_choices(rows: &[Row]) -> Choices
+    ensures { (xs : List Row) (c : Choices) → rows.now ≡ xs ++ (row_of c ∷ []) → result ≡ c }
+{
+    match rows.last() {
+        Some(row) => choices_from(row),
+        None => Choices {
+            any: None,
+            push: None,
+            on_false: None,
+            on_true: None,
+        },
+    }
+}
+
+/// The rule for an aim by which the last node gets its code.
+pub fn last_rule(rows: &[Row], aim: Aim) -> Rule
+    ensures { (xs : List Row) (c : Choices) → rows.now ≡ xs ++ (row_of c ∷ []) → result ≡ rule_or_v1 (choice_of aim c) }
+{
+    match rows.last() {
+        Some(row) => rule_from(row, aim),
+        None => Rule::V1,
+    }
 }

@@ -12,18 +12,20 @@ ghost use Rattle.bc_least.specs.Nodes.{root_nodes, root_in_order};
 ghost use Rattle.bc_select.specs.Reads.{rule_or_v1};
 ghost use Rattle.bc_select.specs.Rows.{IsRowOf};
 ghost use Rattle.bc_select.specs.Selection.{root_vector, words_or_none};
-ghost use Rattle.bc_select.specs.Row.{row_of};
+ghost use Rattle.bc_select.specs.Row.{row_of_part};
 ghost use Rattle.bc_select.specs.Vector.{vector};
 ghost use Rattle.bc_least.specs.Readings.{tree_for, readings};
 ghost use Rattle.bc_least.specs.Choices.{choice_for as choice_of, choices};
 
-use crate::layout::{lay_out, operand_node};
+use crate::layout::lay_out;
 use crate::pair::assign_choice;
 use crate::part::own_operand;
-use crate::reading::{ANY, Step, read, sides_read};
-use crate::row::{Row, rows_of};
-use crate::split::choice_for;
+use crate::reading::{ANY, Step, parts, sides_read};
+use crate::row::Row;
+use crate::split::{choice_for, cut, last, rule_for};
+use crate::table::Table;
 use crate::tree::tree;
+use crate::whole::operand_node;
 use bc_core::{CoreExp, Operand, Root};
 use bc_derive::{Aim, Derivation, Rule};
 use bc_least::Choice;
@@ -45,17 +47,20 @@ fn expression(alloc: Global, e: &CoreExp, level: u16, aim: Aim) -> Result<Select
     requires { nodes_in (exp e.now) ≤ 2 ^ 32 }
     ensures derivation { IfOk result (λ s. derivation_of s.derivation ≡ tree_for aim (readings Two (exp e.now) level)) }
     ensures words { IfOk result (λ s. s.words ≡ words_or_none (choice_of aim (choices Two (exp e.now) level))) }
-    ensures table { IfOk result (λ s. s.table.items ≡ map row_of (vector (exp e.now) level)) }
+    ensures table { IfOk result (λ s. s.table.items ≡ map row_of_part (vector (exp e.now) level)) }
 {
     let level = u64::from(level);
-    let mut nodes = Vec::new(alloc);
-    let node = lay_out(e, level, &mut nodes)?;
-    let derivation = read(alloc, e, level, &nodes, aim)?;
-    let table = rows_of(alloc, &nodes)?;
+    let mut table = Table::new(alloc);
+    lay_out(e, level, &mut table)?;
+    let nodes = table.nodes();
+    let rule = rule_for(&nodes, aim);
+    let mut trees = Vec::new(alloc);
+    parts(e, &nodes, Step { level, aim, rule }, &mut trees)?;
+    let words = count(choice_for(&last(&nodes).choices, aim));
     Ok(Selected {
-        derivation,
-        words: count(choice_for(&node.choices, aim)),
-        table,
+        derivation: tree(rule, trees),
+        words,
+        table: table.into_rows(),
     })
 }
 
@@ -100,17 +105,19 @@ fn assignment(
     requires { nodes_in (exp value.now) + nodes_in (exp address.now) ≤ 2 ^ 32 }
     ensures derivation { IfOk result (λ s. derivation_of s.derivation ≡ root_reading Two (tree.Assign level (exp value.now) (exp address.now))) }
     ensures words { IfOk result (λ s. s.words ≡ words_or_none (root_choice Two (tree.Assign level (exp value.now) (exp address.now)))) }
-    ensures table { IfOk result (λ s. s.table.items ≡ map row_of (root_vector (tree.Assign level (exp value.now) (exp address.now)))) }
+    ensures table { IfOk result (λ s. s.table.items ≡ map row_of_part (root_vector (tree.Assign level (exp value.now) (exp address.now)))) }
 {
     let level = u64::from(level);
     let operand = own_operand(address);
     let own = operand;
     let side = side_level(own, level);
-    let mut nodes = Vec::new(alloc);
-    let first = lay_out(value, side, &mut nodes)?;
-    let second = lay_out(address, side, &mut nodes)?;
-    let first = operand_node(value, &first);
-    let second = operand_node(address, &second);
+    let mut table = Table::new(alloc);
+    lay_out(value, side, &mut table)?;
+    lay_out(address, side, &mut table)?;
+    let nodes = table.nodes();
+    let (front, _) = cut(&nodes);
+    let first = operand_node(value, &last(&front));
+    let second = operand_node(address, &last(&nodes));
     let choice = assign_choice(operand, &first, &second, level);
     let rule = rule(choice);
     let step = Step {
@@ -118,12 +125,12 @@ fn assignment(
         aim: ANY,
         rule,
     };
-    let parts = sides_read(alloc, value, address, &nodes, step)?;
-    let table = rows_of(alloc, &nodes)?;
+    let mut trees = Vec::new(alloc);
+    sides_read(value, address, &nodes, step, &mut trees)?;
     Ok(Selected {
-        derivation: tree(rule, parts),
+        derivation: tree(rule, trees),
         words: count(choice),
-        table,
+        table: table.into_rows(),
     })
 }
 
@@ -132,7 +139,7 @@ fn root_selection(alloc: Global, root: &Root) -> Result<Selected, Memory>
     requires { root_nodes (root_of root.now) ≤ 2 ^ 32 }
     ensures derivation { IfOk result (λ s. derivation_of s.derivation ≡ root_reading Two (root_of root.now)) }
     ensures words { IfOk result (λ s. s.words ≡ words_or_none (root_choice Two (root_of root.now))) }
-    ensures table { IfOk result (λ s. s.table.items ≡ map row_of (root_vector (root_of root.now))) }
+    ensures table { IfOk result (λ s. s.table.items ≡ map row_of_part (root_vector (root_of root.now))) }
 {
     match root {
         Root::Value {

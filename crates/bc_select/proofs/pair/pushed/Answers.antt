@@ -1,7 +1,12 @@
+use Rattle.std.proofs.Common.{None, ap, ◌∙◌}
 use Rattle.bc_derive.specs.declared.rule.Rule.TheVariants.{V1}
-use Rattle.bc_least.specs.Options.{operand_cost, candidate}
+use Rattle.bc_least.specs.Choices.{mixed}
+use Rattle.bc_least.specs.Options.{operand_cost, words_of, candidate, better, least_from}
 use Rattle.bc_select.proofs.Lines.{first_then}
 use Rattle.bc_select.proofs.pair.pushed.Goals as goal
 
 pub returns : goal.returns
-returns c = first_then (candidate V1 (operand_cost c.args.operand)) _ c.least_from-own.result _ (cc) (cc)
+unfolding least_from
+returns c =
+    let p = c.args.pair.now in
+    first_then (candidate V1 (operand_cost c.args.operand)) (mixed p.op p.left p.right (words_of p.left.choices.push) (words_of p.right.choices.push)) c.better-own.result _ (c.better-own.ensures ∙ ap (better None V1) c.alone.ensures) (cc)

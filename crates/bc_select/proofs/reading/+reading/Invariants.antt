@@ -13,9 +13,6 @@ decreases-parts l = 16 * nodes (exp l.e.now) + rank l.step.aim + 2
 abbrev pub decreases-own : goal.decreases-own
 decreases-own l = 16 * nodes (exp l.e.now) + 1
 
-abbrev pub decreases-part_read : goal.decreases-part_read
-decreases-part_read l = 16 * nodes (exp l.part.now) + 12
-
 abbrev pub decreases-operand_read : goal.decreases-operand_read
 decreases-operand_read l = 16 * nodes (exp l.left.now) + 16 * nodes (exp l.right.now) + 15
 

@@ -1,0 +1,15 @@
+use Rattle.std.proofs.Common.{rules, ◌≡◌, subst}
+use Rattle.bc_core.specs.View.{exp}
+use Rattle.bc_derive.specs.declared.rule.Table.TheVariants.{Two}
+use Rattle.bc_derive.specs.Rules.{no_part}
+use Rattle.bc_least.specs.Chosen.{assign_parts}
+use Rattle.bc_least.specs.Readings.{readings}
+use Rattle.bc_select.specs.Pushed.{Pushed}
+use Rattle.bc_select.proofs.Trees.{pushed_nothing}
+use Rattle.bc_select.proofs.reading.sides_read.Goals as goal
+
+pub returns-in_default : goal.returns-in_default
+returns-in_default c =
+    let s = c.args.step.level in
+    let none : no_part ≡ assign_parts (readings Two (exp c.args.value.now) s) (readings Two (exp c.args.address.now) s) c.args.step.rule = search rules in
+    subst (λ x. Pushed c.args.trees.now.items c.args.trees.now.items x) none (pushed_nothing c.args.trees.now.items)

@@ -1,0 +1,27 @@
+-- For proofs: nodes that end with those of an expression's parts, and the words of arguments from the last to the first.
+use Rattle.std.specs.Prelude.{◌≡◌, ℕ, ◌+◌, ◌*◌, List, ◌++◌, Option}
+use Rattle.bc_core.specs.Tree.{Exp, Args, no_argument, argument}
+use Rattle.bc_derive.specs.declared.rule.Table.TheVariants.{Two}
+use Rattle.bc_derive.specs.Piece.{w}
+use Rattle.bc_least.specs.Choices.{choices}
+use Rattle.bc_least.specs.Options.{plus, sum, words_of}
+use Rattle.bc_select.specs.declared.whole.Arguments.{Arguments}
+use Rattle.bc_select.specs.declared.part.Part.{Part}
+use Rattle.bc_select.specs.Small.{UpTo}
+use Rattle.bc_select.specs.Vector.{before, before_all}
+
+pub record EndsInParts (nodes : List Part) (e : Exp) (s : ℕ) : Type 0 where
+  pub front : List Part
+  pub is : nodes ≡ front ++ before e s
+
+pub record EndsInArguments (nodes : List Part) (es : Args) (s : ℕ) : Type 0 where
+  pub front : List Part
+  pub is : nodes ≡ front ++ before_all es s
+
+-- the words of arguments and of those behind them, each stored in its cell
+abbrev pub words_before : Args → ℕ → Option ℕ → Option ℕ
+words_before no_argument s behind = behind
+words_before (argument e es) s behind = sum (plus (words_of (choices Two e s).any) (w s)) (words_before es (s + 1) behind)
+
+pub record AreFew (a : Arguments) : Type 0 where
+  pub words : UpTo a.words (16 * a.nodes)

@@ -1,0 +1,183 @@
+// The nodes of expressions in two vectors: their rows, and what their wholes ask besides.
+
+ghost use Rattle.std.specs.Prelude.{◌≡◌, ◌≤◌, ◌++◌, ◌∷◌, [], List, OnOk, length, map, take, drop};
+ghost use Rattle.bc_least.specs.Choices.{choice_for as choice_of};
+ghost use Rattle.bc_select.specs.Reads.{rule_or_v1};
+ghost use Rattle.bc_select.specs.Row.{row_of_part};
+
+use crate::part::Part;
+use crate::row::{Row, last_choices, last_rule, row_from};
+use bc_derive::{Aim, Rule};
+use bc_word::Memory;
+use std::alloc::Global;
+use std::marker::Model;
+
+/// What a whole asks of a part besides its row.
+#[derive(Clone, Copy)]
+pub struct Span {
+    /// Whether a call or a VALOF stands in the part.
+    pub calls: bool,
+    /// How many nodes it has.
+    pub nodes: usize,
+}
+
+/// The last span.
+#[inline(always)]
+fn last_span(spans: &[Span]) -> Span
+    ensures { (xs : List Span) (p : Span) → spans.now ≡ xs ++ (p ∷ []) → result ≡ p }
+{
+    match spans.last() {
+        Some(span) => *span,
+        None => Span {
+            calls: false,
+            nodes: 0,
+        },
+    }
+}
+
+/// The nodes of expressions, parts before wholes.
+///
+/// Contracts see them as the list.
+#[derive(Drop)]
+pub struct Table {
+    rows: Vec<Row>,
+    spans: Vec<Span>,
+}
+
+impl Model for Table {
+    ghost use Rattle.std.specs.Prelude.{List};
+    ghost use Rattle.bc_select.specs.declared.part.Part.{Part};
+    ghost use Rattle.bc_select.specs.Row.{parts_in, AreParts};
+
+    ghost Value = { List Part };
+
+    ghost view = { λ t. parts_in t.rows.items t.spans.items };
+
+    ghost invariant = { λ t. AreParts t.rows.items t.spans.items };
+}
+
+/// Some of a table's nodes, which lie side by side.
+///
+/// Contracts see them as the list.
+#[derive(Drop)]
+pub struct Nodes<'a> {
+    rows: &'a [Row],
+    spans: &'a [Span],
+}
+
+impl<'a> Model for Nodes<'a> {
+    ghost use Rattle.std.specs.Prelude.{List};
+    ghost use Rattle.bc_select.specs.declared.part.Part.{Part};
+    ghost use Rattle.bc_select.specs.Row.{parts_in, AreParts};
+
+    ghost Value = { List Part };
+
+    ghost view = { λ n. parts_in n.rows.now n.spans.now };
+
+    ghost invariant = { λ n. AreParts n.rows.now n.spans.now };
+}
+
+impl Table {
+    /// No nodes.
+    pub fn new(alloc: Global) -> Table
+        ensures { result ≡ [] }
+    {
+        Table {
+            rows: Vec::new(alloc),
+            spans: Vec::new(alloc),
+        }
+    }
+
+    /// The nodes.
+    pub fn nodes(&self) -> Nodes<'_>
+        ensures { result ≡ self.now }
+    {
+        Nodes {
+            rows: &self.rows,
+            spans: &self.spans,
+        }
+    }
+
+    /// Puts a node behind the others.
+    ///
+    /// `Memory` comes where a vector could not grow.
+    pub fn push(&mut self, node: &Part) -> Result<(), Memory>
+        ensures { OnOk result (self.new ≡ self.old ++ (node.now ∷ [])) }
+    {
+        let span = Span {
+            calls: node.calls,
+            nodes: node.nodes,
+        };
+        self.rows.push(row_from(&node.choices))?;
+        match self.spans.push(span) {
+            Ok(()) => Ok(()),
+            Err(_) => {
+                self.rows.pop();
+                Err(Memory)
+            }
+        }
+    }
+
+    /// The rows of the nodes.
+    pub fn into_rows(self) -> Vec<Row>
+        ensures { result.items ≡ map row_of_part self }
+    {
+        let Table { rows, .. } = self;
+        rows
+    }
+}
+
+impl<'a> Nodes<'a> {
+    /// How many nodes there are.
+    pub fn len(&self) -> usize
+        ensures { result ≡ length self.now }
+    {
+        self.spans.len()
+    }
+
+    /// The first nodes, so many, and the others.
+    pub fn split_at(&self, count: usize) -> (Nodes<'a>, Nodes<'a>)
+        requires { count ≤ length self.now }
+        ensures front { result.0 ≡ take count self.now }
+        ensures back { result.1 ≡ drop count self.now }
+    {
+        let (front_rows, back_rows) = self.rows.split_at(count);
+        let (front_spans, back_spans) = self.spans.split_at(count);
+        let front = Nodes {
+            rows: front_rows,
+            spans: front_spans,
+        };
+        let back = Nodes {
+            rows: back_rows,
+            spans: back_spans,
+        };
+        (front, back)
+    }
+
+    /// The last node.
+    #[inline(always)]
+    pub fn last(&self) -> Part
+        ensures { (xs : List Part) (p : Part) → self.now ≡ xs ++ (p ∷ []) → result ≡ p }
+    {
+        let span = last_span(self.spans);
+        Part {
+            choices: last_choices(self.rows),
+            calls: span.calls,
+            nodes: span.nodes,
+        }
+    }
+
+    /// How many nodes the last one has below it and with itself.
+    pub fn last_count(&self) -> usize
+        ensures { (xs : List Part) (p : Part) → self.now ≡ xs ++ (p ∷ []) → result ≡ p.nodes }
+    {
+        last_span(self.spans).nodes
+    }
+
+    /// The rule for an aim by which the last node gets its code.
+    pub fn last_rule(&self, aim: Aim) -> Rule
+        ensures { (xs : List Part) (p : Part) → self.now ≡ xs ++ (p ∷ []) → result ≡ rule_or_v1 (choice_of aim p.choices) }
+    {
+        last_rule(self.rows, aim)
+    }
+}
