@@ -13,10 +13,6 @@ rows_seen (more_of-Derivation d ds) = ap (part (derivation d)) (rows_seen ds)
 pub tree_view : (d : Derivation) → derivation d ≡ by (out-Derivation d).rule (derivations (out-Derivation d).parts.items)
 tree_view (Derivation' r shape ps) = let h = rows_seen ps in search (rules, the_lemmas)
 
-pub trees_append : (xs : List Derivation) (d : Derivation) → derivations (xs ++ (d ∷ [])) ≡ end_with (derivations xs) (derivation d)
-trees_append [] d = refl
-trees_append (x ∷ xs) d = ap (part (derivation x)) (trees_append xs d)
-
 -- what is put behind others
 pub pushed_nothing : (xs : List Derivation) → Pushed xs xs no_part
 pushed_nothing xs = record { added = []; is = sym (append-nil xs); trees_are = refl }
