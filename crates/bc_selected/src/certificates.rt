@@ -112,8 +112,9 @@ fn both(alloc: Global) -> Result<Vec<Entry>, CertFault> {
     Ok(entries)
 }
 
+// The text has its room at once: where a writer can't grow, its failure is one to write.
 fn written(alloc: Global, entries: &[Entry]) -> Result<Vec<u8>, CertFault> {
-    let mut text = Vec::new(alloc);
+    let mut text = Vec::with_capacity(alloc, 512)?;
     write_cert(alloc, entries, &mut text)?;
     Ok(text)
 }
