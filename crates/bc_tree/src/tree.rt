@@ -50,7 +50,7 @@ pub enum Dyadic {
 
 /// An expression.
 #[cycle(trees)]
-#[derive(Debug, Drop, PartialEq, Eq)]
+#[derive(Drop)]
 pub enum Exp<'s> {
     Name(&'s [u8]),
     Number(Word),
@@ -75,7 +75,7 @@ pub enum Exp<'s> {
 
 /// Declarations, and the items behind them.
 #[cycle(trees)]
-#[derive(Debug, Drop, PartialEq, Eq)]
+#[derive(Drop)]
 pub struct Block<'s> {
     pub declarations: Vec<Declaration<'s>>,
     pub items: Vec<Item<'s>>,
@@ -83,7 +83,7 @@ pub struct Block<'s> {
 
 /// A declaration.
 #[cycle(trees)]
-#[derive(Debug, Drop, PartialEq, Eq)]
+#[derive(Drop)]
 pub enum Declaration<'s> {
     Constants(Storage, Vec<Constant<'s>>),
     /// The definitions of one LET, which AND joins.
@@ -92,7 +92,7 @@ pub enum Declaration<'s> {
 
 /// A name and its constant.
 #[cycle(trees)]
-#[derive(Debug, Drop, PartialEq, Eq)]
+#[derive(Drop)]
 pub struct Constant<'s> {
     pub name: &'s [u8],
     pub value: Exp<'s>,
@@ -100,7 +100,7 @@ pub struct Constant<'s> {
 
 /// One definition of a LET.
 #[cycle(trees)]
-#[derive(Debug, Drop, PartialEq, Eq)]
+#[derive(Drop)]
 pub enum Definition<'s> {
     /// Variables and their starting values, as many of one as of the other.
     Variables(Vec<&'s [u8]>, Vec<Exp<'s>>),
@@ -114,7 +114,7 @@ pub enum Definition<'s> {
 
 /// An item of a command list.
 #[cycle(trees)]
-#[derive(Debug, Drop, PartialEq, Eq)]
+#[derive(Drop)]
 pub struct Item<'s> {
     pub labels: Vec<Label<'s>>,
     pub command: Option<Command<'s>>,
@@ -122,7 +122,7 @@ pub struct Item<'s> {
 
 /// What may stand before the command of an item.
 #[cycle(trees)]
-#[derive(Debug, Drop, PartialEq, Eq)]
+#[derive(Drop)]
 pub enum Label<'s> {
     Case(Exp<'s>),
     Default,
@@ -132,7 +132,7 @@ pub enum Label<'s> {
 /// A command. The two that hold most, TEST and FOR, hold their expressions in boxes, so that any command
 /// takes little room where it is passed by value.
 #[cycle(trees)]
-#[derive(Debug, Drop, PartialEq, Eq)]
+#[derive(Drop)]
 pub enum Command<'s> {
     /// Left sides and right sides, as many of one as of the other.
     Assign(Vec<Exp<'s>>, Vec<Exp<'s>>),
@@ -171,7 +171,7 @@ pub enum Command<'s> {
 }
 
 /// A section: the declarations of a file.
-#[derive(Debug, Drop, PartialEq, Eq)]
+#[derive(Drop)]
 pub struct Section<'s> {
     pub declarations: Vec<Declaration<'s>>,
 }
