@@ -66,7 +66,7 @@ call_read-returns t c =
     let es = c.args.arguments.now in let f = exp c.args.routine.now in let level = c.args.level in
     let is : end_with (readings_of_all Two (args es) (level + 2)) (readings Two f (level + 2 + length es)).any ≡ end_with (readings_of_all Two (args es) (level + 2)) (readings Two f (level + 2 + count (args es))).any =
     ap (λ m. end_with (readings_of_all Two (args es) (level + 2)) (readings Two f (level + 2 + m)).any) (sym (args_count es)) in
-    subst (λ x. Pushed c.args.trees.now.items c.read.new.trees.items x) is (pushed_then _ _ _ _ _ c.in_ok-all_read.ensures c.in_ok-read.ensures)
+    subst (λ x. Pushed c.args.trees.now.items c.read.new.trees.items x) is (pushed_then _ _ _ _ _ c.in_ok-arguments_read.ensures c.in_ok-read.ensures)
 
 pub cond_read-returns-in_default : goal.cond_read-returns-in_default
 cond_read-returns-in_default t c =

@@ -27,3 +27,6 @@ decreases-call_read l = 16 * nodes_of_args (args l.arguments.now) + 16 * nodes (
 
 abbrev pub decreases-all_read : goal.decreases-all_read
 decreases-all_read l = 16 * nodes_of_args (args l.arguments.now) + 16
+
+abbrev pub decreases-arguments_read : goal.decreases-arguments_read
+decreases-arguments_read l = 16 * nodes_of_args (args l.arguments.now) + 17
