@@ -1,7 +1,8 @@
 #!/usr/bin/env bash
 # The time of `select`, `rows`, `is_derivation` and `code_of` on roots of a thousand to a million nodes: sums to the left, quotients to the
 # right, balanced products, and calls in calls: the best of a number of runs of each. Prints millions of nodes a second for each, and how many
-# times as long twice the nodes take, which is the largest of the ratios from one size to the next.
+# times as long twice the nodes take, which is the largest of the ratios from one size to the next. All of it twice: with memory as a first
+# call finds it, and with memory that was used before, so that what the system takes to hand out and zero its pages can be told apart.
 set -eu
 cd "$(dirname "$0")"
 . ../workspace.sh
@@ -14,4 +15,7 @@ echo '0 10' | build_program
 
 # The trees are walked by recursion, to their depth.
 ulimit -s unlimited
+echo "As a first call finds memory: what is large comes new from the system each time, zeroed."
 python3 against_sizes.py "$program"
+echo "With memory that the C library keeps from call to call:"
+GLIBC_TUNABLES=glibc.malloc.mmap_max=0:glibc.malloc.trim_threshold=17179869184 python3 against_sizes.py "$program"

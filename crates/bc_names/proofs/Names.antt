@@ -65,8 +65,13 @@ indexed_push b E ns n q r r1 put e = ap (λ F. meant_by F q) (known_push b E ns 
     by false true h = absurd (true≢false (sym h))
     by false false h = e
 
-pub indexed_take : (b : Border) (E : Env) (ns : List Named) (i : ℕ) (n : Named) (q : Name) (r r1 : Option code.Meant) → i < length ns → r1 ≡ cond (bytes_eq (get_or ns i n).name.now q) (Some (get_or ns i n).meant) r → meant_by (known_over b E (take i ns)) q ≡ found_over b (meant_by E q) r → meant_by (known_over b E (take (i + 1) ns)) q ≡ found_over b (meant_by E q) r1
-indexed_take b E ns i n q r r1 h put e = ap (λ l. meant_by (known_over b E l) q) (take_more ns i n h) ∙ indexed_push b E (take i ns) (get_or ns i n) q r r1 put e
+-- one name of a list more, behind what it is put behind
+pub extended_push : (b : Border) (E F : Env) (ns ms : List Named) (i : ℕ) (m : Named) (v : code.Meant) → i < length ms → meant_view v ≡ over b (meant_view (get_or ms i m).meant) → known_over border.Open E ns ≡ known_over b F (take i ms) → known_over border.Open E (ns ++ record { name = (get_or ms i m).name; meant = v } ∷ []) ≡ known_over b F (take (i + 1) ms)
+extended_push b E F ns ms i m v h seen same =
+    let n = get_or ms i m in
+    known_push border.Open E ns (record { name = n.name; meant = v })
+    ∙ ap (λ x. (n.name.now, x) ∷ known_over border.Open E ns) seen
+    ∙ ap (λ G. (n.name.now, over b (meant_view n.meant)) ∷ G) same ∙ sym (known_take b F ms i m h)
 
 -- a border over which nothing more is seen otherwise
 outer_outer : (m : Meant) → outer (outer m) ≡ outer m

@@ -7,7 +7,6 @@ ghost use Rattle.bc_names.specs.Crossing.{outer, outside, joined, over, all_over
 use crate::table::NameTable;
 use bc_word::Memory;
 use std::alloc::Global;
-use std::mem;
 use std::rc::Rc;
 
 /// How many of its newest names a scope has for itself. The older ones are shared with the scopes that it was copied from.
@@ -92,14 +91,34 @@ impl<'s> Scope<'s> {
         self.alloc
     }
 
-    /// The newest names become a group that may be shared.
+    /// The last group's names, taken off, if no other scope has them and they are seen over no border, and else none.
+    #[tactic(auto, unfolding(crate::specs::View::scope_view), using(crate::proofs::Names::groups_push))]
+    fn take_last(&mut self) -> Result<NameTable<'s>, Memory>
+        ensures groups { IfOk result (λ last. groups_over [] self.old.groups.items ≡ known_over Border.Open (groups_over [] self.new.groups.items) last) }
+        ensures newest { self.new.newest ≡ self.old.newest }
+    {
+        if let Some(last) = self.groups.pop() {
+            let Group { names, border } = last;
+            let names = match border {
+                Border::Open => Rc::try_unwrap(names),
+                Border::Valof | Border::Routine => Err(names),
+            };
+            match names {
+                Ok(names) => return Ok(names),
+                Err(names) => self.groups.push(Group { names, border })?,
+            }
+        }
+        NameTable::new(self.alloc, OWN)
+    }
+
+    /// The newest names become a group that may be shared, or go into the last group where this scope alone has it.
     #[tactic(auto, unfolding(crate::specs::View::scope_view), using(crate::proofs::Names::groups_push))]
     fn share(&mut self) -> Result<(), Memory>
         ensures { IfOk result (λ _. scope_view self.new ≡ scope_view self.old) }
     {
-        let none = Vec::with_capacity(self.alloc, OWN)?;
-        let names = mem::replace(&mut self.newest, none);
-        let names = NameTable::new(self.alloc, names)?;
+        let last = self.take_last()?;
+        let names = last.extended(Border::Open, &self.newest)?;
+        self.newest.clear();
         self.groups.push(Group {
             names: Rc::new(self.alloc, names)?,
             border: Border::Open,
@@ -249,10 +268,9 @@ fn merged<'s>(alloc: Global, older: &Group<'s>, newer: &Group<'s>) -> Result<Gro
 {
     let before = older.names.names();
     let behind = newer.names.names();
-    let mut names = Vec::with_capacity(alloc, before.len() + behind.len())?;
-    push_over(&mut names, older.border, before)?;
-    push_over(&mut names, newer.border, behind)?;
-    let names = NameTable::new(alloc, names)?;
+    let names = NameTable::new(alloc, before.len() + behind.len())?
+        .extended(older.border, before)?
+        .extended(newer.border, behind)?;
     Ok(Group {
         names: Rc::new(alloc, names)?,
         border: Border::Open,

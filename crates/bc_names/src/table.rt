@@ -1,4 +1,4 @@
-ghost use Rattle.std.specs.Prelude.{◌≡◌, IfOk};
+ghost use Rattle.std.specs.Prelude.{◌≡◌, [], IfOk};
 ghost use Rattle.bc_scoping.specs.Scope.{Env, meant_by};
 ghost use Rattle.bc_names.specs.View.{known_over, found_or};
 
@@ -31,13 +31,35 @@ impl<'s> Model for NameTable<'s> {
 }
 
 impl<'s> NameTable<'s> {
-    /// The table of these names.
-    pub(crate) fn new(alloc: Global, names: Vec<Named<'s>>) -> Result<NameTable<'s>, Memory>
-        ensures { IfOk result (λ table. table ≡ names.entry.items) }
+    /// The table without names, with room for this many.
+    pub(crate) fn new(alloc: Global, count: usize) -> Result<NameTable<'s>, Memory>
+        ensures { IfOk result (λ table. table ≡ []) }
     {
-        let mut index = IndexMap::with_capacity(alloc, names.len())?;
-        for named in &names {
-            index.insert(named.name, named.meant)?;
+        Ok(NameTable {
+            names: Vec::with_capacity(alloc, count)?,
+            index: IndexMap::with_capacity(alloc, count)?,
+        })
+    }
+
+    /// The table with these names behind its own, as they are seen over a border.
+    pub(crate) fn extended(
+        self,
+        border: Border,
+        behind: &[Named<'s>],
+    ) -> Result<NameTable<'s>, Memory>
+        ensures { IfOk result (λ table. (E : Env) → known_over Border.Open E table ≡ known_over border (known_over Border.Open E self.entry) behind.now) }
+    {
+        let NameTable {
+            mut names,
+            mut index,
+        } = self;
+        for named in behind {
+            let meant = meant_over(border, named.meant);
+            names.push(Named {
+                name: named.name,
+                meant,
+            })?;
+            index.insert(named.name, meant)?;
         }
         Ok(NameTable { names, index })
     }

@@ -336,8 +336,11 @@ fn many_names_are_known(rt: HostRuntime) -> Result<(), Fail> {
     Ok(())
 }
 
-/// The first fault that `resolve` answers to sections that make it take memory in each of its ways, if there is one.
+/// The first fault that large scopes and `resolve` meet where they take memory in each of their ways, if there is one.
 fn grown(alloc: Global) -> Option<ScopeError<'static>> {
+    if many_known(alloc).is_err() {
+        return Some(ScopeError::Memory);
+    }
     let texts: [&[u8]; 2] = [
         b"MANIFEST $( M = 2 $); STATIC $( S = 'A' $); GLOBAL $( G:100 $)",
         b"LET F(X) = VALOF $( LET V = VEC 2; L: V!0, X := X, TABLE 1, 2; SWITCHON X INTO $( CASE 1: ENDCASE; DEFAULT: FOR I = 1 TO 3 DO V!I := F(I, \"AB\") $); GOTO L $) AND P() BE F(@F(1)!2) REPEATWHILE P() = 0",

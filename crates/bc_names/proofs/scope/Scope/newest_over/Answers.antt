@@ -1,4 +1,4 @@
-use Rattle.std.proofs.Common.{◌≡◌, ◌∙◌, ap}
+use Rattle.std.proofs.Common.{◌∙◌, ap}
 use Rattle.bc_names.specs.declared.scope.Border.TheVariants as border
 use Rattle.bc_names.specs.View.{known_over}
 use Rattle.bc_names.specs.Crossing.{all_over}
