@@ -10,10 +10,11 @@ use Rattle.bc_names.proofs.table.NameTable.extended.Goals as goal
 pub loop-named-preserved : goal.loop-named-preserved
 loop-named-preserved c =
     let put = c.in_ok-push.ensures.items in
-    let ns = c.loop-named.names.items in
-    ( (λ b E q.
-        ap (λ l. meant_by (known_over b E l) q.now) put
-        ∙ indexed_push b E ns _ q.now (get is_key c.loop-named.index q) (get is_key c.insert.new.self q) (c.in_ok-insert.ensures.updates.0 q) (c.loop-named.invariant.0 b E q))
-    , (λ E.
-        ap (known_over border.Open E) put
-        ∙ extended_push c.args.border E (known_over border.Open E c.args.self) ns c.args.behind.now c.loop-named.named-index _ _ c.loop-named-test.true c.meant_over-meant.ensures (c.loop-named.invariant.1 E)) )
+    let ns = c.loop-named.names.items in (
+      (λ b E q.
+          ap (λ l. meant_by (known_over b E l) q.now) put
+          ∙ indexed_push b E ns _ q.now (get is_key c.loop-named.index q) (get is_key c.insert.new.self q) (c.in_ok-insert.ensures.updates.0 q) (c.loop-named.invariant.0 b E q)),
+      (λ E.
+          ap (known_over border.Open E) put
+          ∙ extended_push c.args.border E (known_over border.Open E c.args.self) ns c.args.behind.now c.loop-named.named-index _ _ c.loop-named-test.true c.meant_over-meant.ensures (c.loop-named.invariant.1 E)),
+    )
