@@ -1,7 +1,10 @@
 -- The trees of an expression begin with the rules of its choices.
 use Rattle.std.proofs.Common.{◌≡◌, ℕ, ◌+◌, ◌++◌, Option, Some, None, refl, ap, sym, ◌∙◌, append-nil, append_assoc, arith}
 use Rattle.std.specs.Prelude.{true, false}
-use Rattle.bc_core.specs.Tree.{Exp, Num, Frame, Glob, Place, Load, Neg, Not, Bin, Cond, Call, Valof, Args, no_argument, argument, count}
+use Rattle.bc_core.specs.declared.operands.Operand.{Operand}
+use Rattle.bc_core.specs.Level.{side_level}
+use Rattle.bc_core.specs.Operand.{operand_of}
+use Rattle.bc_core.specs.Tree.{Exp, Num, Frame, Glob, Place, Load, Neg, Not, Bin, Cond, Call, Valof, Args, no_argument, argument, count, Assign}
 use Rattle.bc_core.specs.WellFormed.{nodes, nodes_of_args}
 use Rattle.bc_core.proofs.Rows.{then_argument}
 use Rattle.bc_derive.specs.declared.rule.Table.TheVariants.{Two}
@@ -14,10 +17,11 @@ use Rattle.bc_derive.specs.Rules.{Trees, by, no_part, part, end_with}
 use Rattle.bc_derive.specs.Code.{cost}
 use Rattle.bc_least.specs.declared.choice.Choice.{Choice}
 use Rattle.bc_least.specs.Least.{rule_number, first_rule}
-use Rattle.bc_least.specs.Choices.{choice_for, choices}
+use Rattle.bc_least.specs.declared.choice.Node.{Node}
+use Rattle.bc_least.specs.Choices.{choice_for, choices, node_of}
 use Rattle.bc_least.specs.Folds.{AtMost}
 use Rattle.bc_least.specs.Lower.{lower}
-use Rattle.bc_least.specs.Chosen.{some_value, some_test}
+use Rattle.bc_least.specs.Chosen.{some_value, some_test, assign_choice, assign_parts, root_choice, root_reading}
 use Rattle.bc_least.specs.Readings.{tree_for, tree_of, push_parts, value_parts, test_parts, read_line, readings, readings_of_all}
 use Rattle.bc_select.specs.Vector.{before_all, vector}
 use Rattle.bc_select.specs.Reads.{own_parts, parts_for, rule_or_v1}
@@ -62,6 +66,17 @@ reading_is e s (Jumps true) r h =
     ap (λ q. by q (parts_for e s (Jumps true) q)) h
     ∙ sym (chosen_tree x (test_parts (readings Two e s).any (own (Jumps true))) (never x (cost d s) (rule_number (first_rule d)) _ (lower d s)))
     ∙ ap (λ y. tree_of x (test_parts y.any (own (Jumps true)))) (is_line e s) ∙ sym (ap (λ y. y.on_true) (is_line e s))
+
+-- the choice of an assignment, both sides of which stand at level s, and its tree
+pub assignment_choice : (v a : Exp) (level s : ℕ) (o : Option Operand) (x y : Node) (r : Option Choice) → r ≡ assign_choice o x y level → o ≡ operand_of a → x ≡ node_of Two v s → y ≡ node_of Two a s → s ≡ side_level a level → r ≡ root_choice Two (Assign level v a)
+assignment_choice v a level s o x y r h i j k l =
+    h ∙ ap (λ q. assign_choice q x y level) i ∙ ap (λ n. assign_choice (operand_of a) n y level) j ∙ ap (λ n. assign_choice (operand_of a) (node_of Two v s) n level) k
+    ∙ ap (λ n. assign_choice (operand_of a) (node_of Two v n) (node_of Two a n) level) l
+
+pub assignment_is : (v a : Exp) (level s : ℕ) (x : Option Choice) (r : Rule) → s ≡ side_level a level → x ≡ root_choice Two (Assign level v a) → r ≡ rule_or_v1 x → by r (assign_parts (readings Two v s) (readings Two a s) r) ≡ root_reading Two (Assign level v a)
+assignment_is v a level s x r h i j =
+    let parts : Rule → Trees = assign_parts (readings Two v (side_level a level)) (readings Two a (side_level a level)) in
+    ap (λ n. by r (assign_parts (readings Two v n) (readings Two a n) r)) h ∙ ap (λ q. by q (parts q)) (j ∙ ap rule_or_v1 i) ∙ sym (chosen_tree (root_choice Two (Assign level v a)) parts (λ k. refl))
 
 -- one argument more at the end
 pub before_all-then : (es : Args) (e : Exp) (s : ℕ) → before_all (then_argument es e) s ≡ before_all es s ++ vector e (s + count es)

@@ -1,9 +1,9 @@
 -- The rows of the nodes say what they are to say.
-use Rattle.std.proofs.Common.{◌≡◌, ℕ, ◌+◌, List, [], ◌∷◌, ◌++◌, map, Option, Some, None, Result, Ok, Err, refl, ap, sym, subst, ◌∙◌}
+use Rattle.std.proofs.Common.{◌≡◌, ℕ, ◌+◌, List, [], ◌∷◌, ◌++◌, map, Option, Some, None, refl, ap, sym, subst, ◌∙◌}
 use Rattle.std.proofs.lemmas.List.{map-append}
-use Rattle.std.specs.Prelude.{true, false, IfOk}
+use Rattle.std.specs.Prelude.{true, false}
 use Rattle.std.specs.List.{AllZip}
-use Rattle.bc_core.specs.Tree.{Exp, Num, Frame, Glob, Place, Load, Neg, Not, Bin, Cond, Call, Valof, Args, no_argument, argument, count, Root, Value, Test, Assign}
+use Rattle.bc_core.specs.Tree.{Exp, Root, Num, Frame, Glob, Place, Load, Neg, Not, Bin, Cond, Call, Valof, Args, no_argument, argument, count, Value, Test, Assign}
 use Rattle.bc_core.specs.Level.{side_level}
 use Rattle.bc_derive.specs.declared.rule.Table.TheVariants.{Two}
 use Rattle.bc_derive.specs.declared.rule.Mode.TheVariants.{Any, Push}
@@ -67,8 +67,13 @@ root_rows (Value s e) = vector_rows e s
 root_rows (Test s sense e) = vector_rows e s
 root_rows (Assign s v a) = both (vector v (side_level a s)) (vector a (side_level a s)) (in_order v (side_level a s)) (in_order a (side_level a s)) (vector_rows v (side_level a s)) (vector_rows a (side_level a s))
 
-pub rows_right : (r : Root) → AllZip IsRowOf (root_in_order r) (map row_of_part (root_vector r))
+rows_right : (r : Root) → AllZip IsRowOf (root_in_order r) (map row_of_part (root_vector r))
 rows_right r = let P : List Row → Type 0 = λ rows. AllZip IsRowOf (root_in_order r) rows in subst P (sym (root_rows r)) (all_right (root_in_order r))
+
+pub rows_of_root : (r : Root) (rows : List Row) (nodes front : List Part) → rows ≡ map row_of_part nodes → nodes ≡ front ++ root_vector r → front ≡ [] → AllZip IsRowOf (root_in_order r) rows
+rows_of_root r rows nodes front h i j =
+    let P : List Row → Type 0 = λ x. AllZip IsRowOf (root_in_order r) x in
+    subst P (sym (h ∙ ap (map row_of_part) (i ∙ ap (λ x. x ++ root_vector r) j))) (rows_right r)
 
 counted : (x : Option Choice) (n : ℕ) → words_of x ≡ Some n → words_or_none x ≡ n
 counted None n h = cc
@@ -76,7 +81,3 @@ counted (Some c) n h = cc
 
 pub words_are : (r : Root) → words_or_none (root_choice Two r) ≡ root_cost (chosen Two r)
 words_are r = counted (root_choice Two r) (root_cost (chosen Two r)) (chosen_words Two r)
-
-pub ok_also : {A E : Type 0} (r : Result A E) (P Q : A → Type 0) → ((x : A) → P x → Q x) → IfOk r P → IfOk r Q
-ok_also (Ok x) P Q f h = f x h
-ok_also (Err e) P Q f h = tt

@@ -1,6 +1,7 @@
-ghost use Rattle.std.specs.Prelude.{◌≡◌, ◌≤◌, ◌+◌, ◌*◌, ◌^◌, ◌++◌, IfOk, OnOk, map, cond, is_some};
+ghost use Rattle.std.specs.Prelude.{◌≡◌, ◌≤◌, ◌+◌, ◌*◌, ◌^◌, ◌++◌, IfOk, OnOk};
 ghost use Rattle.std.specs.List.{AllZip};
 ghost use Rattle.bc_core.specs.Tree as tree;
+ghost use Rattle.bc_core.specs.Level.{side_level as level_of_sides};
 ghost use Rattle.bc_core.specs.View.{exp, root as root_of};
 ghost use Rattle.bc_core.specs.WellFormed.{nodes as nodes_in};
 ghost use Rattle.bc_derive.specs.declared.rule.Table.TheVariants.{Two};
@@ -12,7 +13,6 @@ ghost use Rattle.bc_least.specs.Nodes.{root_nodes, root_in_order};
 ghost use Rattle.bc_select.specs.Reads.{rule_or_v1};
 ghost use Rattle.bc_select.specs.Rows.{IsRowOf};
 ghost use Rattle.bc_select.specs.Selection.{root_vector, words_or_none};
-ghost use Rattle.bc_select.specs.Row.{row_of_part};
 ghost use Rattle.bc_select.specs.Vector.{vector};
 ghost use Rattle.bc_least.specs.Readings.{tree_for, readings};
 ghost use Rattle.bc_least.specs.Choices.{choice_for as choice_of, choices};
@@ -23,10 +23,10 @@ use crate::part::own_operand;
 use crate::reading::{ANY, Step, parts, sides_read};
 use crate::row::Row;
 use crate::split::{choice_for, cut, last, rule_for};
-use crate::table::Table;
+use crate::table::{Nodes, Table};
 use crate::tree::tree;
 use crate::whole::operand_node;
-use bc_core::{CoreExp, Operand, Root};
+use bc_core::{CoreExp, Root};
 use bc_derive::{Aim, Derivation, Rule};
 use bc_least::Choice;
 use bc_word::Memory;
@@ -42,25 +42,59 @@ pub struct Selected {
     pub table: Vec<Row>,
 }
 
-/// An expression, with what its code is for.
-fn expression(alloc: Global, e: &CoreExp, level: u16, aim: Aim) -> Result<Selected, Memory>
-    requires { nodes_in (exp e.now) ≤ 2 ^ 32 }
-    ensures derivation { IfOk result (λ s. derivation_of s.derivation ≡ tree_for aim (readings Two (exp e.now) level)) }
-    ensures words { IfOk result (λ s. s.words ≡ words_or_none (choice_of aim (choices Two (exp e.now) level))) }
-    ensures table { IfOk result (λ s. s.table.items ≡ map row_of_part (vector (exp e.now) level)) }
+/// A root's derivation of least words, and those words.
+#[derive(Drop)]
+struct Reading {
+    derivation: Derivation,
+    words: u64,
+}
+
+/// Puts the nodes of a root behind the others.
+fn lay_out_root(root: &Root, nodes: &mut Table) -> Result<(), Memory>
+    requires { root_nodes (root_of root.now) ≤ 2 ^ 32 }
+    ensures { OnOk result (nodes.new ≡ nodes.old ++ root_vector (root_of root.now)) }
 {
-    let level = u64::from(level);
-    let mut table = Table::new(alloc);
-    lay_out(e, level, &mut table)?;
-    let nodes = table.nodes();
-    let rule = rule_for(&nodes, aim);
+    match root {
+        Root::Value {
+            level,
+            expression: e,
+        }
+        | Root::Test {
+            level,
+            expression: e,
+            ..
+        } => lay_out(e, u64::from(*level), nodes),
+        Root::Assign {
+            level,
+            value,
+            address,
+        } => {
+            let side = side_level(address, u64::from(*level));
+            lay_out(value, side, nodes)?;
+            lay_out(address, side, nodes)
+        }
+    }
+}
+
+/// An expression, with what its code is for.
+fn expression(
+    alloc: Global,
+    e: &CoreExp,
+    level: u64,
+    aim: Aim,
+    nodes: &Nodes,
+) -> Result<Reading, Memory>
+    requires fits { level + 2 * nodes_in (exp e.now) ≤ 2 ^ 40 }
+    requires nodes { nodes.now ≡ vector (exp e.now) level }
+    ensures derivation { IfOk result (λ r. derivation_of r.derivation ≡ tree_for aim (readings Two (exp e.now) level)) }
+    ensures words { IfOk result (λ r. r.words ≡ words_or_none (choice_of aim (choices Two (exp e.now) level))) }
+{
+    let rule = rule_for(nodes, aim);
     let mut trees = Vec::new(alloc);
-    parts(e, &nodes, Step { level, aim, rule }, &mut trees)?;
-    let words = count(choice_for(&last(&nodes).choices, aim));
-    Ok(Selected {
+    parts(e, nodes, Step { level, aim, rule }, &mut trees)?;
+    Ok(Reading {
         derivation: tree(rule, trees),
-        words,
-        table: table.into_rows(),
+        words: count(choice_for(&last(nodes).choices, aim)),
     })
 }
 
@@ -84,12 +118,12 @@ fn rule(choice: Option<Choice>) -> Rule
     }
 }
 
-/// The level of both sides of an assignment to an address that is this operand or none.
-fn side_level(operand: Option<Operand>, level: u64) -> u64
+/// The level of both sides of an assignment to an address.
+fn side_level(address: &CoreExp, level: u64) -> u64
     requires { level ≤ 65535 }
-    ensures { result ≡ cond (is_some operand) level (level + 1) }
+    ensures { result ≡ level_of_sides (exp address.now) level }
 {
-    match operand {
+    match own_operand(address) {
         Some(_) => level,
         None => level + 1,
     }
@@ -100,25 +134,20 @@ fn assignment(
     alloc: Global,
     value: &CoreExp,
     address: &CoreExp,
-    level: u16,
-) -> Result<Selected, Memory>
-    requires { nodes_in (exp value.now) + nodes_in (exp address.now) ≤ 2 ^ 32 }
-    ensures derivation { IfOk result (λ s. derivation_of s.derivation ≡ root_reading Two (tree.Assign level (exp value.now) (exp address.now))) }
-    ensures words { IfOk result (λ s. s.words ≡ words_or_none (root_choice Two (tree.Assign level (exp value.now) (exp address.now)))) }
-    ensures table { IfOk result (λ s. s.table.items ≡ map row_of_part (root_vector (tree.Assign level (exp value.now) (exp address.now)))) }
+    level: u64,
+    nodes: &Nodes,
+) -> Result<Reading, Memory>
+    requires level { level ≤ 65535 }
+    requires fits { nodes_in (exp value.now) + nodes_in (exp address.now) ≤ 2 ^ 32 }
+    requires nodes { nodes.now ≡ vector (exp value.now) (level_of_sides (exp address.now) level) ++ vector (exp address.now) (level_of_sides (exp address.now) level) }
+    ensures derivation { IfOk result (λ r. derivation_of r.derivation ≡ root_reading Two (tree.Assign level (exp value.now) (exp address.now))) }
+    ensures words { IfOk result (λ r. r.words ≡ words_or_none (root_choice Two (tree.Assign level (exp value.now) (exp address.now)))) }
 {
-    let level = u64::from(level);
-    let operand = own_operand(address);
-    let own = operand;
-    let side = side_level(own, level);
-    let mut table = Table::new(alloc);
-    lay_out(value, side, &mut table)?;
-    lay_out(address, side, &mut table)?;
-    let nodes = table.nodes();
-    let (front, _) = cut(&nodes);
+    let side = side_level(address, level);
+    let (front, _) = cut(nodes);
     let first = operand_node(value, &last(&front));
-    let second = operand_node(address, &last(&nodes));
-    let choice = assign_choice(operand, &first, &second, level);
+    let second = operand_node(address, &last(nodes));
+    let choice = assign_choice(own_operand(address), &first, &second, level);
     let rule = rule(choice);
     let step = Step {
         level: side,
@@ -126,36 +155,35 @@ fn assignment(
         rule,
     };
     let mut trees = Vec::new(alloc);
-    sides_read(value, address, &nodes, step, &mut trees)?;
-    Ok(Selected {
+    sides_read(value, address, nodes, step, &mut trees)?;
+    Ok(Reading {
         derivation: tree(rule, trees),
         words: count(choice),
-        table: table.into_rows(),
     })
 }
 
-/// What the choices of a root come to.
-fn root_selection(alloc: Global, root: &Root) -> Result<Selected, Memory>
-    requires { root_nodes (root_of root.now) ≤ 2 ^ 32 }
-    ensures derivation { IfOk result (λ s. derivation_of s.derivation ≡ root_reading Two (root_of root.now)) }
-    ensures words { IfOk result (λ s. s.words ≡ words_or_none (root_choice Two (root_of root.now))) }
-    ensures table { IfOk result (λ s. s.table.items ≡ map row_of_part (root_vector (root_of root.now))) }
+/// What the choices of a root with these nodes come to.
+fn read_root(alloc: Global, root: &Root, nodes: &Nodes) -> Result<Reading, Memory>
+    requires fits { root_nodes (root_of root.now) ≤ 2 ^ 32 }
+    requires nodes { nodes.now ≡ root_vector (root_of root.now) }
+    ensures derivation { IfOk result (λ r. derivation_of r.derivation ≡ root_reading Two (root_of root.now)) }
+    ensures words { IfOk result (λ r. r.words ≡ words_or_none (root_choice Two (root_of root.now))) }
 {
     match root {
         Root::Value {
             level,
             expression: e,
-        } => expression(alloc, e, *level, ANY),
+        } => expression(alloc, e, u64::from(*level), ANY, nodes),
         Root::Test {
             level,
             sense,
             expression: e,
-        } => expression(alloc, e, *level, Aim::Jumps(*sense)),
+        } => expression(alloc, e, u64::from(*level), Aim::Jumps(*sense), nodes),
         Root::Assign {
             level,
             value,
             address,
-        } => assignment(alloc, value, address, *level),
+        } => assignment(alloc, value, address, u64::from(*level), nodes),
     }
 }
 
@@ -171,7 +199,14 @@ pub fn select(alloc: Global, root: &Root) -> Result<Selected, Memory>
     ensures words { IfOk result (λ s. s.words ≡ root_cost (chosen Two (root_of root.now))) }
     ensures table { IfOk result (λ s. AllZip IsRowOf (root_in_order (root_of root.now)) s.table.items) }
 {
-    root_selection(alloc, root)
+    let mut table = Table::new(alloc);
+    lay_out_root(root, &mut table)?;
+    let Reading { derivation, words } = read_root(alloc, root, &table.nodes())?;
+    Ok(Selected {
+        derivation,
+        words,
+        table: table.into_rows(),
+    })
 }
 
 /// The rows of a root's nodes, as `select` gives them.
@@ -181,6 +216,7 @@ pub fn rows(alloc: Global, root: &Root) -> Result<Vec<Row>, Memory>
     requires { root_nodes (root_of root.now) ≤ 2 ^ 32 }
     ensures { IfOk result (λ v. AllZip IsRowOf (root_in_order (root_of root.now)) v.items) }
 {
-    let Selected { table, .. } = select(alloc, root)?;
-    Ok(table)
+    let mut table = Table::new(alloc);
+    lay_out_root(root, &mut table)?;
+    Ok(table.into_rows())
 }
