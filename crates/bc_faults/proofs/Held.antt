@@ -2,13 +2,12 @@
 use Rattle.std.proofs.Common.{◌≡◌, ℕ, ◌+◌, ◌<◌, ◌≤◌, ap, refl, zero, suc, List, [], ◌∷◌, length, get_or, arith}
 use Rattle.bc_tree.specs.declared.tree.Exp as code
 use Rattle.bc_tree.specs.declared.tree.Constant as code_constant
-use Rattle.bc_tree.specs.declared.tree.Constant.{fold_out-Constant}
-use Rattle.bc_tree.specs.Tree as tree
 use Rattle.bc_tree.specs.declared.tree.Declaration as code_declaration
 use Rattle.bc_tree.specs.declared.tree.Definition as code_definition
 use Rattle.bc_tree.specs.declared.tree.Item as code_item
 use Rattle.bc_tree.specs.declared.tree.Label as code_label
-use Rattle.bc_tree.specs.View.{command_step, declaration_step, definition_step, exp_step, label_step, block_step, constant_step, item_step, exp_view, exps_view, constant_view, entries_view, declaration_view, declarations_view, definition_view, definitions_view, item_view, items_view, label_view, labels_view}
+use Rattle.bc_faults.proofs.Lists.{constant_seen}
+use Rattle.bc_tree.specs.View.{exp_view, exps_view, entries_view, declaration_view, declarations_view, definition_view, definitions_view, item_view, items_view, label_view, labels_view}
 use Rattle.bc_tree.specs.Size.{exp_size, exps_size, entries_size, declaration_size, declarations_size, definition_size, definitions_size, item_size, items_size, label_size, labels_size}
 
 held : {A : Type 0} (size : A → ℕ) (total : List A → ℕ) → ((x : A) (xs : List A) → total (x ∷ xs) ≡ size x + total xs)
@@ -19,9 +18,6 @@ held size total step (y ∷ ys) (suc i) x h q = omega (arith, step y ys, held si
 
 pub exp_held : (es : List code.Exp) (i : ℕ) (e : code.Exp) → i < length es → e ≡ get_or es i e → exp_size (exp_view e) ≤ exps_size (exps_view es)
 exp_held = held (λ e. exp_size (exp_view e)) (λ es. exps_size (exps_view es)) (λ e es. refl)
-
-constant_seen : (e : code_constant.Constant) → constant_view e ≡ (e.name.now, exp_view e.value)
-constant_seen e = fold_out-Constant tree.Command tree.Declaration tree.Definition tree.Exp tree.Label tree.Block (List ℕ × tree.Exp) tree.Item command_step declaration_step definition_step exp_step label_step block_step constant_step item_step e
 
 pub entry_held : (es : List code_constant.Constant) (i : ℕ) (e : code_constant.Constant) → i < length es → e ≡ get_or es i e → exp_size (exp_view e.value) ≤ entries_size (entries_view es)
 entry_held = held (λ e. exp_size (exp_view e.value)) (λ es. entries_size (entries_view es)) (λ e es. ap (λ p. exp_size p.1 + entries_size (entries_view es)) (constant_seen e))

@@ -6,3 +6,6 @@ pub mod Lists
 pub mod Turns
 pub mod Held
 pub mod Sets
+pub mod Kept
+pub mod Lets
+pub mod Scopes

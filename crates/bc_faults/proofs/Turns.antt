@@ -3,13 +3,16 @@ use Rattle.std.proofs.Common.{◌≡◌, ℕ, ◌+◌, max, Bool, false, refl, a
 use Rattle.bc_names.specs.declared.error.ScopeError.{ScopeError}
 use Rattle.bc_names.specs.declared.error.ScopeError.TheVariants as code
 use Rattle.bc_faults.specs.Judged.{IsFault}
+use Rattle.bc_tree.specs.declared.tree.Storage.{Storage}
+use Rattle.bc_tree.specs.declared.tree.Storage.TheVariants as storage
 use Rattle.bc_tree.specs.Tree.{Exp, Exps, none, more, Item, Items, item, Labelled, Labels_alone}
 use Rattle.bc_scoping.specs.Scope.{Env, Numbers}
 use Rattle.bc_scoping.specs.Numbering.{labels_of, behind, behind_item, behind_command}
 use Rattle.bc_scoping.specs.Source.{labels_of_that}
-use Rattle.bc_scoping.specs.Found.{found, found_in_sides, found_in_items, found_in_command}
+use Rattle.bc_scoping.specs.Found.{Thing, found_entry, found, found_in_sides, found_in_items, found_in_command}
 use Rattle.bc_scoping.specs.Frames.{width, widths, width_of_items, width_of_command}
 use Rattle.bc_scoping.specs.Faults.{Fault, Allowed, Met, or_else, met_labels, fault, sides_fault, items_fault, labels_fault, command_fault}
+use Rattle.bc_faults.specs.Seen.{frames_fit}
 use Rattle.bc_faults.specs.Parts.{item_fault, item_found, item_width, head_level, side_width}
 use Rattle.bc_faults.proofs.Numberless.{items_found, items_width}
 
@@ -51,6 +54,12 @@ pub side_widths_on : (E : Env) (at : Numbers) (e : Exp) (es : Exps) (ss : List �
     → widths E at (more e es) ss ≡ side_width ss (width E at e (head_level ss)) ++ widths E (behind at e) es (drop 1 ss)
 side_widths_on E at e es [] = sym (no_widths E (behind at e) es)
 side_widths_on E at e es (s ∷ ss) = refl
+
+-- a declaration of constants has no frames
+pub entry_fits : (b : Bool) (s : Storage) (at : Numbers) (w : ℕ) (ts : List Thing) → frames_fit b (found_entry s at w ++ ts) ≡ frames_fit b ts
+entry_fits b storage.Manifest at w ts = refl
+entry_fits b storage.Static at w ts = refl
+entry_fits b storage.Global at w ts = refl
 
 first : (a b : Option Fault) (f : Fault) → a ≡ Some f → or_else a b ≡ Some f
 first a b f h = ap (λ x. or_else x b) h

@@ -1,4 +1,6 @@
 pub mod Judged
+pub mod Kept
 pub mod Seen
 pub mod Walked
 pub mod Parts
+pub mod Vectors

@@ -3,7 +3,7 @@ use Rattle.std.specs.Prelude.{◌≡◌, ℕ, List, Option, None, Vec, Result, O
 use Rattle.std.specs.declared.alloc.Global.{Global}
 use Rattle.bc_names.specs.View.{scope_view, numbers_view}
 use Rattle.bc_names.specs.declared.error.ScopeError.{ScopeError}
-use Rattle.bc_names.specs.declared.scope.Scope.{Scope}
+use Rattle.bc_names.specs.declared.scope.Entry.{Entry}
 use Rattle.bc_faults.specs.declared.progress.Extent.{Extent}
 use Rattle.bc_faults.specs.declared.progress.Progress.{Progress}
 use Rattle.bc_faults.specs.Judged.{IsFault}
@@ -17,7 +17,7 @@ Sided (Ok ws) f before after behind things widths = (f ≡ None) × (ws.items �
 Sided (Err e) f before after behind things widths = IsFault e f
 
 -- the names behind entries
-abbrev pub Entered : {X : Type 0} → Result X ScopeError → Option Fault → (before after : Progress) → (behind : Numbers) → List Thing → Scope → Env → Type 0
+abbrev pub Entered : {X : Type 0} → Result X ScopeError → Option Fault → (before after : Progress) → (behind : Numbers) → List Thing → List Entry → Env → Type 0
 Entered (Ok w) f before after behind things scope E = (f ≡ None) × (scope_view scope ≡ E) × (numbers_view after.at ≡ behind) × (after.fits ≡ frames_fit before.fits things)
 Entered (Err e) f before after behind things scope E = IsFault e f
 
@@ -26,7 +26,7 @@ abbrev pub Defined : Result ℕ ScopeError → Option Fault → (before after : 
 Defined (Ok w) f before after behind things width names all = (f ≡ None) × (w ≡ width) × (numbers_view after.at ≡ behind) × (after.fits ≡ frames_fit before.fits things) × (names ≡ all)
 Defined (Err e) f before after behind things width names all = IsFault e f
 
-abbrev pub DeclaredBy : Result Extent ScopeError → Option Fault → (before after : Progress) → (behind : Numbers) → List Thing → Scope → Env → (level width : ℕ) → Type 0
+abbrev pub DeclaredBy : Result Extent ScopeError → Option Fault → (before after : Progress) → (behind : Numbers) → List Thing → List Entry → Env → (level width : ℕ) → Type 0
 DeclaredBy (Ok d) f before after behind things scope E level width =
     (f ≡ None) × (scope_view scope ≡ E) × (d.level ≡ level) × (d.width ≡ width) × (numbers_view after.at ≡ behind) × (after.fits ≡ frames_fit before.fits things)
 DeclaredBy (Err e) f before after behind things scope E level width = IsFault e f

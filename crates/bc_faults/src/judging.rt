@@ -7,6 +7,7 @@ ghost use Rattle.bc_names.specs.View.{meant_view, scope_view};
 ghost use Rattle.bc_core.specs.Level.{level_behind_parameters};
 ghost use Rattle.bc_faults.specs.Parts.{head_level, side_width};
 ghost use Rattle.bc_faults.specs.Judged.{Judges, Passes};
+ghost use Rattle.bc_faults.specs.Vectors.{fault_view, first_found};
 ghost use Rattle.bc_faults.specs.Seen.{allowed_view, names_view, met_view};
 
 use bc_names::{Meant, Scope, ScopeError, constant, is_operand, sum};
@@ -78,6 +79,16 @@ pub fn unless_misplaced<'s>(allowed: bool) -> Result<(), ScopeError<'s>>
         Ok(())
     } else {
         Err(ScopeError::Misplaced)
+    }
+}
+
+/// A fault that was found before.
+pub fn unless_found<'s>(fault: Option<ScopeError<'s>>) -> Result<(), ScopeError<'s>>
+    ensures { Passes result (fault_view fault.entry) }
+{
+    match fault {
+        Some(fault) => Err(fault),
+        None => Ok(()),
     }
 }
 
@@ -347,6 +358,15 @@ pub fn level_at(levels: &[u64], i: u64) -> u64
 {
     let i = i as usize;
     if i < levels.len() { levels[i] } else { 0 }
+}
+
+/// The fault that was found for this definition; none where there are not as many.
+#[tactic(auto, using(std::proofs::lemmas::List::drop_more, std::proofs::lemmas::List::drop_all))]
+pub fn fault_at<'s>(faults: &[Option<ScopeError<'s>>], i: u64) -> Option<ScopeError<'s>>
+    ensures { result ≡ first_found (drop i faults.now) }
+{
+    let i = i as usize;
+    if i < faults.len() { faults[i] } else { None }
 }
 
 /// The width of an expression of this pair, where there is such a pair.

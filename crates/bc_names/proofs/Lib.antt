@@ -1,2 +1,5 @@
 pub mod Names
+pub mod Kept
+pub mod Extends
+pub mod Lets
 pub mod Counts

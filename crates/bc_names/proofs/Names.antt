@@ -1,79 +1,37 @@
--- Names that are known, oldest first in the code and newest first in the definitions.
-use Rattle.std.proofs.Common.{◌≡◌, ℕ, ◌+◌, ◌-◌, ◌<◌, refl, ap, ◌∙◌, sym, List, [], ◌∷◌, ◌++◌, length, get_or, take, ◌==◌, ◌&&◌, Bool, true, false, true≢false, cond, Option, Some, suc, arith}
-use Rattle.std.proofs.Math.Seq.{take-length}
-use Rattle.std.proofs.Math.Bool.{and-true, and-false, and_assoc}
-use Rattle.std.proofs.lemmas.List.{take_more, length-take-le}
-use Rattle.bc_names.specs.declared.scope.Border.{Border}
-use Rattle.bc_names.specs.declared.scope.Border.TheVariants as border
-use Rattle.bc_names.specs.declared.scope.Group.{Group}
-use Rattle.bc_names.specs.declared.scope.Named.{Named}
-use Rattle.std.specs.Str.{bytes_eq}
-use Rattle.bc_names.specs.declared.scope.Meant as code
-use Rattle.bc_names.specs.Index.{found_over}
-use Rattle.bc_names.specs.View.{known_over, groups_over, meant_view}
-use Rattle.bc_names.specs.Crossing.{outer, outside, over, joined, all_over}
+-- What a name means by the entries of a scope, and by what a scope keeps beside them.
+use Rattle.std.proofs.Common.{◌≡◌, ℕ, ◌+◌, ◌<◌, ◌≤◌, refl, ap, ◌∙◌, sym, List, [], ◌∷◌, ◌++◌, length, Bool, true, false, cond, ltb, Option, Some, None, arith, rules}
+use Rattle.bc_names.specs.declared.scope.Borders.{Borders}
+use Rattle.bc_names.specs.declared.scope.Bound.{Bound}
+use Rattle.bc_names.specs.declared.scope.Entry.{Entry}
+use Rattle.bc_names.specs.declared.scope.Entry.TheVariants as entry
+use Rattle.bc_names.specs.Crossing.{outer, outside, seen}
+use Rattle.bc_names.specs.Index.{newest, newest_one, borders_of, behind_border, no_borders}
+use Rattle.bc_names.specs.View.{meant_view, behind_one, behind_entries}
 use Rattle.bc_scoping.specs.Scope.{Env, Name, is_name, meant_by, Meant, Constant, Pending, Static, Global, Routine, Variable, Label, OuterVariable, OuterLabel, LabelOutside, Undeclared}
 use Rattle.bc_scoping.specs.Scoping.{in_routine, in_valof}
 
-pub known_push : (b : Border) (E : Env) (ns : List Named) (n : Named) → known_over b E (ns ++ n ∷ []) ≡ (n.name.now, over b (meant_view n.meant)) ∷ known_over b E ns
-known_push b E [] n = refl
-known_push b E (m ∷ ns) n = known_push b ((m.name.now, over b (meant_view m.meant)) ∷ E) ns n
+-- one entry more
 
-pub known_take : (b : Border) (E : Env) (ns : List Named) (i : ℕ) (n : Named) → i < length ns → known_over b E (take (i + 1) ns) ≡ ((get_or ns i n).name.now, over b (meant_view (get_or ns i n).meant)) ∷ known_over b E (take i ns)
-known_take b E ns i n h = ap (known_over b E) (take_more ns i n h) ∙ known_push b E (take i ns) (get_or ns i n)
+pub behind_push : (es : List Entry) (e : Entry) (E : Env) → behind_entries (es ++ e ∷ []) E ≡ behind_one e (behind_entries es E)
+behind_push [] e E = refl
+behind_push (x ∷ es) e E = behind_push es e (behind_one x E)
 
-pub groups_push : (E : Env) (gs : List Group) (g : Group) → groups_over E (gs ++ g ∷ []) ≡ known_over g.border (groups_over E gs) g.names.value
-groups_push E [] g = refl
-groups_push E (h ∷ gs) g = groups_push (known_over h.border E h.names.value) gs g
+newest_push : (i : ℕ) (es : List Entry) (e : Entry) (q : Name) (k : Option Bound) → newest i (es ++ e ∷ []) q k ≡ newest_one (i + length es) e q (newest i es q k)
+newest_push i [] e q k = ap (λ j. newest_one j e q k) (omega arith)
+newest_push i (x ∷ es) e q k = newest_push (i + 1) es e q (newest_one i x q k) ∙ ap (λ j. newest_one j e q (newest (i + 1) es q (newest_one i x q k))) (omega arith)
 
-pub groups_take : (gs : List Group) (i : ℕ) (g : Group) → i < length gs → groups_over [] (take (i + 1) gs) ≡ known_over (get_or gs i g).border (groups_over [] (take i gs)) (get_or gs i g).names.value
-groups_take gs i g h = ap (groups_over []) (take_more gs i g h) ∙ groups_push [] (take i gs) (get_or gs i g)
+borders_push : (i : ℕ) (es : List Entry) (e : Entry) (b : Borders) → borders_of i (es ++ e ∷ []) b ≡ behind_border (i + length es) e (borders_of i es b)
+borders_push i [] e b = ap (λ j. behind_border j e b) (omega arith)
+borders_push i (x ∷ es) e b = borders_push (i + 1) es e (behind_border i x b) ∙ ap (λ j. behind_border j e (borders_of (i + 1) es (behind_border i x b))) (omega arith)
 
--- a group in the place of the last two, by which as much is known
-pub merged_last : (gs : List Group) (c : ℕ) (o n m : Group) → c ≡ length gs → 1 < c → o ≡ get_or gs (c - 2) o → n ≡ get_or gs (c - 1) n → ((E : Env) → known_over m.border E m.names.value ≡ known_over n.border (known_over o.border E o.names.value) n.names.value) → groups_over [] (take (c - 2) gs ++ m ∷ []) ≡ groups_over [] gs
-merged_last gs c o n m len two eo en same =
-    let before = groups_over [] (take (c - 2) gs) in
-    let next : c - 2 + 1 ≡ c - 1 = omega arith in
-    let last : c - 1 + 1 ≡ length gs = omega arith in
-    groups_push [] (take (c - 2) gs) m ∙ same before
-    ∙ ap (λ y. known_over n.border (known_over y.border before y.names.value) n.names.value) eo
-    ∙ ap (λ F. known_over n.border F n.names.value) (sym (groups_take gs (c - 2) o (omega arith)))
-    ∙ ap (λ k. known_over n.border (groups_over [] (take k gs)) n.names.value) next
-    ∙ ap (λ y. known_over y.border (groups_over [] (take (c - 1) gs)) y.names.value) en
-    ∙ sym (groups_take gs (c - 1) n (omega arith))
-    ∙ ap (λ k. groups_over [] (take k gs)) last ∙ ap (groups_over []) (take-length gs)
+pub newest_last : (es : List Entry) (e : Entry) (q : Name) (k : Option Bound) → newest 0 (es ++ e ∷ []) q k ≡ newest_one (length es) e q (newest 0 es q k)
+newest_last es e q k = newest_push 0 es e q k ∙ ap (λ j. newest_one j e q (newest 0 es q k)) (omega arith)
 
--- what a name means by the groups up to one, where it is known what it means by that one
-pub group_found : (gs : List Group) (i : ℕ) (g : Group) (ns : List Named) (n : Name) (m : Meant) → i < length gs → g ≡ get_or gs i g → ns ≡ g.names.value → meant_by (known_over g.border (groups_over [] (take i gs)) ns) n ≡ m → meant_by (groups_over [] (take (i + 1) gs)) n ≡ m
-group_found gs i g ns n m h eg ens e =
-    let E = groups_over [] (take i gs) in
-    ap (λ F. meant_by F n) (groups_take gs i g h) ∙ ap (λ y. meant_by (known_over y.border E y.names.value) n) (sym eg) ∙ ap (λ l. meant_by (known_over g.border E l) n) (sym ens) ∙ e
+pub borders_last : (es : List Entry) (e : Entry) (b : Borders) → borders_of 0 (es ++ e ∷ []) b ≡ behind_border (length es) e (borders_of 0 es b)
+borders_last es e b = borders_push 0 es e b ∙ ap (λ j. behind_border j e (borders_of 0 es b)) (omega arith)
 
-is_name-bytes_eq : (a b : Name) → is_name a b ≡ bytes_eq a b
-is_name-bytes_eq [] [] = refl
-is_name-bytes_eq [] (y ∷ b) = refl
-is_name-bytes_eq (x ∷ a) [] = refl
-is_name-bytes_eq (x ∷ a) (y ∷ b) = ap (λ t. (x == y) && t) (is_name-bytes_eq a b)
+-- the meanings of a routine's and a VALOF's surroundings, twice over
 
--- one name more, and an index in which it has its meaning
-pub indexed_push : (b : Border) (E : Env) (ns : List Named) (n : Named) (q : Name) (r r1 : Option code.Meant) → r1 ≡ cond (bytes_eq n.name.now q) (Some n.meant) r → meant_by (known_over b E ns) q ≡ found_over b (meant_by E q) r → meant_by (known_over b E (ns ++ n ∷ [])) q ≡ found_over b (meant_by E q) r1
-indexed_push b E ns n q r r1 put e = ap (λ F. meant_by F q) (known_push b E ns n) ∙ by (is_name n.name.now q) (bytes_eq n.name.now q) (is_name-bytes_eq n.name.now q) ∙ ap (found_over b (meant_by E q)) (sym put)
-  where
-    by : (t u : Bool) → t ≡ u → elim t [ true ↦ over b (meant_view n.meant) | false ↦ meant_by (known_over b E ns) q ] ≡ found_over b (meant_by E q) (cond u (Some n.meant) r)
-    by true true h = refl
-    by true false h = absurd (true≢false h)
-    by false true h = absurd (true≢false (sym h))
-    by false false h = e
-
--- one name of a list more, behind what it is put behind
-pub extended_push : (b : Border) (E F : Env) (ns ms : List Named) (i : ℕ) (m : Named) (v : code.Meant) → i < length ms → meant_view v ≡ over b (meant_view (get_or ms i m).meant) → known_over border.Open E ns ≡ known_over b F (take i ms) → known_over border.Open E (ns ++ record { name = (get_or ms i m).name; meant = v } ∷ []) ≡ known_over b F (take (i + 1) ms)
-extended_push b E F ns ms i m v h seen same =
-    let n = get_or ms i m in
-    known_push border.Open E ns (record { name = n.name; meant = v })
-    ∙ ap (λ x. (n.name.now, x) ∷ known_over border.Open E ns) seen
-    ∙ ap (λ G. (n.name.now, over b (meant_view n.meant)) ∷ G) same ∙ sym (known_take b F ms i m h)
-
--- a border over which nothing more is seen otherwise
 outer_outer : (m : Meant) → outer (outer m) ≡ outer m
 outer_outer (Constant w) = refl
 outer_outer Pending = refl
@@ -126,23 +84,6 @@ outside_outside OuterLabel = refl
 outside_outside LabelOutside = refl
 outside_outside Undeclared = refl
 
-pub over_joined : (b c : Border) (m : Meant) → over c (over b m) ≡ over (joined b c) m
-over_joined border.Open c m = refl
-over_joined border.Valof border.Open m = refl
-over_joined border.Valof border.Valof m = outside_outside m
-over_joined border.Valof border.Routine m = outer_outside m
-over_joined border.Routine border.Open m = refl
-over_joined border.Routine border.Valof m = outside_outer m
-over_joined border.Routine border.Routine m = outer_outer m
-
-pub known_carried : (b c : Border) (E : Env) (ns : List Named) → known_over (joined b c) (all_over c E) ns ≡ all_over c (known_over b E ns)
-known_carried b c E [] = refl
-known_carried b c E (n ∷ ns) = ap (λ m. known_over (joined b c) ((n.name.now, m) ∷ all_over c E) ns) (sym (over_joined b c (meant_view n.meant))) ∙ known_carried b c ((n.name.now, over b (meant_view n.meant)) ∷ E) ns
-
-pub all_open : (E : Env) → all_over border.Open E ≡ E
-all_open [] = refl
-all_open (e ∷ E) = ap (λ F. e ∷ F) (all_open E)
-
 routine_entry : (n : Name) (m : Meant) (E : Env) → in_routine ((n, m) ∷ E) ≡ (n, outer m) ∷ in_routine E
 routine_entry n (Constant w) E = refl
 routine_entry n Pending E = refl
@@ -169,26 +110,88 @@ valof_entry n OuterLabel E = refl
 valof_entry n LabelOutside E = refl
 valof_entry n Undeclared E = refl
 
-pub all_outer : (E : Env) → all_over border.Routine E ≡ in_routine E
-all_outer [] = refl
-all_outer (e ∷ E) = ap (λ F. (e.0, outer e.1) ∷ F) (all_outer E) ∙ sym (routine_entry e.0 e.1 E)
+meant_in_routine : (E : Env) (q : Name) → meant_by (in_routine E) q ≡ outer (meant_by E q)
+meant_in_routine [] q = refl
+meant_in_routine (e ∷ E) q = ap (λ F. meant_by F q) (routine_entry e.0 e.1 E) ∙ by (is_name e.0 q) (meant_in_routine E q)
+  where
+    by : (t : Bool) → meant_by (in_routine E) q ≡ outer (meant_by E q) → elim t [ true ↦ outer e.1 | false ↦ meant_by (in_routine E) q ] ≡ outer (elim t [ true ↦ e.1 | false ↦ meant_by E q ])
+    by true h = refl
+    by false h = h
 
-pub all_outside : (E : Env) → all_over border.Valof E ≡ in_valof E
-all_outside [] = refl
-all_outside (e ∷ E) = ap (λ F. (e.0, outside e.1) ∷ F) (all_outside E) ∙ sym (valof_entry e.0 e.1 E)
+meant_in_valof : (E : Env) (q : Name) → meant_by (in_valof E) q ≡ outside (meant_by E q)
+meant_in_valof [] q = refl
+meant_in_valof (e ∷ E) q = ap (λ F. meant_by F q) (valof_entry e.0 e.1 E) ∙ by (is_name e.0 q) (meant_in_valof E q)
+  where
+    by : (t : Bool) → meant_by (in_valof E) q ≡ outside (meant_by E q) → elim t [ true ↦ outside e.1 | false ↦ meant_by (in_valof E) q ] ≡ outside (elim t [ true ↦ e.1 | false ↦ meant_by E q ])
+    by true h = refl
+    by false h = h
 
-spelled_push : (a b : Name) (p q : ℕ) → length a ≡ length b → is_name (a ++ p ∷ []) (b ++ q ∷ []) ≡ (is_name a b && (p == q))
-spelled_push [] [] p q h = and-true (p == q)
-spelled_push [] (y ∷ b) p q h = absurd (omega arith)
-spelled_push (x ∷ a) [] p q h = absurd (omega arith)
-spelled_push (x ∷ a) (y ∷ b) p q h = ap (λ t. (x == y) && t) (spelled_push a b p q (omega arith)) ∙ sym (and_assoc (x == y) (is_name a b) (p == q))
+-- what a scope answers where this was found
+abbrev pub answered : Borders → Option Bound → Meant
+answered b None = Undeclared
+answered b (Some k) = seen b k
 
-pub spelled_take : (a b : Name) (i : ℕ) → i < length a → length a ≡ length b → is_name (take (i + 1) a) (take (i + 1) b) ≡ (is_name (take i a) (take i b) && (get_or a i 0 == get_or b i 0))
-spelled_take a b i h e =
-    ap (λ t. is_name t (take (i + 1) b)) (take_more a i 0 h) ∙ ap (λ t. is_name (take i a ++ get_or a i 0 ∷ []) t) (take_more b i 0 (omega arith)) ∙ spelled_push (take i a) (take i b) (get_or a i 0) (get_or b i 0) (length-take-le i a (omega arith) ∙ sym (length-take-le i b (omega arith)))
+-- what was found stands before this place
+abbrev pub Stands : ℕ → Option Bound → Type 0
+Stands i None = Unit
+Stands i (Some k) = k.place < i
 
-pub other_length : (a b : Name) → ¬ (length a ≡ length b) → is_name a b ≡ false
-other_length [] [] h = absurd (h refl)
-other_length [] (y ∷ b) h = refl
-other_length (x ∷ a) [] h = refl
-other_length (x ∷ a) (y ∷ b) h = ap (λ t. (x == y) && t) (other_length a b (λ e. h (ap suc e))) ∙ and-false (x == y)
+stands_on : (i j : ℕ) (k : Option Bound) → i ≤ j → Stands i k → Stands j k
+stands_on i j None h s = tt
+stands_on i j (Some k) h s = omega arith
+
+below : (a b : ℕ) → a < b → ltb a b ≡ true
+below a b h = search rules
+
+not_below : (a b : ℕ) → b ≤ a → ltb a b ≡ false
+not_below a b h = search rules
+
+-- a name that is declared now is seen as it was declared
+seen_now : (b : Borders) (k : Bound) → b.routine ≤ k.place → b.valof ≤ k.place → seen b k ≡ meant_view k.meant
+seen_now b k r v = rw (not_below k.place b.routine r) (rw (not_below k.place b.valof v) refl)
+
+-- behind a border all that was found stands before it
+routine_now : (i : ℕ) (b : Borders) (k : Option Bound) → Stands i k → answered (record { routine = i + 1; valof = b.valof }) k ≡ outer (answered b k)
+routine_now i b None s = refl
+routine_now i b (Some k) s = rw (below k.place (i + 1) (omega arith)) (by (ltb k.place b.routine) (ltb k.place b.valof))
+  where
+    m : Meant
+    m = meant_view k.meant
+
+    by : (t u : Bool) → outer m ≡ outer (cond t (outer m) (cond u (outside m) m))
+    by true u = sym (outer_outer m)
+    by false true = sym (outer_outside m)
+    by false false = refl
+
+valof_now : (i : ℕ) (b : Borders) (k : Option Bound) → Stands i k → answered (record { routine = b.routine; valof = i + 1 }) k ≡ outside (answered b k)
+valof_now i b None s = refl
+valof_now i b (Some k) s = rw (below k.place (i + 1) (omega arith)) (by (ltb k.place b.routine) (ltb k.place b.valof))
+  where
+    m : Meant
+    m = meant_view k.meant
+
+    by : (t u : Bool) → cond t (outer m) (outside m) ≡ outside (cond t (outer m) (cond u (outside m) m))
+    by true u = sym (outside_outer m)
+    by false true = sym (outside_outside m)
+    by false false = refl
+
+-- what is found and what the borders are give what a name means behind more entries
+means : (es : List Entry) (i : ℕ) (E : Env) (q : Name) (b : Borders) (k : Option Bound) → meant_by E q ≡ answered b k → Stands i k → b.routine ≤ i → b.valof ≤ i
+    → meant_by (behind_entries es E) q ≡ answered (borders_of i es b) (newest i es q k)
+means [] i E q b k h s r v = h
+means (entry.Name n o ∷ es) i E q b k h s r v = means es (i + 1) ((n.name.now, meant_view n.meant) ∷ E) q b (cond (is_name n.name.now q) (Some (record { meant = n.meant; place = i })) k) (by (is_name n.name.now q)) (on (is_name n.name.now q)) (omega arith) (omega arith)
+  where
+    by : (t : Bool) → elim t [ true ↦ meant_view n.meant | false ↦ meant_by E q ] ≡ answered b (cond t (Some (record { meant = n.meant; place = i })) k)
+    by true = sym (seen_now b (record { meant = n.meant; place = i }) r v)
+    by false = h
+
+    on : (t : Bool) → Stands (i + 1) (cond t (Some (record { meant = n.meant; place = i })) k)
+    on true = omega arith
+    on false = stands_on i (i + 1) k (omega arith) s
+means (entry.Routine o ∷ es) i E q b k h s r v =
+    means es (i + 1) (in_routine E) q (record { routine = i + 1; valof = b.valof }) k (meant_in_routine E q ∙ ap outer h ∙ sym (routine_now i b k s)) (stands_on i (i + 1) k (omega arith) s) (omega arith) (omega arith)
+means (entry.Valof o ∷ es) i E q b k h s r v =
+    means es (i + 1) (in_valof E) q (record { routine = b.routine; valof = i + 1 }) k (meant_in_valof E q ∙ ap outside h ∙ sym (valof_now i b k s)) (stands_on i (i + 1) k (omega arith) s) (omega arith) (omega arith)
+
+pub meant_is : (es : List Entry) (q : Name) → meant_by (behind_entries es []) q ≡ answered (borders_of 0 es no_borders) (newest 0 es q None)
+meant_is es q = means es 0 [] q no_borders None refl tt (omega arith) (omega arith)

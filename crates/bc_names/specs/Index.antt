@@ -1,23 +1,53 @@
--- For proofs: an index of names gives what the newest of the names means.
-use Rattle.std.specs.Prelude.{◌≡◌, ℕ, Bool, List, Option, Some, None}
+-- For proofs: what a scope keeps beside its entries, and what its entries keep to be undone.
+use Rattle.std.specs.Prelude.{◌≡◌, ◌<◌, ◌+◌, ℕ, Bool, cond, List, [], ◌∷◌, length, take, Option, Some, None}
+use Rattle.std.proofs.Common.{get_or}
 use Rattle.std.specs.Borrow.{Bor}
 use Rattle.std.specs.Str.{bytes_eq}
 use Rattle.indexmap.specs.IndexMap.{IndexMap, get}
-use Rattle.bc_names.specs.declared.scope.Meant.{Meant}
-use Rattle.bc_names.specs.declared.scope.Named.{Named}
-use Rattle.bc_names.specs.declared.scope.Border.{Border}
-use Rattle.bc_names.specs.Crossing.{over}
-use Rattle.bc_names.specs.Known.{meant_view, known_over}
-use Rattle.bc_scoping.specs.Scope as scoping
-use Rattle.bc_scoping.specs.Scope.{Env, meant_by}
+use Rattle.bc_names.specs.declared.scope.Borders.{Borders}
+use Rattle.bc_names.specs.declared.scope.Bound.{Bound}
+use Rattle.bc_names.specs.declared.scope.Entry.{Entry}
+use Rattle.bc_names.specs.declared.scope.Entry.TheVariants as entry
+use Rattle.bc_scoping.specs.Scope.{Name, is_name}
 
 abbrev pub is_key : Bor (List ℕ) → Bor (List ℕ) → Bool
 is_key k n = bytes_eq k.now n.now
 
--- what was found, as it is seen over a border, or what is meant where nothing was
-abbrev pub found_over : Border → scoping.Meant → Option Meant → scoping.Meant
-found_over b m None = m
-found_over b m (Some k) = over b (meant_view k)
+-- the newest entry of a name behind one more, at this place
+abbrev pub newest_one : (i : ℕ) → Entry → Name → Option Bound → Option Bound
+newest_one i (entry.Name n hidden) q k = cond (is_name n.name.now q) (Some (record { meant = n.meant; place = i })) k
+newest_one i (entry.Routine b) q k = k
+newest_one i (entry.Valof b) q k = k
 
-abbrev pub Indexes : {S : Type 0} → IndexMap (Bor (List ℕ)) Meant S → List Named → Type 0
-Indexes m ns = (b : Border) (E : Env) (n : Bor (List ℕ)) → meant_by (known_over b E ns) n.now ≡ found_over b (meant_by E n.now) (get is_key m n)
+abbrev pub newest : (i : ℕ) → List Entry → Name → Option Bound → Option Bound
+newest i [] q k = k
+newest i (e ∷ es) q k = newest (i + 1) es q (newest_one i e q k)
+
+abbrev pub no_borders : Borders
+no_borders = record { routine = 0; valof = 0 }
+
+abbrev pub behind_border : (i : ℕ) → Entry → Borders → Borders
+behind_border i (entry.Name n hidden) b = b
+behind_border i (entry.Routine o) b = record { routine = i + 1; valof = b.valof }
+behind_border i (entry.Valof o) b = record { routine = b.routine; valof = i + 1 }
+
+abbrev pub borders_of : (i : ℕ) → List Entry → Borders → Borders
+borders_of i [] b = b
+borders_of i (e ∷ es) b = borders_of (i + 1) es (behind_border i e b)
+
+abbrev pub or_none : Option (Option Bound) → Option Bound
+or_none None = None
+or_none (Some k) = k
+
+-- the index has the newest entry of each name
+abbrev pub Finds : {S : Type 0} → IndexMap (Bor (List ℕ)) (Option Bound) S → List Entry → Type 0
+Finds m es = (q : Bor (List ℕ)) → or_none (get is_key m q) ≡ newest 0 es q.now None
+
+-- an entry keeps what was known before it
+abbrev pub Keeps : List Entry → Entry → Type 0
+Keeps before (entry.Name n hidden) = hidden ≡ newest 0 before n.name.now None
+Keeps before (entry.Routine b) = b ≡ borders_of 0 before no_borders
+Keeps before (entry.Valof b) = b ≡ borders_of 0 before no_borders
+
+abbrev pub CanUndo : List Entry → Type 0
+CanUndo es = (i : ℕ) (e : Entry) → i < length es → Keeps (take i es) (get_or es i e)

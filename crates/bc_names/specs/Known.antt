@@ -1,12 +1,7 @@
 -- What names and meanings of the code stand for.
-use Rattle.std.specs.Prelude.{List, [], ◌∷◌}
 use Rattle.bc_names.specs.declared.scope.Meant.{Meant}
 use Rattle.bc_names.specs.declared.scope.Meant.TheVariants as code
-use Rattle.bc_names.specs.declared.scope.Named.{Named}
-use Rattle.bc_names.specs.declared.scope.Border.{Border}
-use Rattle.bc_names.specs.Crossing.{over}
 use Rattle.bc_scoping.specs.Scope as scoping
-use Rattle.bc_scoping.specs.Scope.{Env}
 
 abbrev pub meant_view : Meant → scoping.Meant
 meant_view (code.Constant w) = scoping.Constant w
@@ -20,8 +15,3 @@ meant_view code.OuterVariable = scoping.OuterVariable
 meant_view code.OuterLabel = scoping.OuterLabel
 meant_view code.LabelOutside = scoping.LabelOutside
 meant_view code.Undeclared = scoping.Undeclared
-
--- names, oldest first, behind those that were known before, as they are seen over a border
-abbrev pub known_over : Border → Env → List Named → Env
-known_over b E [] = E
-known_over b E (n ∷ ns) = known_over b ((n.name.now, over b (meant_view n.meant)) ∷ E) ns

@@ -1,25 +1,34 @@
 -- What scopes and numbers of the code stand for.
-pub use Rattle.bc_names.specs.Known.{meant_view, known_over}
-use Rattle.std.specs.Prelude.{List, [], ◌∷◌, Option, Some, None}
-use Rattle.bc_names.specs.declared.scope.Meant.{Meant}
-use Rattle.bc_names.specs.declared.scope.Group.{Group}
-use Rattle.bc_names.specs.declared.scope.Border.TheVariants as border
-use Rattle.bc_names.specs.declared.scope.Scope.{Scope}
+pub use Rattle.bc_names.specs.Known.{meant_view}
+use Rattle.std.specs.Prelude.{◌≡◌, List, [], ◌∷◌, length, take}
+use Rattle.bc_names.specs.declared.scope.Entry.{Entry}
+use Rattle.bc_names.specs.declared.scope.Entry.TheVariants as entry
 use Rattle.bc_names.specs.declared.numbers.Numbers.{Numbers}
 use Rattle.bc_scoping.specs.Scope as scoping
 use Rattle.bc_scoping.specs.Scope.{Env}
+use Rattle.bc_scoping.specs.Scoping.{in_routine, in_valof}
 
-abbrev pub groups_over : Env → List Group → Env
-groups_over E [] = E
-groups_over E (g ∷ gs) = groups_over (known_over g.border E g.names.value) gs
+-- what is known behind an entry
+abbrev pub behind_one : Entry → Env → Env
+behind_one (entry.Name n hidden) E = (n.name.now, meant_view n.meant) ∷ E
+behind_one (entry.Routine borders) E = in_routine E
+behind_one (entry.Valof borders) E = in_valof E
 
-unfoldable pub scope_view : Scope → Env
-scope_view s = known_over border.Open (groups_over [] s.groups.items) s.newest.items
+-- entries, oldest first
+abbrev pub behind_entries : List Entry → Env → Env
+behind_entries [] E = E
+behind_entries (e ∷ es) E = behind_entries es (behind_one e E)
 
--- what was found, or what is meant where nothing was
-abbrev pub found_or : scoping.Meant → Option Meant → scoping.Meant
-found_or m None = m
-found_or m (Some k) = meant_view k
+unfoldable pub scope_view : List Entry → Env
+scope_view es = behind_entries es []
+
+-- the entries of one scope are the first ones of another
+unfoldable pub Extends : (before after : List Entry) → Type 0
+Extends before after = take (length before) after ≡ before
+
+-- E is known by more entries
+abbrev pub Declares : (before after : List Entry) → Env → Type 0
+Declares before after E = (scope_view after ≡ E) × Extends before after
 
 abbrev pub numbers_view : Numbers → scoping.Numbers
 numbers_view n = record { place = n.place; valof = n.valof; label = n.label }

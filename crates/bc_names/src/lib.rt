@@ -9,15 +9,14 @@ mod numbers;
 mod refused;
 mod scope;
 mod sides;
-mod table;
 
 pub use constants::{constant, constant_in, operator};
 pub use declaring::{
-    before_let, cells_of_all, count, declare_entry, declare_list, declare_pending, in_let,
-    in_parameters,
+    Prior, Priors, count, declare_entry, declare_let, declare_let_pending, declare_list,
+    declare_parameters, declare_pending, priors_of_let,
 };
 pub use error::ScopeError;
 pub use numbering::{behind_block, behind_definition, behind_entry, labels_in};
 pub use numbers::{Numbers, short, sum};
-pub use scope::{Meant, Scope};
+pub use scope::{Mark, Meant, Scope};
 pub use sides::{is_operand, side_levels};

@@ -1,5 +1,5 @@
 -- What is found, one part behind another.
-use Rattle.std.proofs.Common.{◌≡◌, ◌+◌, ℕ, refl, ap, ◌∙◌, sym, List, [], ◌∷◌, ◌++◌, drop, append_assoc, subst, Result, Ok, Err}
+use Rattle.std.proofs.Common.{◌≡◌, ◌+◌, ℕ, refl, ap, ◌∙◌, sym, List, [], ◌∷◌, ◌++◌, drop, append_assoc, length, take, subst, Result, Ok, Err}
 use Rattle.std.proofs.lemmas.List.{append-nil, drop-drop}
 use Rattle.bc_core.specs.Commands as core
 use Rattle.bc_scoping.specs.Scope.{Env, Numbers, behind_labels}
@@ -7,10 +7,12 @@ use Rattle.bc_scoping.specs.Scoping.{in_list}
 use Rattle.bc_scoping.specs.Numbering.{labels_of, labels_in, behind, behind_command, behind_items}
 use Rattle.bc_scoping.specs.Found.{Thing, AValof, ARoutine, Data, found, found_in_sides, found_in_command, found_in_items}
 use Rattle.bc_scoping.specs.Translation.{valof_of, core_routine, core_datum, places_of, valofs_of}
-use Rattle.bc_names.specs.View.{numbers_view}
+use Rattle.bc_names.proofs.Extends.{left}
+use Rattle.bc_names.specs.View.{numbers_view, Extends}
+use Rattle.bc_names.specs.declared.scope.Entry.{Entry}
 use Rattle.bc_tree.specs.Tree.{Exp, Exps, more, Items, no_items, item, Labelled, Labels_alone}
 use Rattle.bc_resolving.specs.declared.gathering.Gathered.{Gathered}
-use Rattle.bc_resolving.specs.Finding.{core_view, found_behind, nothing, with_valof, with_place, found_items, head_level, Gathers}
+use Rattle.bc_resolving.specs.Finding.{core_view, found_behind, nothing, with_valof, with_place, found_items, head_level, GathersWithin}
 
 pub found_along : (c : core.Core) (xs ys : List Thing) → found_behind c (xs ++ ys) ≡ found_behind (found_behind c xs) ys
 found_along c [] ys = refl
@@ -44,35 +46,40 @@ pub left_over : (c d w : core.Core) (xs ys : List Thing) → d ≡ found_behind 
 left_over c d w xs ys p q = ap (λ x. found_behind x ys) p ∙ sym (found_along c xs ys) ∙ q
 
 -- two parts, one behind the other
-pub then_found : {X E : Type 0} (r : Result X E) (f g h : Gathered) (n : Numbers) (xs ys : List Thing) → core_view g ≡ found_behind (core_view f) xs → Gathers r g h n ys → Gathers r f h n (xs ++ ys)
-then_found (Ok x) f g h n xs ys p q = (q.0 ∙ ap (λ c. found_behind c ys) p ∙ sym (found_along (core_view f) xs ys), q.1)
-then_found (Err e) f g h n xs ys p q = q
+pub then_found : {X F : Type 0} (r : Result X F) (f g h : Gathered) (n : Numbers) (xs ys : List Thing) (k l : List Entry)
+    → core_view g ≡ found_behind (core_view f) xs → GathersWithin r g h n ys k l → GathersWithin r f h n (xs ++ ys) k l
+then_found (Ok x) f g h n xs ys k l p q = (q.0 ∙ ap (λ c. found_behind c ys) p ∙ sym (found_along (core_view f) xs ys), q.1, q.2)
+then_found (Err e) f g h n xs ys k l p q = q
 
 -- two parts that are the whole
-pub parts_found : {X E : Type 0} (r : Result X E) (f g h : Gathered) (n m : Numbers) (xs ys all : List Thing)
-    → m ≡ n → all ≡ xs ++ ys → core_view g ≡ found_behind (core_view f) xs → Gathers r g h n ys → Gathers r f h m all
-parts_found r f g h n m xs ys all e q p v =
-    subst (λ (k : Numbers). Gathers r f h k all) (sym e) (subst (λ (ts : List Thing). Gathers r f h n ts) (sym q) (then_found r f g h n xs ys p v))
+pub parts_found : {X F : Type 0} (r : Result X F) (f g h : Gathered) (n m : Numbers) (xs ys all : List Thing) (k l : List Entry)
+    → m ≡ n → all ≡ xs ++ ys → core_view g ≡ found_behind (core_view f) xs → GathersWithin r g h n ys k l → GathersWithin r f h m all k l
+parts_found r f g h n m xs ys all k l e q p v =
+    subst (λ (o : Numbers). GathersWithin r f h o all k l) (sym e) (subst (λ (ts : List Thing). GathersWithin r f h n ts k l) (sym q) (then_found r f g h n xs ys k l p v))
 
 -- a command list behind other things, which sees the names that these leave
-pub list_found : {X F : Type 0} (r : Result X F) (f g h : Gathered) (ts : List Thing) (S E : Env) (B : Numbers) (is : Items) (l s : ℕ)
+pub list_found : {X F : Type 0} (r : Result X F) (f g h : Gathered) (ts : List Thing) (S E : Env) (B : Numbers) (is : Items) (l s : ℕ) (before after : List Entry)
     → numbers_view g.at ≡ B → S ≡ E → l ≡ s → core_view g ≡ found_behind (core_view f) ts
-    → Gathers r g h (behind_items (behind_labels (numbers_view g.at) (labels_in is)) is) (found_items (in_list g.at.label is S) (behind_labels (numbers_view g.at) (labels_in is)) is l)
-    → Gathers r f h (behind_items (behind_labels B (labels_in is)) is) (ts ++ found_in_items (in_list B.label is E) B.label (behind_labels B (labels_in is)) is s)
-list_found r f g h ts S E B is l s e d k p v =
+    → GathersWithin r g h (behind_items (behind_labels (numbers_view g.at) (labels_in is)) is) (found_items (in_list g.at.label is S) (behind_labels (numbers_view g.at) (labels_in is)) is l) before after
+    → GathersWithin r f h (behind_items (behind_labels B (labels_in is)) is) (ts ++ found_in_items (in_list B.label is E) B.label (behind_labels B (labels_in is)) is s) before after
+list_found r f g h ts S E B is l s before after e d k p v =
     let at0 = numbers_view g.at in
     let n = behind_items (behind_labels at0 (labels_in is)) is in
     let b = behind_labels at0 (labels_in is) in
-    let found_l = subst (λ (m : ℕ). Gathers r g h n (found_items (in_list at0.label is S) b is m)) k v in
-    let found_E = subst (λ (D : Env). Gathers r g h n (found_items (in_list at0.label is D) b is s)) d found_l in
-    let it = subst (λ (ys : List Thing). Gathers r g h n ys) (sym (found_items_is (in_list at0.label is E) at0.label b is s)) found_E in
-    subst (λ (N : Numbers). Gathers r f h (behind_items (behind_labels N (labels_in is)) is) (ts ++ found_in_items (in_list N.label is E) N.label (behind_labels N (labels_in is)) is s)) e
-    (then_found r f g h n ts (found_in_items (in_list at0.label is E) at0.label b is s) p it)
+    let found_l = subst (λ (m : ℕ). GathersWithin r g h n (found_items (in_list at0.label is S) b is m) before after) k v in
+    let found_E = subst (λ (D : Env). GathersWithin r g h n (found_items (in_list at0.label is D) b is s) before after) d found_l in
+    let it = subst (λ (ys : List Thing). GathersWithin r g h n ys before after) (sym (found_items_is (in_list at0.label is E) at0.label b is s)) found_E in
+    subst (λ (N : Numbers). GathersWithin r f h (behind_items (behind_labels N (labels_in is)) is) (ts ++ found_in_items (in_list N.label is E) N.label (behind_labels N (labels_in is)) is s) before after) e
+    (then_found r f g h n ts (found_in_items (in_list at0.label is E) at0.label b is s) before after p it)
 
 pub side_on : (E : Env) (at : Numbers) (e : Exp) (es : Exps) (ss : List ℕ)
     → found_in_sides E at (more e es) ss ≡ found E at e (head_level ss) ++ found_in_sides E (behind at e) es (drop 1 ss)
 side_on E at e es [] = refl
 side_on E at e es (s ∷ ss) = refl
 
-pub drop_one : (ss : List ℕ) (i : ℕ) → drop 1 (drop i ss) ≡ drop (i + 1) ss
+pub drop_one : {A : Type 0} (ss : List A) (i : ℕ) → drop 1 (drop i ss) ≡ drop (i + 1) ss
 drop_one ss i = drop-drop 1 i ss
+
+-- a scope is as it was before what was made known in it, once that is taken back
+pub taken_back : (a b c d : List Entry) (n : ℕ) → n ≡ length a → Extends a b → c ≡ b → d ≡ take n c → d ≡ a
+taken_back a b c d n e x s p = p ∙ ap (λ es. take n es) s ∙ left a b n x e

@@ -1,4 +1,5 @@
 pub mod Along
+pub mod Definitions
 pub mod Finding
 pub mod Lists
 pub mod Pairs

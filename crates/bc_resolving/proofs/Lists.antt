@@ -8,10 +8,10 @@ use Rattle.bc_core.specs.Tree.{Exp, Args, no_argument, argument}
 use Rattle.bc_core.specs.Commands as core
 use Rattle.bc_core.specs.View.{exp, args, items, command}
 use Rattle.bc_tree.specs.Tree as source
-use Rattle.bc_scoping.specs.Scope.{Env, Numbers}
-use Rattle.bc_scoping.specs.Numbering.{labels_of, behind_command}
-use Rattle.bc_scoping.specs.Scoping.{constant}
-use Rattle.bc_scoping.specs.Translation.{core_labels, core_items, core_command}
+use Rattle.bc_scoping.specs.Scope.{Env, Numbers, behind_labels}
+use Rattle.bc_scoping.specs.Numbering.{labels_of, labels_in, behind_command, behind_declarations}
+use Rattle.bc_scoping.specs.Scoping.{constant, in_declarations, in_list, level_behind}
+use Rattle.bc_scoping.specs.Translation.{core_declarations, core_labels, core_block, core_items, core_command}
 use Rattle.bc_resolving.specs.Seen.{args_list, Entry, ACommand, ACase, ADefault, ALabel, entry_view, entry_list, label_entries, items_entries}
 
 abbrev pub list_args : List Exp → Args
@@ -82,3 +82,17 @@ pub items_done : {X : Type 0} (vs : List ListItem) (ts : List X) (i : ℕ) (F : 
 items_done vs ts i F E k at is s h z e =
     items_seen vs (core_items E k at is s)
     (sym (append-nil (map entry_view vs)) ∙ ap (◌++◌ (map entry_view vs)) (sym z ∙ sym (at_drop_all F ts i h)) ∙ e ∙ sym (entered E k at is s))
+
+-- a block, whose list sees the names and numbers that its declarations leave
+pub block_made : (ps : List (List core.Variable)) (qs : core.Items) (S E : Env) (N at : Numbers) (ds : source.Declarations) (is : source.Items) (l s : ℕ)
+    → ps ≡ core_declarations E at s ds → N ≡ behind_declarations at ds → S ≡ in_declarations E at s ds → l ≡ level_behind E at s ds
+    → qs ≡ core_items (in_list N.label is S) N.label (behind_labels N (labels_in is)) is l
+    → core.block ps qs ≡ core_block E at (source.block ds is) s
+block_made ps qs S E N at ds is l s p n d k q =
+    let B = behind_declarations at ds in
+    ap (λ xs. core.block xs qs) p
+    ∙ ap (core.block (core_declarations E at s ds))
+    (q
+    ∙ ap (λ (M : Numbers). core_items (in_list M.label is S) M.label (behind_labels M (labels_in is)) is l) n
+    ∙ ap (λ D. core_items (in_list B.label is D) B.label (behind_labels B (labels_in is)) is l) d
+    ∙ ap (λ m. core_items (in_list B.label is (in_declarations E at s ds)) B.label (behind_labels B (labels_in is)) is m) k)

@@ -8,14 +8,20 @@ use Rattle.bc_tree.specs.declared.tree.Block.{fold_out-Block, out-Block}
 use Rattle.bc_tree.specs.declared.tree.Command as code_command
 use Rattle.bc_tree.specs.declared.tree.Command.{Command-F, fold-roll-Command}
 use Rattle.bc_tree.specs.declared.tree.Command.TheVariants as commands
+use Rattle.bc_tree.specs.declared.tree.Constant as code_constant
+use Rattle.bc_tree.specs.declared.tree.Constant.{fold_out-Constant, out-Constant}
+use Rattle.bc_tree.specs.declared.tree.Declaration.{Declaration-F, fold-roll-Declaration}
+use Rattle.bc_tree.specs.declared.tree.Declaration.TheVariants as declarations
+use Rattle.bc_tree.specs.declared.tree.Definition as code_definition
 use Rattle.bc_tree.specs.declared.tree.Dyadic.{Dyadic}
 use Rattle.bc_tree.specs.declared.tree.Exp as code
 use Rattle.bc_tree.specs.declared.tree.Exp.{Exp-F, fold-roll-Exp}
 use Rattle.bc_tree.specs.declared.tree.Exp.TheVariants as exps
 use Rattle.bc_tree.specs.declared.tree.Item as code_item
+use Rattle.bc_tree.specs.declared.tree.Storage.{Storage}
 use Rattle.bc_tree.specs.Tree.{Exp, Block, block, Declaration, Definition, Item, Label, Command}
 use Rattle.bc_tree.specs.Tree as tree
-use Rattle.bc_tree.specs.View.{exp_view, exps_view, block_view, command_view, declarations_view, items_view, command_step, declaration_step, definition_step, exp_step, label_step, block_step, constant_step, item_step}
+use Rattle.bc_tree.specs.View.{exp_view, exps_view, block_view, command_view, declaration_view, declarations_view, definitions_view, entries_view, items_view, constant_view, command_step, declaration_step, definition_step, exp_step, label_step, block_step, constant_step, item_step}
 use Rattle.bc_core.specs.Level.{level_in_for}
 use Rattle.bc_scoping.specs.Scope.{Env, Numbers}
 use Rattle.bc_scoping.specs.Scoping.{in_for}
@@ -24,6 +30,15 @@ use Rattle.bc_scoping.specs.Found.{found, found_in_block, found_in_command}
 
 pub block_seen : (b : code_block.Block) → block_view b ≡ block (declarations_view (out-Block b).declarations.items) (items_view (out-Block b).items.items)
 block_seen b = fold_out-Block Command Declaration Definition Exp Label Block (List ℕ × Exp) Item command_step declaration_step definition_step exp_step label_step block_step constant_step item_step b
+
+pub constant_seen : (c : code_constant.Constant) → constant_view c ≡ ((out-Constant c).name.now, exp_view (out-Constant c).value)
+constant_seen c = fold_out-Constant Command Declaration Definition Exp Label Block (List ℕ × Exp) Item command_step declaration_step definition_step exp_step label_step block_step constant_step item_step c
+
+pub constants_view : (k : Storage) (cs : Vec code_constant.Constant Global) → declaration_view (declarations.Constants k cs) ≡ tree.Constants k (entries_view cs.items)
+constants_view k cs = ap declaration_view (sym (declarations.rolls-Constants k cs)) ∙ fold-roll-Declaration Command Declaration Definition Exp Label Block (List ℕ × Exp) Item command_step declaration_step definition_step exp_step label_step block_step constant_step item_step (Declaration-F.Constants k cs)
+
+pub let_view : (ds : Vec code_definition.Definition Global) → declaration_view (declarations.Let ds) ≡ tree.Let (definitions_view ds.items)
+let_view ds = ap declaration_view (sym (declarations.rolls-Let ds)) ∙ fold-roll-Declaration Command Declaration Definition Exp Label Block (List ℕ × Exp) Item command_step declaration_step definition_step exp_step label_step block_step constant_step item_step (Declaration-F.Let ds)
 
 pub dyadic_view : (o : Dyadic) (l : Box code.Exp Global) (r : Box code.Exp Global) → exp_view (exps.Dyadic o l r) ≡ tree.Dyadic o (exp_view l.value) (exp_view r.value)
 dyadic_view o l r = ap exp_view (sym (exps.rolls-Dyadic o l r)) ∙ fold-roll-Exp Command Declaration Definition Exp Label Block (List ℕ × Exp) Item command_step declaration_step definition_step exp_step label_step block_step constant_step item_step (Exp-F.Dyadic o l r)

@@ -10,6 +10,7 @@ use Rattle.bc_scoping.specs.Numbering.{behind_item}
 use Rattle.bc_scoping.specs.Found.{Thing, AValof, ARoutine, Data, found_in_command}
 use Rattle.bc_scoping.specs.Translation.{valof_of, core_routine, core_datum}
 use Rattle.bc_names.specs.View.{numbers_view}
+use Rattle.bc_names.specs.declared.scope.Entry.{Entry}
 use Rattle.bc_tree.specs.Tree.{Item, Items, no_items, item, Labelled, Labels_alone}
 
 unfoldable pub core_view : Gathered → core.Core
@@ -48,3 +49,8 @@ head_level (s ∷ ss) = s
 abbrev pub Gathers : {X E : Type 0} → Result X E → (before after : Gathered) → (behind : scoping.Numbers) → List Thing → Type 0
 Gathers result before after behind things =
     IfOk result (λ _. (core_view after ≡ found_behind (core_view before) things) × (numbers_view after.at ≡ behind))
+
+-- the same, and the names that are known are then those that were known before
+abbrev pub GathersWithin : {X E : Type 0} → Result X E → (before after : Gathered) → (behind : scoping.Numbers) → List Thing → (known_before known_after : List Entry) → Type 0
+GathersWithin result before after behind things known_before known_after =
+    IfOk result (λ _. (core_view after ≡ found_behind (core_view before) things) × (numbers_view after.at ≡ behind) × (known_after ≡ known_before))

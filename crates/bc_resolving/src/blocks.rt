@@ -6,10 +6,11 @@ ghost use Rattle.bc_scoping.specs.Source.{label_number as label_number_of};
 ghost use Rattle.bc_scoping.specs.Scoping.{in_entries, in_declaration, in_declarations, in_list, in_for, cells_in, level_behind};
 ghost use Rattle.bc_scoping.specs.Scope.{behind_labels};
 ghost use Rattle.bc_scoping.specs.Numbering.{labels_of, labels_in as labels_in_of, behind_entries, behind, behind_all, behind_block, behind_declarations, behind_definitions, behind_declaration, behind_definition as behind_definition_of, behind_items, behind_item, behind_command};
-ghost use Rattle.bc_scoping.specs.Translation.{forms, forms_of_all, initials as initials_of, core_definition, core_definitions, core_declaration, core_declarations, core_block, core_items, core_command, block_of as block_of_one};
+ghost use Rattle.bc_scoping.specs.Translation.{forms, forms_of_all, initials as initials_of, core_declaration, core_declarations, core_block, core_items, core_command, block_of as block_of_one};
 ghost use Rattle.bc_core.specs.Level.{level_in_for};
-ghost use Rattle.bc_names.specs.View.{meant_view, scope_view, numbers_view};
-ghost use Rattle.bc_resolving.specs.Seen.{Translates, entry_view, label_entries, labels_before, command_entry, ACommand, condition_view};
+ghost use Rattle.bc_names.specs.View.{meant_view, scope_view, numbers_view, Declares};
+ghost use Rattle.bc_resolving.specs.Seen.{Translates, TranslatesWithin, entry_view, label_entries, labels_before, command_entry, ACommand, condition_view};
+ghost use Rattle.bc_resolving.specs.Definitions.{core_definition_by, core_definitions_by};
 
 use crate::assignments::assigned;
 use crate::commands::{chosen, conditional, counting, forever, looped, nested, repeated, switch};
@@ -20,8 +21,8 @@ use bc_core::{
     ListItem, Variable,
 };
 use bc_names::{
-    Meant, Numbers, Scope, before_let, behind_definition, behind_entry, cells_of_all, constant,
-    declare_entry, declare_list, declare_pending, in_let, labels_in, short, sum,
+    Meant, Numbers, Priors, Scope, behind_definition, behind_entry, constant, declare_entry,
+    declare_let, declare_list, declare_pending, labels_in, priors_of_let, short, sum,
 };
 use bc_tree::{Block, Command, Constant, Declaration, Definition, Exp, Item, Label, Storage};
 use bc_word::{Memory, Word};
@@ -41,21 +42,19 @@ fn initials<'s>(
     Ok(())
 }
 
-/// The variables of a definition, whose constants see the names in `constants`.
+/// The variables of a definition; a vector's constant is given.
 fn definition<'s>(
     scope: &Scope<'s>,
-    constants: &Scope<'s>,
+    greatest: u16,
     at: &mut Numbers,
     variables: &mut Vec<Variable>,
     tree: &Definition<'s>,
 ) -> Result<(), Memory>
-    ensures { Translates (λ _. map variable variables.new.items) result (map variable variables.old.items ++ core_definition (scope_view scope.now) (scope_view constants.now) (numbers_view at.old) (definition_view tree.now)) at.new (behind_definition_of (numbers_view at.old) (definition_view tree.now)) }
+    ensures { Translates (λ _. map variable variables.new.items) result (map variable variables.old.items ++ core_definition_by greatest (scope_view scope.now) (numbers_view at.old) (definition_view tree.now)) at.new (behind_definition_of (numbers_view at.old) (definition_view tree.now)) }
 {
     match tree {
         Definition::Variables(_, values) => initials(scope, at, variables, values),
-        Definition::Vector(_, greatest) => {
-            Ok(variables.push(Variable::Vector(constant(constants, greatest)))?)
-        }
+        Definition::Vector(_, _) => Ok(variables.push(Variable::Vector(Word::new(greatest)))?),
         Definition::Function(_, _, _) | Definition::Routine(_, _, _) => {
             *at = behind_definition(*at, tree)?;
             Ok(())
@@ -63,18 +62,20 @@ fn definition<'s>(
     }
 }
 
-/// The variables of a LET.
+/// The variables of a LET, whose names are known, with what the names before it say of its definitions.
 fn definitions<'s>(
     scope: &Scope<'s>,
-    constants: &Scope<'s>,
+    priors: &Priors,
     at: &mut Numbers,
     list: &[Definition<'s>],
 ) -> Result<Vec<Variable>, Memory>
-    ensures { Translates (λ vs. map variable vs.items) result (core_definitions (scope_view scope.now) (scope_view constants.now) (numbers_view at.old) (definitions_view list.now)) at.new (behind_definitions (numbers_view at.old) (definitions_view list.now)) }
+    ensures { Translates (λ vs. map variable vs.items) result (core_definitions_by priors.now.greatest.items (scope_view scope.now) (numbers_view at.old) (definitions_view list.now)) at.new (behind_definitions (numbers_view at.old) (definitions_view list.now)) }
 {
     let mut variables = Vec::new(scope.alloc());
+    let mut i = 0u64;
     for tree in list {
-        definition(scope, constants, at, &mut variables, tree)?;
+        definition(scope, priors.at(i).greatest, at, &mut variables, tree)?;
+        i = sum(i, 1)?;
     }
     Ok(variables)
 }
@@ -86,7 +87,7 @@ fn entries<'s>(
     storage: Storage,
     list: &[Constant<'s>],
 ) -> Result<(), Memory>
-    ensures { Translates (λ _. scope_view scope.new) result (in_entries storage (numbers_view at.old) (entries_view list.now) (scope_view scope.old)) at.new (behind_entries storage (numbers_view at.old) (entries_view list.now)) }
+    ensures { IfOk result (λ _. Declares scope.old scope.new (in_entries storage (numbers_view at.old) (entries_view list.now) (scope_view scope.old)) × (numbers_view at.new ≡ behind_entries storage (numbers_view at.old) (entries_view list.now))) }
 {
     for entry in list {
         declare_entry(scope, storage, *at, entry)?;
@@ -103,7 +104,7 @@ fn declaration<'s>(
     tree: &Declaration<'s>,
     level: u64,
 ) -> Result<u64, Memory>
-    ensures { IfOk result (λ s. (s ≡ level + cells_in (scope_view scope.old) (declaration_view tree.now)) × (scope_view scope.new ≡ in_declaration (scope_view scope.old) (numbers_view at.old) level (declaration_view tree.now)) × (numbers_view at.new ≡ behind_declaration (numbers_view at.old) (declaration_view tree.now)) × (declarations_of declarations.new.items ≡ declarations_of declarations.old.items ++ core_declaration (scope_view scope.old) (numbers_view at.old) level (declaration_view tree.now))) }
+    ensures { IfOk result (λ s. (s ≡ level + cells_in (scope_view scope.old) (declaration_view tree.now)) × Declares scope.old scope.new (in_declaration (scope_view scope.old) (numbers_view at.old) level (declaration_view tree.now)) × (numbers_view at.new ≡ behind_declaration (numbers_view at.old) (declaration_view tree.now)) × (declarations_of declarations.new.items ≡ declarations_of declarations.old.items ++ core_declaration (scope_view scope.old) (numbers_view at.old) level (declaration_view tree.now))) }
 {
     match tree {
         Declaration::Constants(storage, list) => {
@@ -112,12 +113,10 @@ fn declaration<'s>(
             Ok(level)
         }
         Declaration::Let(list) => {
-            let constants = before_let(scope, list)?;
-            let names = in_let(scope, &constants, *at, level, list)?;
-            let behind = sum(level, cells_of_all(&constants, list)?)?;
-            let variables = definitions(&names, &constants, at, list)?;
+            let priors = priors_of_let(scope, list)?;
+            let behind = declare_let(scope, &priors, *at, level, list)?;
+            let variables = definitions(scope, &priors, at, list)?;
             declarations.push(CoreDeclaration { variables })?;
-            *scope = names;
             Ok(behind)
         }
     }
@@ -131,7 +130,7 @@ fn declarations<'s>(
     list: &[Declaration<'s>],
     level: u64,
 ) -> Result<u64, Memory>
-    ensures { IfOk result (λ s. (s ≡ level_behind (scope_view scope.old) (numbers_view at.old) level (declarations_view list.now)) × (scope_view scope.new ≡ in_declarations (scope_view scope.old) (numbers_view at.old) level (declarations_view list.now)) × (numbers_view at.new ≡ behind_declarations (numbers_view at.old) (declarations_view list.now)) × (declarations_of declarations.new.items ≡ declarations_of declarations.old.items ++ core_declarations (scope_view scope.old) (numbers_view at.old) level (declarations_view list.now))) }
+    ensures { IfOk result (λ s. (s ≡ level_behind (scope_view scope.old) (numbers_view at.old) level (declarations_view list.now)) × Declares scope.old scope.new (in_declarations (scope_view scope.old) (numbers_view at.old) level (declarations_view list.now)) × (numbers_view at.new ≡ behind_declarations (numbers_view at.old) (declarations_view list.now)) × (declarations_of declarations.new.items ≡ declarations_of declarations.old.items ++ core_declarations (scope_view scope.old) (numbers_view at.old) level (declarations_view list.now))) }
 {
     let mut behind = level;
     for tree in list {
@@ -193,24 +192,26 @@ fn entry(labelled: CoreCommand) -> ListItem
 /// A block at this level.
 #[cycle(blocks)]
 pub fn block<'s>(
-    scope: &Scope<'s>,
+    scope: &mut Scope<'s>,
     at: &mut Numbers,
     tree: &Block<'s>,
     level: u64,
 ) -> Result<CoreBlock, Memory>
-    ensures { Translates core_block_of result (core_block (scope_view scope.now) (numbers_view at.old) (block_view tree.now) level) at.new (behind_block (numbers_view at.old) (block_view tree.now)) }
+    ensures { TranslatesWithin core_block_of result (core_block (scope_view scope.old) (numbers_view at.old) (block_view tree.now) level) at.new (behind_block (numbers_view at.old) (block_view tree.now)) scope.old scope.new }
 {
-    let mut inner = scope.copied()?;
+    let outside = scope.mark();
     let mut opened = Vec::new(scope.alloc());
-    let level = declarations(&mut inner, at, &mut opened, &tree.declarations, level)?;
-    let list = command_list(&mut inner, at, &tree.items, level)?;
+    let level = declarations(scope, at, &mut opened, &tree.declarations, level)?;
+    let list = command_list(scope, at, &tree.items, level)?;
+    scope.leave(outside);
     Ok(CoreBlock {
         declarations: opened,
         list,
     })
 }
 
-/// A command list, whose labels become known in it.
+/// A command list, whose labels are known in it.
+#[tactic(auto, using(bc_names::proofs::Extends::left))]
 #[cycle(blocks)]
 fn command_list<'s>(
     scope: &mut Scope<'s>,
@@ -218,24 +219,27 @@ fn command_list<'s>(
     trees: &[Item<'s>],
     level: u64,
 ) -> Result<Vec<ListItem>, Memory>
-    ensures { Translates (λ is. items_of is.items) result (core_items (in_list at.old.label (items_view trees.now) (scope_view scope.old)) at.old.label (behind_labels (numbers_view at.old) (labels_in_of (items_view trees.now))) (items_view trees.now) level) at.new (behind_items (behind_labels (numbers_view at.old) (labels_in_of (items_view trees.now))) (items_view trees.now)) }
+    ensures { TranslatesWithin (λ is. items_of is.items) result (core_items (in_list at.old.label (items_view trees.now) (scope_view scope.old)) at.old.label (behind_labels (numbers_view at.old) (labels_in_of (items_view trees.now))) (items_view trees.now) level) at.new (behind_items (behind_labels (numbers_view at.old) (labels_in_of (items_view trees.now))) (items_view trees.now)) scope.old scope.new }
 {
+    let before_labels = scope.mark();
     let number = at.label;
     declare_list(scope, number, trees)?;
     *at = at.behind_labels(labels_in(trees)?)?;
-    items(scope, at, number, trees, level)
+    let list = items(scope, at, number, trees, level)?;
+    scope.leave(before_labels);
+    Ok(list)
 }
 
 /// The items of a list, the first label of which has this number.
 #[cycle(blocks)]
 fn items<'s>(
-    scope: &Scope<'s>,
+    scope: &mut Scope<'s>,
     at: &mut Numbers,
     number: u64,
     trees: &[Item<'s>],
     level: u64,
 ) -> Result<Vec<ListItem>, Memory>
-    ensures { Translates (λ is. items_of is.items) result (core_items (scope_view scope.now) number (numbers_view at.old) (items_view trees.now) level) at.new (behind_items (numbers_view at.old) (items_view trees.now)) }
+    ensures { TranslatesWithin (λ is. items_of is.items) result (core_items (scope_view scope.old) number (numbers_view at.old) (items_view trees.now) level) at.new (behind_items (numbers_view at.old) (items_view trees.now)) scope.old scope.new }
 {
     let mut list = Vec::new(scope.alloc());
     let mut number = number;
@@ -249,13 +253,13 @@ fn items<'s>(
 /// An item, the first label of which has this number, which is then that behind it.
 #[cycle(blocks)]
 fn item<'s>(
-    scope: &Scope<'s>,
+    scope: &mut Scope<'s>,
     at: &mut Numbers,
     number: &mut u64,
     tree: &Item<'s>,
     level: u64,
 ) -> Result<Vec<ListItem>, Memory>
-    ensures { IfOk result (λ is. (map entry_view is.items ≡ label_entries (scope_view scope.now) number.old (labels_before (item_view tree.now)) ++ command_entry (scope_view scope.now) (numbers_view at.old) (item_view tree.now) level) × (numbers_view at.new ≡ behind_item (numbers_view at.old) (item_view tree.now)) × (number.new ≡ number.old + labels_of (labels_before (item_view tree.now)))) }
+    ensures { IfOk result (λ is. (map entry_view is.items ≡ label_entries (scope_view scope.old) number.old (labels_before (item_view tree.now)) ++ command_entry (scope_view scope.old) (numbers_view at.old) (item_view tree.now) level) × (numbers_view at.new ≡ behind_item (numbers_view at.old) (item_view tree.now)) × (number.new ≡ number.old + labels_of (labels_before (item_view tree.now))) × (scope.new ≡ scope.old)) }
 {
     let mut list = Vec::new(scope.alloc());
     *number = labels(scope, &mut list, *number, &tree.labels)?;
@@ -272,41 +276,44 @@ fn item<'s>(
 /// The body of a REPEAT word.
 #[cycle(blocks)]
 fn body<'s>(
-    scope: &Scope<'s>,
+    scope: &mut Scope<'s>,
     at: &mut Numbers,
     tree: &Command<'s>,
     level: u64,
 ) -> Result<CoreBlock, Memory>
-    ensures { Translates core_block_of result (block_of_one (core_command (scope_view scope.now) (numbers_view at.old) (command_view tree.now) level)) at.new (behind_command (numbers_view at.old) (command_view tree.now)) }
+    ensures { TranslatesWithin core_block_of result (block_of_one (core_command (scope_view scope.old) (numbers_view at.old) (command_view tree.now) level)) at.new (behind_command (numbers_view at.old) (command_view tree.now)) scope.old scope.new }
 {
     let repeated = command(scope, at, tree, level)?;
     block_of(scope.alloc(), repeated)
 }
 
 /// The body of a FOR over this variable.
+#[tactic(auto, using(bc_names::proofs::Extends::left))]
 #[cycle(blocks)]
 fn counted<'s>(
-    scope: &Scope<'s>,
+    scope: &mut Scope<'s>,
     at: &mut Numbers,
     variable: &'s [u8],
     tree: &Block<'s>,
     level: u64,
 ) -> Result<CoreBlock, Memory>
-    ensures { Translates core_block_of result (core_block (in_for (scope_view scope.now) variable.entry.now level) (numbers_view at.old) (block_view tree.now) (level_in_for level)) at.new (behind_block (numbers_view at.old) (block_view tree.now)) }
+    ensures { TranslatesWithin core_block_of result (core_block (in_for (scope_view scope.old) variable.entry.now level) (numbers_view at.old) (block_view tree.now) (level_in_for level)) at.new (behind_block (numbers_view at.old) (block_view tree.now)) scope.old scope.new }
 {
-    let mut inner = scope.copied()?;
-    inner.declare(variable, Meant::Variable(level))?;
-    block(&inner, at, tree, sum(level, 2)?)
+    let before_variable = scope.mark();
+    scope.declare(variable, Meant::Variable(level))?;
+    let body = block(scope, at, tree, sum(level, 2)?)?;
+    scope.leave(before_variable);
+    Ok(body)
 }
 
 #[cycle(blocks)]
 fn command<'s>(
-    scope: &Scope<'s>,
+    scope: &mut Scope<'s>,
     at: &mut Numbers,
     tree: &Command<'s>,
     level: u64,
 ) -> Result<CoreCommand, Memory>
-    ensures { Translates command_of result (core_command (scope_view scope.now) (numbers_view at.old) (command_view tree.now) level) at.new (behind_command (numbers_view at.old) (command_view tree.now)) }
+    ensures { TranslatesWithin command_of result (core_command (scope_view scope.old) (numbers_view at.old) (command_view tree.now) level) at.new (behind_command (numbers_view at.old) (command_view tree.now)) scope.old scope.new }
 {
     match tree {
         Command::Assign(places, values) => assigned(scope, at, places, values),
@@ -373,8 +380,7 @@ fn command<'s>(
         }
         Command::SwitchOn(of, list) => {
             let of = value(scope, at, of)?;
-            let mut inner = scope.copied()?;
-            let list = command_list(&mut inner, at, list, level)?;
+            let list = command_list(scope, at, list, level)?;
             Ok(switch(of, list))
         }
     }

@@ -8,10 +8,11 @@ ghost use Rattle.bc_scoping.specs.Characters.{decoded as decoded_of};
 ghost use Rattle.bc_scoping.specs.Scope.{behind_valof, behind_labels, behind_place};
 ghost use Rattle.bc_scoping.specs.Scoping.{in_entries, in_declaration, in_declarations, in_list, in_for, cells_in, level_behind};
 ghost use Rattle.bc_scoping.specs.Numbering.{labels_in as labels_in_of, behind_entry as behind_entry_of, behind_entries, behind, behind_all, behind_block, behind_declarations, behind_definitions, behind_declaration, behind_definition, behind_items, behind_item, behind_command};
-ghost use Rattle.bc_scoping.specs.Found.{Data, AText, ATable, Gives, Does, routine as routine_of, global_of as global_of_meant, words_of_table as words_of, found_entry, found_in_entries, found as found_in, found_in_arguments, found_in_sides, found_in_initials, found_in_definition, found_in_definitions, found_in_declaration, found_in_declarations, found_in_block, found_in_command, in_parameters as names_in};
+ghost use Rattle.bc_scoping.specs.Found.{Data, AText, ATable, Gives, Does, words_of_table as words_of, found_entry, found_in_entries, found as found_in, found_in_arguments, found_in_sides, found_in_initials, found_in_declaration, found_in_declarations, found_in_block, found_in_command, in_parameters as names_in};
 ghost use Rattle.bc_scoping.specs.Translation.{core_of};
-ghost use Rattle.bc_names.specs.View.{meant_view, scope_view, numbers_view};
-ghost use Rattle.bc_resolving.specs.Finding.{Gathers, core_view, found_behind, found_items, item_found, head_level};
+ghost use Rattle.bc_names.specs.View.{scope_view, numbers_view, Declares};
+ghost use Rattle.bc_resolving.specs.Definitions.{routine_setting, found_in_definition_by, found_in_definitions_by};
+ghost use Rattle.bc_resolving.specs.Finding.{Gathers, GathersWithin, core_view, found_behind, found_items, item_found, head_level};
 
 use crate::blocks;
 use crate::characters::decoded;
@@ -19,19 +20,12 @@ use crate::expressions::value;
 use crate::gathering::Gathered;
 use bc_core::{Body, Place, Routine, Valof};
 use bc_names::{
-    Meant, Scope, before_let, cells_of_all, constant, count, declare_entry, declare_list,
-    declare_pending, in_let, in_parameters, labels_in, short, side_levels, sum,
+    Meant, Priors, Scope, constant, count, declare_entry, declare_let, declare_list,
+    declare_parameters, declare_pending, labels_in, priors_of_let, short, side_levels, sum,
 };
 use bc_tree::{Block, Command, Constant, Declaration, Definition, Exp, Item, Storage};
 use bc_word::{Memory, Word};
 use std::alloc::Global;
-
-/// The names before a LET, and those that its definitions see.
-#[derive(Clone, Copy)]
-struct Among<'a, 's> {
-    before: &'a Scope<'s>,
-    names: &'a Scope<'s>,
-}
 
 fn words_of_table<'s>(scope: &Scope<'s>, values: &[Exp<'s>]) -> Result<Vec<Word>, Memory>
     ensures { IfOk result (λ ws. ws.items ≡ words_of (scope_view scope.now) (exps_view values.now)) }
@@ -41,16 +35,6 @@ fn words_of_table<'s>(scope: &Scope<'s>, values: &[Exp<'s>]) -> Result<Vec<Word>
         words.push(constant(scope, e))?;
     }
     Ok(words)
-}
-
-/// The global that a routine sets, by what its name means before the LET.
-fn global_of(meant: Meant) -> Option<u16>
-    ensures { result ≡ global_of_meant (meant_view meant) }
-{
-    match meant {
-        Meant::Global(number) => Some(number),
-        _ => None,
-    }
 }
 
 /// The cell of a static.
@@ -89,14 +73,13 @@ fn level_at(levels: &[u64], i: u64) -> u64
 }
 
 /// Declarations of constants, whose names are then known.
-#[tactic(auto, using(crate::proofs::Finding::found_along))]
 fn entries<'s>(
     scope: &mut Scope<'s>,
     found: &mut Gathered,
     storage: Storage,
     list: &[Constant<'s>],
 ) -> Result<(), Memory>
-    ensures { IfOk result (λ _. (core_view found.new ≡ found_behind (core_view found.old) (found_in_entries storage (numbers_view found.old.at) (entries_view list.now) (scope_view scope.old))) × (numbers_view found.new.at ≡ behind_entries storage (numbers_view found.old.at) (entries_view list.now)) × (scope_view scope.new ≡ in_entries storage (numbers_view found.old.at) (entries_view list.now) (scope_view scope.old))) }
+    ensures { IfOk result (λ _. (core_view found.new ≡ found_behind (core_view found.old) (found_in_entries storage (numbers_view found.old.at) (entries_view list.now) (scope_view scope.old))) × (numbers_view found.new.at ≡ behind_entries storage (numbers_view found.old.at) (entries_view list.now)) × Declares scope.old scope.new (in_entries storage (numbers_view found.old.at) (entries_view list.now) (scope_view scope.old))) }
 {
     for tree in list {
         let value = constant(scope, &tree.value);
@@ -108,12 +91,12 @@ fn entries<'s>(
 
 #[cycle(finding)]
 fn expression<'s>(
-    scope: &Scope<'s>,
+    scope: &mut Scope<'s>,
     found: &mut Gathered,
     e: &Exp<'s>,
     level: u64,
 ) -> Result<(), Memory>
-    ensures { Gathers result found.old found.new (behind (numbers_view found.old.at) (exp_view e.now)) (found_in (scope_view scope.now) (numbers_view found.old.at) (exp_view e.now) level) }
+    ensures { GathersWithin result found.old found.new (behind (numbers_view found.old.at) (exp_view e.now)) (found_in (scope_view scope.old) (numbers_view found.old.at) (exp_view e.now) level) scope.old scope.new }
 {
     match e {
         Exp::Name(_) | Exp::Number(_) | Exp::Character(_) | Exp::True | Exp::False => Ok(()),
@@ -140,35 +123,39 @@ fn expression<'s>(
 }
 
 /// A VALOF, and what is found in it.
+#[tactic(auto, using(bc_names::proofs::Extends::left))]
 #[cycle(finding)]
 fn valof<'s>(
-    scope: &Scope<'s>,
+    scope: &mut Scope<'s>,
     found: &mut Gathered,
     body: &Block<'s>,
     level: u64,
 ) -> Result<(), Memory>
-    ensures { Gathers result found.old found.new (behind_block (behind_valof (numbers_view found.old.at)) (block_view body.now)) (found_in (scope_view scope.now) (numbers_view found.old.at) (Valof_tree (block_view body.now)) level) }
+    ensures { GathersWithin result found.old found.new (behind_block (behind_valof (numbers_view found.old.at)) (block_view body.now)) (found_in (scope_view scope.old) (numbers_view found.old.at) (Valof_tree (block_view body.now)) level) scope.old scope.new }
 {
-    let inner = scope.in_valof()?;
+    let outside = scope.mark();
+    scope.enter_valof()?;
     let mut at = found.at.behind_valof()?;
     found.go_on_at(at);
-    let translated = blocks::block(&inner, &mut at, body, level)?;
+    let translated = blocks::block(scope, &mut at, body, level)?;
     found.valof(Valof {
         level: short(level)?,
         body: translated,
     })?;
-    block(&inner, found, body, level)
+    block(scope, found, body, level)?;
+    scope.leave(outside);
+    Ok(())
 }
 
 /// Arguments, each one level above the one before it.
 #[cycle(finding)]
 fn arguments<'s>(
-    scope: &Scope<'s>,
+    scope: &mut Scope<'s>,
     found: &mut Gathered,
     list: &[Exp<'s>],
     level: u64,
 ) -> Result<(), Memory>
-    ensures { Gathers result found.old found.new (behind_all (numbers_view found.old.at) (exps_view list.now)) (found_in_arguments (scope_view scope.now) (numbers_view found.old.at) (exps_view list.now) level) }
+    ensures { GathersWithin result found.old found.new (behind_all (numbers_view found.old.at) (exps_view list.now)) (found_in_arguments (scope_view scope.old) (numbers_view found.old.at) (exps_view list.now) level) scope.old scope.new }
 {
     let mut above = level;
     for e in list {
@@ -181,12 +168,12 @@ fn arguments<'s>(
 /// One side of an assignment, each expression at its level.
 #[cycle(finding)]
 fn sides<'s>(
-    scope: &Scope<'s>,
+    scope: &mut Scope<'s>,
     found: &mut Gathered,
     list: &[Exp<'s>],
     levels: &[u64],
 ) -> Result<(), Memory>
-    ensures { Gathers result found.old found.new (behind_all (numbers_view found.old.at) (exps_view list.now)) (found_in_sides (scope_view scope.now) (numbers_view found.old.at) (exps_view list.now) levels.now) }
+    ensures { GathersWithin result found.old found.new (behind_all (numbers_view found.old.at) (exps_view list.now)) (found_in_sides (scope_view scope.old) (numbers_view found.old.at) (exps_view list.now) levels.now) scope.old scope.new }
 {
     let mut i = 0u64;
     for e in list {
@@ -199,12 +186,12 @@ fn sides<'s>(
 /// Initialisers, all at one level.
 #[cycle(finding)]
 fn initials<'s>(
-    scope: &Scope<'s>,
+    scope: &mut Scope<'s>,
     found: &mut Gathered,
     list: &[Exp<'s>],
     level: u64,
 ) -> Result<(), Memory>
-    ensures { Gathers result found.old found.new (behind_all (numbers_view found.old.at) (exps_view list.now)) (found_in_initials (scope_view scope.now) (numbers_view found.old.at) (exps_view list.now) level) }
+    ensures { GathersWithin result found.old found.new (behind_all (numbers_view found.old.at) (exps_view list.now)) (found_in_initials (scope_view scope.old) (numbers_view found.old.at) (exps_view list.now) level) scope.old scope.new }
 {
     for e in list {
         expression(scope, found, e, level)?;
@@ -212,83 +199,97 @@ fn initials<'s>(
     Ok(())
 }
 
+/// A definition; the global that a routine sets is given.
 #[cycle(finding)]
 fn definition<'s>(
-    among: Among<'_, 's>,
+    scope: &mut Scope<'s>,
     found: &mut Gathered,
+    global: Option<u16>,
     tree: &Definition<'s>,
     level: u64,
 ) -> Result<(), Memory>
-    ensures { Gathers result found.old found.new (behind_definition (numbers_view found.old.at) (definition_view tree.now)) (found_in_definition (scope_view among.entry.before.now) (scope_view among.entry.names.now) (numbers_view found.old.at) (definition_view tree.now) level) }
+    ensures { GathersWithin result found.old found.new (behind_definition (numbers_view found.old.at) (definition_view tree.now)) (found_in_definition_by global (scope_view scope.old) (numbers_view found.old.at) (definition_view tree.now) level) scope.old scope.new }
 {
     match tree {
-        Definition::Variables(_, values) => initials(among.names, found, values, level),
+        Definition::Variables(_, values) => initials(scope, found, values, level),
         Definition::Vector(_, _) => Ok(()),
-        Definition::Function(name, parameters, given) => {
-            function(among, found, name, parameters, given)
+        Definition::Function(_, parameters, given) => {
+            function(scope, found, global, parameters, given)
         }
-        Definition::Routine(name, parameters, body) => {
-            routine(among, found, name, parameters, body)
+        Definition::Routine(_, parameters, body) => {
+            routine(scope, found, global, parameters, body)
         }
     }
 }
 
+/// A function that sets this global, and what is found in it.
 #[cycle(finding)]
 fn function<'s>(
-    among: Among<'_, 's>,
+    scope: &mut Scope<'s>,
     found: &mut Gathered,
-    name: &'s [u8],
+    global: Option<u16>,
     parameters: &[&'s [u8]],
     given: &Exp<'s>,
 ) -> Result<(), Memory>
-    ensures { Gathers result found.old found.new (behind (behind_place (numbers_view found.old.at)) (exp_view given.now)) (routine_of (scope_view among.entry.before.now) (scope_view among.entry.names.now) (numbers_view found.old.at) name.entry.now (map (λ n. n.now) parameters.now) (Gives (exp_view given.now)) ∷ found_in (names_in (map (λ n. n.now) parameters.now) (scope_view among.entry.names.now)) (behind_place (numbers_view found.old.at)) (exp_view given.now) (level_behind_parameters (length (map (λ n. n.now) parameters.now)))) }
+    ensures { GathersWithin result found.old found.new (behind (behind_place (numbers_view found.old.at)) (exp_view given.now)) (routine_setting global (scope_view scope.old) (numbers_view found.old.at) (map (λ n. n.now) parameters.now) (Gives (exp_view given.now)) ∷ found_in (names_in (map (λ n. n.now) parameters.now) (scope_view scope.old)) (behind_place (numbers_view found.old.at)) (exp_view given.now) (level_behind_parameters (length (map (λ n. n.now) parameters.now)))) scope.old scope.new }
 {
-    let inner = in_parameters(among.names, parameters)?;
+    let outside = scope.mark();
+    declare_parameters(scope, parameters)?;
     let count = parameters.len() as u64;
     let mut at = found.at.behind_place()?;
-    let given_value = value(&inner, &mut at, given)?;
+    let given_value = value(scope, &mut at, given)?;
     found.place(Place::Routine(Routine {
-        global: global_of(among.before.meant_by(name)),
+        global,
         parameters: short(count)?,
         body: Body::Value(given_value),
     }))?;
-    expression(&inner, found, given, sum(2, count)?)
+    expression(scope, found, given, sum(2, count)?)?;
+    scope.leave(outside);
+    Ok(())
 }
 
+/// A routine that sets this global, and what is found in it.
 #[cycle(finding)]
 fn routine<'s>(
-    among: Among<'_, 's>,
+    scope: &mut Scope<'s>,
     found: &mut Gathered,
-    name: &'s [u8],
+    global: Option<u16>,
     parameters: &[&'s [u8]],
     body: &Block<'s>,
 ) -> Result<(), Memory>
-    ensures { Gathers result found.old found.new (behind_block (behind_place (numbers_view found.old.at)) (block_view body.now)) (routine_of (scope_view among.entry.before.now) (scope_view among.entry.names.now) (numbers_view found.old.at) name.entry.now (map (λ n. n.now) parameters.now) (Does (block_view body.now)) ∷ found_in_block (names_in (map (λ n. n.now) parameters.now) (scope_view among.entry.names.now)) (behind_place (numbers_view found.old.at)) (block_view body.now) (level_behind_parameters (length (map (λ n. n.now) parameters.now)))) }
+    ensures { GathersWithin result found.old found.new (behind_block (behind_place (numbers_view found.old.at)) (block_view body.now)) (routine_setting global (scope_view scope.old) (numbers_view found.old.at) (map (λ n. n.now) parameters.now) (Does (block_view body.now)) ∷ found_in_block (names_in (map (λ n. n.now) parameters.now) (scope_view scope.old)) (behind_place (numbers_view found.old.at)) (block_view body.now) (level_behind_parameters (length (map (λ n. n.now) parameters.now)))) scope.old scope.new }
 {
-    let inner = in_parameters(among.names, parameters)?;
+    let outside = scope.mark();
+    declare_parameters(scope, parameters)?;
     let count = parameters.len() as u64;
     let level = sum(2, count)?;
     let mut at = found.at.behind_place()?;
-    let commands = blocks::block(&inner, &mut at, body, level)?;
+    let commands = blocks::block(scope, &mut at, body, level)?;
     found.place(Place::Routine(Routine {
-        global: global_of(among.before.meant_by(name)),
+        global,
         parameters: short(count)?,
         body: Body::Commands(commands),
     }))?;
-    block(&inner, found, body, level)
+    block(scope, found, body, level)?;
+    scope.leave(outside);
+    Ok(())
 }
 
+/// The definitions of a LET, whose names are known, with what the names before it say of them.
 #[cycle(finding)]
 fn definitions<'s>(
-    among: Among<'_, 's>,
+    scope: &mut Scope<'s>,
+    priors: &Priors,
     found: &mut Gathered,
     list: &[Definition<'s>],
     level: u64,
 ) -> Result<(), Memory>
-    ensures { Gathers result found.old found.new (behind_definitions (numbers_view found.old.at) (definitions_view list.now)) (found_in_definitions (scope_view among.entry.before.now) (scope_view among.entry.names.now) (numbers_view found.old.at) (definitions_view list.now) level) }
+    ensures { GathersWithin result found.old found.new (behind_definitions (numbers_view found.old.at) (definitions_view list.now)) (found_in_definitions_by priors.now.globals.items (scope_view scope.old) (numbers_view found.old.at) (definitions_view list.now) level) scope.old scope.new }
 {
+    let mut i = 0u64;
     for tree in list {
-        definition(among, found, tree, level)?;
+        definition(scope, found, priors.at(i).global, tree, level)?;
+        i = sum(i, 1)?;
     }
     Ok(())
 }
@@ -301,7 +302,7 @@ fn declaration<'s>(
     tree: &Declaration<'s>,
     level: u64,
 ) -> Result<u64, Memory>
-    ensures { IfOk result (λ s. (s ≡ level + cells_in (scope_view scope.old) (declaration_view tree.now)) × (scope_view scope.new ≡ in_declaration (scope_view scope.old) (numbers_view found.old.at) level (declaration_view tree.now)) × (core_view found.new ≡ found_behind (core_view found.old) (found_in_declaration (scope_view scope.old) (numbers_view found.old.at) (declaration_view tree.now) level)) × (numbers_view found.new.at ≡ behind_declaration (numbers_view found.old.at) (declaration_view tree.now))) }
+    ensures { IfOk result (λ s. (s ≡ level + cells_in (scope_view scope.old) (declaration_view tree.now)) × Declares scope.old scope.new (in_declaration (scope_view scope.old) (numbers_view found.old.at) level (declaration_view tree.now)) × (core_view found.new ≡ found_behind (core_view found.old) (found_in_declaration (scope_view scope.old) (numbers_view found.old.at) (declaration_view tree.now) level)) × (numbers_view found.new.at ≡ behind_declaration (numbers_view found.old.at) (declaration_view tree.now))) }
 {
     match tree {
         Declaration::Constants(storage, list) => {
@@ -310,15 +311,9 @@ fn declaration<'s>(
             Ok(level)
         }
         Declaration::Let(list) => {
-            let constants = before_let(scope, list)?;
-            let names = in_let(scope, &constants, found.at, level, list)?;
-            let behind = sum(level, cells_of_all(&constants, list)?)?;
-            let among = Among {
-                before: scope,
-                names: &names,
-            };
-            definitions(among, found, list, behind)?;
-            *scope = names;
+            let priors = priors_of_let(scope, list)?;
+            let behind = declare_let(scope, &priors, found.at, level, list)?;
+            definitions(scope, &priors, found, list, behind)?;
             Ok(behind)
         }
     }
@@ -332,7 +327,7 @@ fn declarations<'s>(
     list: &[Declaration<'s>],
     level: u64,
 ) -> Result<u64, Memory>
-    ensures { IfOk result (λ s. (s ≡ level_behind (scope_view scope.old) (numbers_view found.old.at) level (declarations_view list.now)) × (scope_view scope.new ≡ in_declarations (scope_view scope.old) (numbers_view found.old.at) level (declarations_view list.now)) × (core_view found.new ≡ found_behind (core_view found.old) (found_in_declarations (scope_view scope.old) (numbers_view found.old.at) (declarations_view list.now) level)) × (numbers_view found.new.at ≡ behind_declarations (numbers_view found.old.at) (declarations_view list.now))) }
+    ensures { IfOk result (λ s. (s ≡ level_behind (scope_view scope.old) (numbers_view found.old.at) level (declarations_view list.now)) × Declares scope.old scope.new (in_declarations (scope_view scope.old) (numbers_view found.old.at) level (declarations_view list.now)) × (core_view found.new ≡ found_behind (core_view found.old) (found_in_declarations (scope_view scope.old) (numbers_view found.old.at) (declarations_view list.now) level)) × (numbers_view found.new.at ≡ behind_declarations (numbers_view found.old.at) (declarations_view list.now))) }
 {
     let mut behind = level;
     for tree in list {
@@ -343,19 +338,22 @@ fn declarations<'s>(
 
 #[cycle(finding)]
 fn block<'s>(
-    scope: &Scope<'s>,
+    scope: &mut Scope<'s>,
     found: &mut Gathered,
     tree: &Block<'s>,
     level: u64,
 ) -> Result<(), Memory>
-    ensures { Gathers result found.old found.new (behind_block (numbers_view found.old.at) (block_view tree.now)) (found_in_block (scope_view scope.now) (numbers_view found.old.at) (block_view tree.now) level) }
+    ensures { GathersWithin result found.old found.new (behind_block (numbers_view found.old.at) (block_view tree.now)) (found_in_block (scope_view scope.old) (numbers_view found.old.at) (block_view tree.now) level) scope.old scope.new }
 {
-    let mut inner = scope.copied()?;
-    let level = declarations(&mut inner, found, &tree.declarations, level)?;
-    command_list(&mut inner, found, &tree.items, level)
+    let outside = scope.mark();
+    let level = declarations(scope, found, &tree.declarations, level)?;
+    command_list(scope, found, &tree.items, level)?;
+    scope.leave(outside);
+    Ok(())
 }
 
-/// A command list, whose labels become known in it.
+/// A command list, whose labels are known in it.
+#[tactic(auto, using(bc_names::proofs::Extends::left))]
 #[cycle(finding)]
 fn command_list<'s>(
     scope: &mut Scope<'s>,
@@ -363,22 +361,25 @@ fn command_list<'s>(
     trees: &[Item<'s>],
     level: u64,
 ) -> Result<(), Memory>
-    ensures { Gathers result found.old found.new (behind_items (behind_labels (numbers_view found.old.at) (labels_in_of (items_view trees.now))) (items_view trees.now)) (found_items (in_list found.old.at.label (items_view trees.now) (scope_view scope.old)) (behind_labels (numbers_view found.old.at) (labels_in_of (items_view trees.now))) (items_view trees.now) level) }
+    ensures { GathersWithin result found.old found.new (behind_items (behind_labels (numbers_view found.old.at) (labels_in_of (items_view trees.now))) (items_view trees.now)) (found_items (in_list found.old.at.label (items_view trees.now) (scope_view scope.old)) (behind_labels (numbers_view found.old.at) (labels_in_of (items_view trees.now))) (items_view trees.now) level) scope.old scope.new }
 {
+    let before_labels = scope.mark();
     declare_list(scope, found.at.label, trees)?;
     let inside = found.at.behind_labels(labels_in(trees)?)?;
     found.go_on_at(inside);
-    items(scope, found, trees, level)
+    items(scope, found, trees, level)?;
+    scope.leave(before_labels);
+    Ok(())
 }
 
 #[cycle(finding)]
 fn items<'s>(
-    scope: &Scope<'s>,
+    scope: &mut Scope<'s>,
     found: &mut Gathered,
     trees: &[Item<'s>],
     level: u64,
 ) -> Result<(), Memory>
-    ensures { Gathers result found.old found.new (behind_items (numbers_view found.old.at) (items_view trees.now)) (found_items (scope_view scope.now) (numbers_view found.old.at) (items_view trees.now) level) }
+    ensures { GathersWithin result found.old found.new (behind_items (numbers_view found.old.at) (items_view trees.now)) (found_items (scope_view scope.old) (numbers_view found.old.at) (items_view trees.now) level) scope.old scope.new }
 {
     for tree in trees {
         one_item(scope, found, tree, level)?;
@@ -389,12 +390,12 @@ fn items<'s>(
 /// An item, which may have labels alone.
 #[cycle(finding)]
 fn one_item<'s>(
-    scope: &Scope<'s>,
+    scope: &mut Scope<'s>,
     found: &mut Gathered,
     tree: &Item<'s>,
     level: u64,
 ) -> Result<(), Memory>
-    ensures { Gathers result found.old found.new (behind_item (numbers_view found.old.at) (item_view tree.now)) (item_found (scope_view scope.now) (numbers_view found.old.at) (item_view tree.now) level) }
+    ensures { GathersWithin result found.old found.new (behind_item (numbers_view found.old.at) (item_view tree.now)) (item_found (scope_view scope.old) (numbers_view found.old.at) (item_view tree.now) level) scope.old scope.new }
 {
     match &tree.command {
         Some(labelled) => command(scope, found, labelled, level),
@@ -403,29 +404,32 @@ fn one_item<'s>(
 }
 
 /// The body of a FOR over this variable, at the level behind its two cells.
+#[tactic(auto, using(bc_names::proofs::Extends::left))]
 #[cycle(finding)]
 fn counted<'s>(
-    scope: &Scope<'s>,
+    scope: &mut Scope<'s>,
     found: &mut Gathered,
     variable: &'s [u8],
     body: &Block<'s>,
     level: u64,
 ) -> Result<(), Memory>
-    ensures { Gathers result found.old found.new (behind_block (numbers_view found.old.at) (block_view body.now)) (found_in_block (in_for (scope_view scope.now) variable.entry.now level) (numbers_view found.old.at) (block_view body.now) (level_in_for level)) }
+    ensures { GathersWithin result found.old found.new (behind_block (numbers_view found.old.at) (block_view body.now)) (found_in_block (in_for (scope_view scope.old) variable.entry.now level) (numbers_view found.old.at) (block_view body.now) (level_in_for level)) scope.old scope.new }
 {
-    let mut inner = scope.copied()?;
-    inner.declare(variable, Meant::Variable(level))?;
-    block(&inner, found, body, sum(level, 2)?)
+    let before_variable = scope.mark();
+    scope.declare(variable, Meant::Variable(level))?;
+    block(scope, found, body, sum(level, 2)?)?;
+    scope.leave(before_variable);
+    Ok(())
 }
 
 #[cycle(finding)]
 fn command<'s>(
-    scope: &Scope<'s>,
+    scope: &mut Scope<'s>,
     found: &mut Gathered,
     tree: &Command<'s>,
     level: u64,
 ) -> Result<(), Memory>
-    ensures { Gathers result found.old found.new (behind_command (numbers_view found.old.at) (command_view tree.now)) (found_in_command (scope_view scope.now) (numbers_view found.old.at) (command_view tree.now) level) }
+    ensures { GathersWithin result found.old found.new (behind_command (numbers_view found.old.at) (command_view tree.now)) (found_in_command (scope_view scope.old) (numbers_view found.old.at) (command_view tree.now) level) scope.old scope.new }
 {
     match tree {
         Command::Assign(places, values) => {
@@ -477,8 +481,7 @@ fn command<'s>(
         }
         Command::SwitchOn(of, list) => {
             expression(scope, found, of, level)?;
-            let mut inner = scope.copied()?;
-            command_list(&mut inner, found, list, level)
+            command_list(scope, found, list, level)
         }
     }
 }
@@ -496,7 +499,7 @@ pub struct Translated {
 ///
 /// `Memory` comes where an allocation was refused, or where a number is larger than 65,535. In a section without
 /// fault none is.
-#[tactic(auto, using(crate::proofs::Finding::found_whole), unfolding(crate::specs::Finding::core_view))]
+#[tactic(auto, using(crate::proofs::Finding::found_whole), unfolding(crate::specs::Finding::core_view, bc_names::specs::View::scope_view))]
 pub fn translate<'s>(alloc: Global, list: &[Declaration<'s>]) -> Result<Translated, Memory>
     ensures { IfOk result (λ t. section (t.places.items, t.valofs.items) ≡ core_of (declarations_view list.now)) }
 {

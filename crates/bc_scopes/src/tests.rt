@@ -1,6 +1,6 @@
 use bc_names::{
-    Meant, Numbers, Scope, ScopeError, before_let, cells_of_all, constant_in, in_let,
-    in_parameters, labels_in, side_levels,
+    Meant, Numbers, Scope, ScopeError, constant_in, declare_let, declare_let_pending,
+    declare_parameters, labels_in, priors_of_let, side_levels,
 };
 use bc_scope::resolve;
 use bc_tree::{Definition, Dyadic, Exp, Item, Label};
@@ -210,17 +210,22 @@ fn of_let(alloc: Global) -> Result<Vec<Definition<'static>>, Memory> {
     Ok(list)
 }
 
-/// A LET behind a global: what its names mean for its constants, behind it, and in a routine in it.
+/// A LET behind a global: what its names mean for its constants, behind it, in a routine in it, and behind that routine.
 #[test]
 fn a_let_is_declared(rt: HostRuntime) -> Result<(), Fail> {
     let alloc = rt.alloc();
     let list = of_let(alloc)?;
     let mut scope = Scope::new(alloc);
     scope.declare(b"G", Meant::Global(7))?;
-    let constants = before_let(&scope, list.as_slice())?;
-    assert_eq!(rt; constants.meant_by(b"V"), Meant::Pending);
-    assert_eq!(rt; cells_of_all(&constants, list.as_slice())?, 7);
-    let names = in_let(&scope, &constants, Numbers::start(), 5, list.as_slice())?;
+    let before = scope.mark();
+    declare_let_pending(&mut scope, list.as_slice())?;
+    assert_eq!(rt; scope.meant_by(b"V"), Meant::Pending);
+    assert_eq!(rt; scope.meant_by(b"G"), Meant::Pending);
+    scope.leave(before);
+    let priors = priors_of_let(&mut scope, list.as_slice())?;
+    assert_eq!(rt; scope.meant_by(b"V"), Meant::Undeclared);
+    let behind = declare_let(&mut scope, &priors, Numbers::start(), 5, list.as_slice())?;
+    assert_eq!(rt; behind, 12);
     let wanted: [(&[u8], Meant); 6] = [
         (b"A", Meant::Variable(5)),
         (b"B", Meant::Variable(6)),
@@ -230,12 +235,17 @@ fn a_let_is_declared(rt: HostRuntime) -> Result<(), Fail> {
         (b"H", Meant::Undeclared),
     ];
     for (name, meant) in wanted {
-        assert_eq!(rt; names.meant_by(name), meant);
+        assert_eq!(rt; scope.meant_by(name), meant);
     }
-    let inner = in_parameters(&names, &[b"A"])?;
-    assert_eq!(rt; inner.meant_by(b"A"), Meant::Variable(2));
-    assert_eq!(rt; inner.meant_by(b"B"), Meant::OuterVariable);
-    assert_eq!(rt; inner.meant_by(b"F"), Meant::Routine(1));
+    let outside = scope.mark();
+    declare_parameters(&mut scope, &[b"A"])?;
+    assert_eq!(rt; scope.meant_by(b"A"), Meant::Variable(2));
+    assert_eq!(rt; scope.meant_by(b"B"), Meant::OuterVariable);
+    assert_eq!(rt; scope.meant_by(b"F"), Meant::Routine(1));
+    scope.leave(outside);
+    for (name, meant) in wanted {
+        assert_eq!(rt; scope.meant_by(name), meant);
+    }
     Ok(())
 }
 
@@ -292,29 +302,39 @@ fn labels_are_counted(rt: HostRuntime) -> Result<(), Fail> {
 const NAMES: &[u8] =
     b"A0A1A2A3A4A5A6A7A8A9B0B1B2B3B4B5B6B7B8B9C0C1C2C3C4C5C6C7C8C9D0D1D2D3D4D5D6D7D8D9E0E1E2E3E4E5E6E7E8E9F0F1F2F3F4F5F6F7F8F9G0G1G2G3G4G5G6G7G8G9H0H1H2H3H4H5H6H7H8H9I0I1I2I3I4I5I6I7I8I9J0J1J2J3J4J5J6J7J8J9";
 
+/// All names, with this meaning.
+fn declare_all(scope: &mut Scope<'_>, meant: Meant) -> Result<(), Memory> {
+    for name in NAMES.chunks(2) {
+        scope.declare(name, meant)?;
+    }
+    Ok(())
+}
+
 /// Where a hundred names are variables, and in a routine there each of them is a constant as well, and in a VALOF in that each is
-/// a label: how many names mean a variable outside, a constant in the routine, an outer variable in another
-/// routine, and a label outside of its VALOF in one more.
-fn many_known(alloc: Global) -> Result<[u64; 4], Memory> {
-    let mut outside = Scope::new(alloc);
-    for name in NAMES.chunks(2) {
-        outside.declare(name, Meant::Variable(3))?;
-    }
-    let mut routine = outside.in_routine()?;
-    let other = outside.in_routine()?;
-    for name in NAMES.chunks(2) {
-        routine.declare(name, Meant::Constant(4))?;
-    }
-    let mut valof = routine.in_valof()?;
-    for name in NAMES.chunks(2) {
-        valof.declare(name, Meant::Label(5))?;
-    }
-    let within = valof.in_valof()?;
+/// a label: how many names mean a variable outside of the routine in it, a constant before the VALOF, a label outside of its VALOF in one more,
+/// a constant behind the VALOFs, and a variable behind the routine.
+fn many_known(alloc: Global) -> Result<[u64; 5], Memory> {
+    let mut scope = Scope::new(alloc);
+    declare_all(&mut scope, Meant::Variable(3))?;
+    let outside = scope.mark();
+    scope.enter_routine()?;
+    let outer = meaning(&scope, Meant::OuterVariable);
+    declare_all(&mut scope, Meant::Constant(4))?;
+    let constants = meaning(&scope, Meant::Constant(4));
+    let before_valof = scope.mark();
+    scope.enter_valof()?;
+    declare_all(&mut scope, Meant::Label(5))?;
+    scope.enter_valof()?;
+    let labels = meaning(&scope, Meant::LabelOutside);
+    scope.leave(before_valof);
+    let again = meaning(&scope, Meant::Constant(4));
+    scope.leave(outside);
     Ok([
-        meaning(&outside, Meant::Variable(3)),
-        meaning(&routine, Meant::Constant(4)),
-        meaning(&other, Meant::OuterVariable),
-        meaning(&within, Meant::LabelOutside),
+        outer,
+        constants,
+        labels,
+        again,
+        meaning(&scope, Meant::Variable(3)),
     ])
 }
 
@@ -329,10 +349,10 @@ fn meaning(scope: &Scope<'_>, meant: Meant) -> u64 {
     count
 }
 
-/// Names go into groups, and groups into larger ones.
+/// What is known inside, and what is known again behind it.
 #[test]
 fn many_names_are_known(rt: HostRuntime) -> Result<(), Fail> {
-    assert_eq!(rt; many_known(rt.alloc())?, [100, 100, 100, 100]);
+    assert_eq!(rt; many_known(rt.alloc())?, [100, 100, 100, 100, 100]);
     Ok(())
 }
 

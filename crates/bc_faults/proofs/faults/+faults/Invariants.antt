@@ -1,3 +1,4 @@
+use Rattle.std.specs.Prelude.{map}
 use Rattle.std.proofs.Common.{◌≡◌, ◌+◌, ◌*◌, ◌++◌, max, drop, []}
 use Rattle.bc_tree.specs.Size.{block_size, command_size, declaration_size, declarations_size, definition_size, definitions_size, entries_size, exp_size, exps_size, item_size, items_size, label_size, labels_size}
 use Rattle.bc_tree.specs.View.{block_view, command_view, declaration_view, declarations_view, definition_view, definitions_view, entries_view, exp_view, exps_view, item_view, items_view, label_view, labels_view}
@@ -5,8 +6,9 @@ use Rattle.bc_scoping.specs.Numbering.{behind_entries, behind_all, behind_declar
 use Rattle.bc_scoping.specs.Scoping.{in_entries, in_declarations, level_behind}
 use Rattle.bc_scoping.specs.Found.{found_in_arguments, found_in_sides, found_in_initials, found_in_entries, found_in_definitions, found_in_declarations, found_in_items}
 use Rattle.bc_scoping.specs.Frames.{widths, width_of_arguments, width_of_initials, width_of_definitions, width_of_declarations, width_of_items}
-use Rattle.bc_scoping.specs.Faults.{none_met, met_labels, arguments_fault, constants_fault, sides_fault, initials_fault, entries_fault, definitions_fault, declarations_fault, labels_fault, items_fault}
-use Rattle.bc_names.specs.View.{scope_view, numbers_view}
+use Rattle.bc_scoping.specs.Faults.{none_met, met_labels, arguments_fault, constants_fault, sides_fault, initials_fault, entries_fault, declarations_fault, labels_fault, items_fault}
+use Rattle.bc_names.specs.View.{Extends, scope_view, numbers_view}
+use Rattle.bc_faults.specs.Vectors.{fault_view, vector_faults, definitions_fault_by}
 use Rattle.bc_faults.specs.Seen.{allowed_view, names_view, met_view, frames_fit}
 use Rattle.bc_faults.proofs.faults.+faults.Given as goal
 
@@ -51,17 +53,29 @@ decreases-function l = 16 * exp_size (exp_view l.value.now) + 1
 abbrev pub decreases-routine : goal.decreases-routine
 decreases-routine l = 16 * block_size (block_view l.body.now) + 8
 
+abbrev pub decreases-found_fault : goal.decreases-found_fault
+decreases-found_fault l = 16 * exp_size (exp_view l.e.now) + 2
+
+abbrev pub decreases-vector_fault : goal.decreases-vector_fault
+decreases-vector_fault l = 16 * definition_size (definition_view l.tree.now)
+
+abbrev pub decreases-vector_faults : goal.decreases-vector_faults
+decreases-vector_faults l = 16 * definitions_size (definitions_view l.list.now) + 1
+
+abbrev pub decreases-pending_faults : goal.decreases-pending_faults
+decreases-pending_faults l = 16 * definitions_size (definitions_view l.list.now) + 2
+
 abbrev pub decreases-definitions : goal.decreases-definitions
 decreases-definitions l = 16 * definitions_size (definitions_view l.list.now) + 1
 
 abbrev pub decreases-definitions_of_let : goal.decreases-definitions_of_let
-decreases-definitions_of_let l = 16 * definitions_size (definitions_view l.list.now) + 2
+decreases-definitions_of_let l = 16 * definitions_size (definitions_view l.list.now) + 3
 
 abbrev pub decreases-declaration : goal.decreases-declaration
-decreases-declaration l = 16 * declaration_size (declaration_view l.tree.now) + 3
+decreases-declaration l = 16 * declaration_size (declaration_view l.tree.now) + 4
 
 abbrev pub decreases-declarations : goal.decreases-declarations
-decreases-declarations l = 16 * declarations_size (declarations_view l.list.now) + 4
+decreases-declarations l = 16 * declarations_size (declarations_view l.list.now) + 5
 
 abbrev pub decreases-block : goal.decreases-block
 decreases-block l = 16 * block_size (block_view l.tree.now) + 7
@@ -110,28 +124,32 @@ decreases-command l = 16 * command_size (command_view l.tree.now)
 
 abbrev pub invariant-arguments-loop-e : goal.invariant-arguments-loop-e
 invariant-arguments-loop-e l =
-    (arguments_fault l.in_constant (scope_view l.scope) (numbers_view l.progress.at) (exps_view (drop l.e-index l.list)) l.above ≡ arguments_fault l.in_constant (scope_view l.scope) (numbers_view l.fn.progress.at) (exps_view l.list) l.level)
-    × (max l.width (width_of_arguments (scope_view l.scope) (numbers_view l.progress.at) (exps_view (drop l.e-index l.list)) l.above) ≡ width_of_arguments (scope_view l.scope) (numbers_view l.fn.progress.at) (exps_view l.list) l.level)
+    (arguments_fault l.in_constant (scope_view l.scope) (numbers_view l.progress.at) (exps_view (drop l.e-index l.list)) l.above ≡ arguments_fault l.in_constant (scope_view l.fn.scope) (numbers_view l.fn.progress.at) (exps_view l.list) l.level)
+    × (max l.width (width_of_arguments (scope_view l.scope) (numbers_view l.progress.at) (exps_view (drop l.e-index l.list)) l.above) ≡ width_of_arguments (scope_view l.fn.scope) (numbers_view l.fn.progress.at) (exps_view l.list) l.level)
     × (behind_all (numbers_view l.progress.at) (exps_view (drop l.e-index l.list)) ≡ behind_all (numbers_view l.fn.progress.at) (exps_view l.list))
-    × (frames_fit l.progress.fits (found_in_arguments (scope_view l.scope) (numbers_view l.progress.at) (exps_view (drop l.e-index l.list)) l.above) ≡ frames_fit l.fn.progress.fits (found_in_arguments (scope_view l.scope) (numbers_view l.fn.progress.at) (exps_view l.list) l.level))
+    × (frames_fit l.progress.fits (found_in_arguments (scope_view l.scope) (numbers_view l.progress.at) (exps_view (drop l.e-index l.list)) l.above) ≡ frames_fit l.fn.progress.fits (found_in_arguments (scope_view l.fn.scope) (numbers_view l.fn.progress.at) (exps_view l.list) l.level))
+    × (l.scope ≡ l.fn.scope)
 
 abbrev pub invariant-constants-loop-e : goal.invariant-constants-loop-e
 invariant-constants-loop-e l =
-    (constants_fault (scope_view l.scope) (numbers_view l.progress.at) (exps_view (drop l.e-index l.list)) ≡ constants_fault (scope_view l.scope) (numbers_view l.progress.at) (exps_view l.list))
+    (constants_fault (scope_view l.scope) (numbers_view l.progress.at) (exps_view (drop l.e-index l.list)) ≡ constants_fault (scope_view l.fn.scope) (numbers_view l.progress.at) (exps_view l.list))
+    × (l.scope ≡ l.fn.scope)
 
 abbrev pub invariant-sides-loop-e : goal.invariant-sides-loop-e
 invariant-sides-loop-e l =
-    (sides_fault (scope_view l.scope) (numbers_view l.progress.at) (exps_view (drop l.e-index l.list)) (drop l.i l.levels) ≡ sides_fault (scope_view l.scope) (numbers_view l.fn.progress.at) (exps_view l.list) l.levels)
-    × (l.widths.items ++ widths (scope_view l.scope) (numbers_view l.progress.at) (exps_view (drop l.e-index l.list)) (drop l.i l.levels) ≡ widths (scope_view l.scope) (numbers_view l.fn.progress.at) (exps_view l.list) l.levels)
+    (sides_fault (scope_view l.scope) (numbers_view l.progress.at) (exps_view (drop l.e-index l.list)) (drop l.i l.levels) ≡ sides_fault (scope_view l.fn.scope) (numbers_view l.fn.progress.at) (exps_view l.list) l.levels)
+    × (l.widths.items ++ widths (scope_view l.scope) (numbers_view l.progress.at) (exps_view (drop l.e-index l.list)) (drop l.i l.levels) ≡ widths (scope_view l.fn.scope) (numbers_view l.fn.progress.at) (exps_view l.list) l.levels)
     × (behind_all (numbers_view l.progress.at) (exps_view (drop l.e-index l.list)) ≡ behind_all (numbers_view l.fn.progress.at) (exps_view l.list))
-    × (frames_fit l.progress.fits (found_in_sides (scope_view l.scope) (numbers_view l.progress.at) (exps_view (drop l.e-index l.list)) (drop l.i l.levels)) ≡ frames_fit l.fn.progress.fits (found_in_sides (scope_view l.scope) (numbers_view l.fn.progress.at) (exps_view l.list) l.levels))
+    × (frames_fit l.progress.fits (found_in_sides (scope_view l.scope) (numbers_view l.progress.at) (exps_view (drop l.e-index l.list)) (drop l.i l.levels)) ≡ frames_fit l.fn.progress.fits (found_in_sides (scope_view l.fn.scope) (numbers_view l.fn.progress.at) (exps_view l.list) l.levels))
+    × (l.scope ≡ l.fn.scope)
 
 abbrev pub invariant-initials-loop-e : goal.invariant-initials-loop-e
 invariant-initials-loop-e l =
-    (initials_fault (scope_view l.scope) (numbers_view l.progress.at) (exps_view (drop l.e-index l.list)) l.level ≡ initials_fault (scope_view l.scope) (numbers_view l.fn.progress.at) (exps_view l.list) l.level)
-    × (max l.width (width_of_initials (scope_view l.scope) (numbers_view l.progress.at) (exps_view (drop l.e-index l.list)) l.level) ≡ width_of_initials (scope_view l.scope) (numbers_view l.fn.progress.at) (exps_view l.list) l.level)
+    (initials_fault (scope_view l.scope) (numbers_view l.progress.at) (exps_view (drop l.e-index l.list)) l.level ≡ initials_fault (scope_view l.fn.scope) (numbers_view l.fn.progress.at) (exps_view l.list) l.level)
+    × (max l.width (width_of_initials (scope_view l.scope) (numbers_view l.progress.at) (exps_view (drop l.e-index l.list)) l.level) ≡ width_of_initials (scope_view l.fn.scope) (numbers_view l.fn.progress.at) (exps_view l.list) l.level)
     × (behind_all (numbers_view l.progress.at) (exps_view (drop l.e-index l.list)) ≡ behind_all (numbers_view l.fn.progress.at) (exps_view l.list))
-    × (frames_fit l.progress.fits (found_in_initials (scope_view l.scope) (numbers_view l.progress.at) (exps_view (drop l.e-index l.list)) l.level) ≡ frames_fit l.fn.progress.fits (found_in_initials (scope_view l.scope) (numbers_view l.fn.progress.at) (exps_view l.list) l.level))
+    × (frames_fit l.progress.fits (found_in_initials (scope_view l.scope) (numbers_view l.progress.at) (exps_view (drop l.e-index l.list)) l.level) ≡ frames_fit l.fn.progress.fits (found_in_initials (scope_view l.fn.scope) (numbers_view l.fn.progress.at) (exps_view l.list) l.level))
+    × (l.scope ≡ l.fn.scope)
 
 abbrev pub invariant-entries-loop-entry : goal.invariant-entries-loop-entry
 invariant-entries-loop-entry l =
@@ -139,13 +157,15 @@ invariant-entries-loop-entry l =
     × (in_entries l.storage (numbers_view l.progress.at) (entries_view (drop l.entry-index l.list)) (scope_view l.scope) ≡ in_entries l.storage (numbers_view l.fn.progress.at) (entries_view l.list) (scope_view l.fn.scope))
     × (behind_entries l.storage (numbers_view l.progress.at) (entries_view (drop l.entry-index l.list)) ≡ behind_entries l.storage (numbers_view l.fn.progress.at) (entries_view l.list))
     × (frames_fit l.progress.fits (found_in_entries l.storage (numbers_view l.progress.at) (entries_view (drop l.entry-index l.list)) (scope_view l.scope)) ≡ frames_fit l.fn.progress.fits (found_in_entries l.storage (numbers_view l.fn.progress.at) (entries_view l.list) (scope_view l.fn.scope)))
+    × Extends l.fn.scope l.scope
 
 abbrev pub invariant-definitions-loop-tree : goal.invariant-definitions-loop-tree
 invariant-definitions-loop-tree l =
-    (definitions_fault l.among.inside (names_view l.before.keys) (scope_view l.among.constants.now) (scope_view l.among.names.now) (numbers_view l.progress.at) (definitions_view (drop l.tree-index l.list)) l.level ≡ definitions_fault l.among.inside [] (scope_view l.among.constants.now) (scope_view l.among.names.now) (numbers_view l.fn.progress.at) (definitions_view l.list) l.level)
-    × (max l.width (width_of_definitions (scope_view l.among.names.now) (numbers_view l.progress.at) (definitions_view (drop l.tree-index l.list)) l.level) ≡ width_of_definitions (scope_view l.among.names.now) (numbers_view l.fn.progress.at) (definitions_view l.list) l.level)
+    (definitions_fault_by l.inside (names_view l.before.keys) (drop l.i l.faults) (scope_view l.scope) (numbers_view l.progress.at) (definitions_view (drop l.tree-index l.list)) l.level ≡ definitions_fault_by l.inside [] l.faults (scope_view l.fn.scope) (numbers_view l.fn.progress.at) (definitions_view l.list) l.level)
+    × (max l.width (width_of_definitions (scope_view l.scope) (numbers_view l.progress.at) (definitions_view (drop l.tree-index l.list)) l.level) ≡ width_of_definitions (scope_view l.fn.scope) (numbers_view l.fn.progress.at) (definitions_view l.list) l.level)
     × (behind_definitions (numbers_view l.progress.at) (definitions_view (drop l.tree-index l.list)) ≡ behind_definitions (numbers_view l.fn.progress.at) (definitions_view l.list))
-    × (frames_fit l.progress.fits (found_in_definitions (scope_view l.among.names.now) (scope_view l.among.names.now) (numbers_view l.progress.at) (definitions_view (drop l.tree-index l.list)) l.level) ≡ frames_fit l.fn.progress.fits (found_in_definitions (scope_view l.among.names.now) (scope_view l.among.names.now) (numbers_view l.fn.progress.at) (definitions_view l.list) l.level))
+    × (frames_fit l.progress.fits (found_in_definitions (scope_view l.scope) (scope_view l.scope) (numbers_view l.progress.at) (definitions_view (drop l.tree-index l.list)) l.level) ≡ frames_fit l.fn.progress.fits (found_in_definitions (scope_view l.fn.scope) (scope_view l.fn.scope) (numbers_view l.fn.progress.at) (definitions_view l.list) l.level))
+    × (l.scope ≡ l.fn.scope)
 
 abbrev pub invariant-declarations-loop-tree : goal.invariant-declarations-loop-tree
 invariant-declarations-loop-tree l =
@@ -155,15 +175,23 @@ invariant-declarations-loop-tree l =
     × (max l.width (width_of_declarations (scope_view l.scope) (numbers_view l.progress.at) (declarations_view (drop l.tree-index l.list)) l.behind) ≡ width_of_declarations (scope_view l.fn.scope) (numbers_view l.fn.progress.at) (declarations_view l.list) l.level)
     × (behind_declarations (numbers_view l.progress.at) (declarations_view (drop l.tree-index l.list)) ≡ behind_declarations (numbers_view l.fn.progress.at) (declarations_view l.list))
     × (frames_fit l.progress.fits (found_in_declarations (scope_view l.scope) (numbers_view l.progress.at) (declarations_view (drop l.tree-index l.list)) l.behind) ≡ frames_fit l.fn.progress.fits (found_in_declarations (scope_view l.fn.scope) (numbers_view l.fn.progress.at) (declarations_view l.list) l.level))
+    × Extends l.fn.scope l.scope
 
 abbrev pub invariant-labels-loop-tree : goal.invariant-labels-loop-tree
 invariant-labels-loop-tree l =
-    (labels_fault l.in_cases (met_view l.met) (scope_view l.scope) (numbers_view l.progress.at) (labels_view (drop l.tree-index l.list)) ≡ labels_fault l.in_cases (met_view l.fn.met) (scope_view l.scope) (numbers_view l.progress.at) (labels_view l.list))
-    × (met_labels (scope_view l.scope) (met_view l.met) (labels_view (drop l.tree-index l.list)) ≡ met_labels (scope_view l.scope) (met_view l.fn.met) (labels_view l.list))
+    (labels_fault l.in_cases (met_view l.met) (scope_view l.scope) (numbers_view l.progress.at) (labels_view (drop l.tree-index l.list)) ≡ labels_fault l.in_cases (met_view l.fn.met) (scope_view l.fn.scope) (numbers_view l.progress.at) (labels_view l.list))
+    × (met_labels (scope_view l.scope) (met_view l.met) (labels_view (drop l.tree-index l.list)) ≡ met_labels (scope_view l.fn.scope) (met_view l.fn.met) (labels_view l.list))
+    × (l.scope ≡ l.fn.scope)
 
 abbrev pub invariant-items-loop-tree : goal.invariant-items-loop-tree
 invariant-items-loop-tree l =
-    (items_fault l.list.cases (met_view l.met) (allowed_view l.list.allowed) (scope_view l.scope) (numbers_view l.progress.at) (items_view (drop l.tree-index l.trees)) l.level ≡ items_fault l.list.cases none_met (allowed_view l.list.allowed) (scope_view l.scope) (numbers_view l.fn.progress.at) (items_view l.trees) l.level)
-    × (max l.width (width_of_items (scope_view l.scope) 0 (numbers_view l.progress.at) (items_view (drop l.tree-index l.trees)) l.level) ≡ width_of_items (scope_view l.scope) 0 (numbers_view l.fn.progress.at) (items_view l.trees) l.level)
+    (items_fault l.list.cases (met_view l.met) (allowed_view l.list.allowed) (scope_view l.scope) (numbers_view l.progress.at) (items_view (drop l.tree-index l.trees)) l.level ≡ items_fault l.list.cases none_met (allowed_view l.list.allowed) (scope_view l.fn.scope) (numbers_view l.fn.progress.at) (items_view l.trees) l.level)
+    × (max l.width (width_of_items (scope_view l.scope) 0 (numbers_view l.progress.at) (items_view (drop l.tree-index l.trees)) l.level) ≡ width_of_items (scope_view l.fn.scope) 0 (numbers_view l.fn.progress.at) (items_view l.trees) l.level)
     × (behind_items (numbers_view l.progress.at) (items_view (drop l.tree-index l.trees)) ≡ behind_items (numbers_view l.fn.progress.at) (items_view l.trees))
-    × (frames_fit l.progress.fits (found_in_items (scope_view l.scope) 0 (numbers_view l.progress.at) (items_view (drop l.tree-index l.trees)) l.level) ≡ frames_fit l.fn.progress.fits (found_in_items (scope_view l.scope) 0 (numbers_view l.fn.progress.at) (items_view l.trees) l.level))
+    × (frames_fit l.progress.fits (found_in_items (scope_view l.scope) 0 (numbers_view l.progress.at) (items_view (drop l.tree-index l.trees)) l.level) ≡ frames_fit l.fn.progress.fits (found_in_items (scope_view l.fn.scope) 0 (numbers_view l.fn.progress.at) (items_view l.trees) l.level))
+    × (l.scope ≡ l.fn.scope)
+
+abbrev pub invariant-vector_faults-loop-tree : goal.invariant-vector_faults-loop-tree
+invariant-vector_faults-loop-tree l =
+    (map fault_view l.faults.items ++ vector_faults (scope_view l.scope) (numbers_view l.progress.at) (definitions_view (drop l.tree-index l.list)) ≡ vector_faults (scope_view l.fn.scope) (numbers_view l.fn.progress.at) (definitions_view l.list))
+    × (l.scope ≡ l.fn.scope)

@@ -7,5 +7,6 @@ use Rattle.bc_resolving.proofs.blocks.+blocks.Given as goal
 
 abbrev pub invariant-items-loop-tree : goal.invariant-items-loop-tree
 invariant-items-loop-tree l =
-    (map entry_view l.list.items ++ items_entries (scope_view l.scope) l.number (numbers_view l.at) (items_view (drop l.tree-index l.trees)) l.level ≡ items_entries (scope_view l.scope) l.fn.number (numbers_view l.fn.at) (items_view l.trees) l.level)
+    (map entry_view l.list.items ++ items_entries (scope_view l.scope) l.number (numbers_view l.at) (items_view (drop l.tree-index l.trees)) l.level ≡ items_entries (scope_view l.fn.scope) l.fn.number (numbers_view l.fn.at) (items_view l.trees) l.level)
     × (behind_items (numbers_view l.at) (items_view (drop l.tree-index l.trees)) ≡ behind_items (numbers_view l.fn.at) (items_view l.trees))
+    × (l.scope ≡ l.fn.scope)

@@ -1,4 +1,4 @@
-use Rattle.std.proofs.Common.{◌≡◌, ◌∙◌, ℕ, List, sym, ap, not, [], ◌∷◌, ◌++◌}
+use Rattle.std.proofs.Common.{◌∙◌, ℕ, List, sym, ap, not, [], ◌∷◌, ◌++◌}
 use Rattle.bc_scoping.specs.Faults.{Met, or_else, unless, has_value, ACaseTwice}
 use Rattle.bc_faults.specs.Seen.{names_view}
 use Rattle.bc_faults.proofs.Sets.{fresh_value, seen_value}

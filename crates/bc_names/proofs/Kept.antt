@@ -1,0 +1,107 @@
+-- What a scope keeps beside its entries, with one entry more, and with the last one taken off.
+use Rattle.std.proofs.Common.{◌≡◌, ℕ, ◌+◌, ◌-◌, ◌<◌, refl, ap, ◌∙◌, sym, subst, List, [], ◌∷◌, ◌++◌, length, get_or, take, ◌==◌, ◌&&◌, Bool, true, false, true≢false, cond, Option, Some, None, arith, ⊎_elim}
+use Rattle.std.proofs.lemmas.Bool.{cases_lt}
+use Rattle.std.proofs.lemmas.List.{take_more, take-append-le, get_or_append_left}
+use Rattle.std.proofs.Math.Seq.{take-append_seam, take-length, get_or-append_seam}
+use Rattle.std.specs.Str.{bytes_eq}
+use Rattle.bc_names.specs.declared.scope.Borders.{Borders}
+use Rattle.bc_names.specs.declared.scope.Bound.{Bound}
+use Rattle.bc_names.specs.declared.scope.Named.{Named}
+use Rattle.bc_names.specs.declared.scope.Entry.{Entry}
+use Rattle.bc_names.specs.declared.scope.Entry.TheVariants as entry
+use Rattle.bc_names.specs.Index.{newest, borders_of, no_borders, or_none, Keeps, CanUndo}
+use Rattle.bc_names.specs.View.{scope_view, behind_one, Extends, Declares}
+use Rattle.bc_names.proofs.Names.{newest_last, borders_last, behind_push}
+use Rattle.bc_scoping.specs.Scope.{Name, is_name}
+
+is_name-bytes_eq : (a b : Name) → is_name a b ≡ bytes_eq a b
+is_name-bytes_eq [] [] = refl
+is_name-bytes_eq [] (y ∷ b) = refl
+is_name-bytes_eq (x ∷ a) [] = refl
+is_name-bytes_eq (x ∷ a) (y ∷ b) = ap (λ t. (x == y) && t) (is_name-bytes_eq a b)
+
+-- what is declared is known, and nothing else changes
+pub declares_push : (es : List Entry) (e : Entry) → Declares es (es ++ e ∷ []) (behind_one e (scope_view es))
+unfolding scope_view Extends
+declares_push es e = (behind_push es e [], take-append_seam es (e ∷ []))
+
+pub finds_name : (es : List Entry) (n : Named) (h : Option Bound) (q : Name) (r s : Option (Option Bound)) → s ≡ cond (bytes_eq n.name.now q) (Some (Some (record { meant = n.meant; place = length es }))) r → or_none r ≡ newest 0 es q None
+    → or_none s ≡ newest 0 (es ++ entry.Name n h ∷ []) q None
+finds_name es n h q r s e f = ap or_none e ∙ by (bytes_eq n.name.now q) (is_name n.name.now q) (is_name-bytes_eq n.name.now q) ∙ sym (newest_last es (entry.Name n h) q None)
+  where
+    k : Bound
+    k = record { meant = n.meant; place = length es }
+
+    by : (t u : Bool) → u ≡ t → or_none (cond t (Some (Some k)) r) ≡ cond u (Some k) (newest 0 es q None)
+    by true true p = refl
+    by true false p = absurd (true≢false (sym p))
+    by false true p = absurd (true≢false p)
+    by false false p = f
+length_push : (xs : List Entry) (x : Entry) → length (xs ++ x ∷ []) ≡ length xs + 1
+length_push [] x = refl
+length_push (y ∷ xs) x = let n = length_push xs x in omega arith
+
+kept_before : (es : List Entry) (e : Entry) (i : ℕ) (d : Entry) → i < length es → Keeps (take i (es ++ e ∷ [])) (get_or (es ++ e ∷ []) i d) ≡ Keeps (take i es) (get_or es i d)
+kept_before es e i d h = rw (take-append-le i es (e ∷ []) (omega arith), get_or_append_left es (e ∷ []) d i h) refl
+
+kept_last : (es : List Entry) (e d : Entry) → Keeps (take (length es) (es ++ e ∷ [])) (get_or (es ++ e ∷ []) (length es) d) ≡ Keeps es e
+kept_last es e d = rw (take-append_seam es (e ∷ []), get_or-append_seam es e [] d) refl
+
+pub can_undo_push : (es : List Entry) (e : Entry) → CanUndo es → Keeps es e → CanUndo (es ++ e ∷ [])
+can_undo_push es e can keeps = λ i d h. ⊎_elim (λ before. subst (λ T. T) (sym (kept_before es e i d before)) (can i d before)) (λ after. at i d (omega (arith, length_push es e)) keeps) (cases_lt i (length es))
+  where
+    at : (i : ℕ) (d : Entry) → i ≡ length es → Keeps es e → Keeps (take i (es ++ e ∷ [])) (get_or (es ++ e ∷ []) i d)
+    at i d p k = subst (λ j. Keeps (take j (es ++ e ∷ [])) (get_or (es ++ e ∷ []) j d)) (sym p) (subst (λ T. T) (sym (kept_last es e d)) k)
+
+can_undo_back : (es : List Entry) (e : Entry) → CanUndo (es ++ e ∷ []) → CanUndo es
+can_undo_back es e can = λ i d h. subst (λ T. T) (kept_before es e i d h) (can i d (omega (arith, length_push es e)))
+
+keeps_last : (es : List Entry) (e : Entry) → CanUndo (es ++ e ∷ []) → Keeps es e
+keeps_last es e can = subst (λ T. T) (kept_last es e e) (can (length es) e (omega (arith, length_push es e)))
+
+same_name : (a b : Name) → is_name a b ≡ true → a ≡ b
+same_name [] [] h = refl
+same_name [] (y ∷ b) h = absurd (true≢false (sym h))
+same_name (x ∷ a) [] h = absurd (true≢false (sym h))
+same_name (x ∷ a) (y ∷ b) h = grind (arith, same_name a b)
+
+pub finds_back : (es : List Entry) (n : Named) (h : Option Bound) (q : Name) (r s : Option (Option Bound)) → s ≡ cond (bytes_eq n.name.now q) (Some h) r → or_none r ≡ newest 0 (es ++ entry.Name n h ∷ []) q None → h ≡ newest 0 es n.name.now None
+    → or_none s ≡ newest 0 es q None
+finds_back es n h q r s e f k = ap or_none e ∙ by (bytes_eq n.name.now q) (is_name n.name.now q) (is_name-bytes_eq n.name.now q) (same_name n.name.now q) (f ∙ newest_last es (entry.Name n h) q None)
+  where
+    by : (t u : Bool) → u ≡ t → (u ≡ true → n.name.now ≡ q) → or_none r ≡ cond u (Some (record { meant = n.meant; place = length es })) (newest 0 es q None) → or_none (cond t (Some h) r) ≡ newest 0 es q None
+    by true true p same g = k ∙ ap (λ x. newest 0 es x None) (same refl)
+    by true false p same g = absurd (true≢false (sym p))
+    by false true p same g = absurd (true≢false p)
+    by false false p same g = g
+
+pub routine_border : (es : List Entry) (b o : Borders) (n : ℕ) → b ≡ borders_of 0 es no_borders → n ≡ length (es ++ entry.Routine o ∷ []) → record { routine = n; valof = b.valof } ≡ borders_of 0 (es ++ entry.Routine o ∷ []) no_borders
+routine_border es b o n e l = ap (λ k. record { routine = k; valof = b.valof }) (l ∙ length_push es (entry.Routine o)) ∙ ap (λ x. record { routine = length es + 1; valof = x.valof }) e ∙ sym (borders_last es (entry.Routine o) no_borders)
+
+pub valof_border : (es : List Entry) (b o : Borders) (n : ℕ) → b ≡ borders_of 0 es no_borders → n ≡ length (es ++ entry.Valof o ∷ []) → record { routine = b.routine; valof = n } ≡ borders_of 0 (es ++ entry.Valof o ∷ []) no_borders
+valof_border es b o n e l = ap (λ k. record { routine = b.routine; valof = k }) (l ∙ length_push es (entry.Valof o)) ∙ ap (λ x. record { routine = x.routine; valof = length es + 1 }) e ∙ sym (borders_last es (entry.Valof o) no_borders)
+
+-- what an entry that is taken off kept
+pub back_name : (es before : List Entry) (n : Named) (h : Option Bound) (b : Borders) → es ≡ before ++ entry.Name n h ∷ [] → b ≡ borders_of 0 es no_borders → CanUndo es → (b ≡ borders_of 0 before no_borders) × CanUndo before × (h ≡ newest 0 before n.name.now None)
+back_name es before n h b e i can =
+    let all = subst (λ l. CanUndo l) e can in (
+      i ∙ ap (λ l. borders_of 0 l no_borders) e ∙ borders_last before (entry.Name n h) no_borders,
+      can_undo_back before (entry.Name n h) all,
+      keeps_last before (entry.Name n h) all,
+    )
+
+pub back_border : (es before : List Entry) (x : Entry) → es ≡ before ++ x ∷ [] → CanUndo es → CanUndo before × Keeps before x
+back_border es before x e can =
+    let all = subst (λ l. CanUndo l) e can in (can_undo_back before x all, keeps_last before x all)
+
+same_spelled : (a : Name) → is_name a a ≡ true
+same_spelled [] = refl
+same_spelled (x ∷ a) = grind (arith, same_spelled a)
+
+-- a name that has an entry is in the index
+pub is_found : (es : List Entry) (n : Named) (h : Option Bound) (r : Option (Option Bound)) → or_none r ≡ newest 0 (es ++ entry.Name n h ∷ []) n.name.now None → r ≡ None → ⊥
+is_found es n h r f none =
+    let k : Bound = record { meant = n.meant; place = length es } in
+    let e : newest 0 (es ++ entry.Name n h ∷ []) n.name.now None ≡ Some k = newest_last es (entry.Name n h) n.name.now None ∙ ap (λ t. cond t (Some k) (newest 0 es n.name.now None)) (same_spelled n.name.now) in
+    let none_found : or_none r ≡ None = ap or_none none in
+    cc

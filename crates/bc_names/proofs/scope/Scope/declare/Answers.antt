@@ -1,0 +1,30 @@
+use Rattle.std.proofs.Common.{◌≡◌, ◌∙◌, ℕ, ap, cond, sym, None, Some}
+use Rattle.std.specs.Str.{bytes_eq}
+use Rattle.bc_names.specs.declared.scope.Bound.{Bound}
+use Rattle.indexmap.specs.IndexMap.{get}
+use Rattle.bc_names.specs.declared.scope.Named.{Named}
+use Rattle.bc_names.specs.declared.scope.Entry.TheVariants as entry
+use Rattle.bc_names.specs.Index.{newest, is_key, no_borders}
+use Rattle.bc_names.proofs.Kept.{declares_push, can_undo_push, finds_name}
+use Rattle.bc_names.proofs.Names.{borders_last}
+use Rattle.bc_names.proofs.scope.Scope.declare.Goals as goal
+
+pub invariant_of-self-in-Ok : goal.invariant_of-self-in-Ok
+invariant_of-self-in-Ok c =
+    let es = c.self.inside.entries.items in
+    let kept = c.self.invariant in
+    let put = c.in_ok-push.ensures.items in
+    let n : Named = record { name = c.args.name; meant = c.args.meant } in
+    let h = c.newest-hidden.result in
+    let seen : es ≡ c.args.self.now = c.self.view_is in
+    let bound : ℕ → Bound = λ k. record { meant = c.args.meant; place = k } in
+    let keeps : h ≡ newest 0 es c.args.name.now None = rw seen c.newest-hidden.ensures in (
+      λ q. rw put (finds_name es n h q.now (get is_key c.self.inside.index q) (get is_key c.insert.new.self q) (c.in-Ok.ensures.updates.0 q ∙ ap (λ (k : ℕ). cond (bytes_eq c.args.name.now q.now) (Some (Some (bound k))) (get is_key c.self.inside.index q)) (c.len.ensures ∙ c.self.inside.entries.ok.0)) (kept.0 q)),
+      rw put (kept.1 ∙ sym (borders_last es (entry.Name n h) no_borders)),
+      rw put (can_undo_push es (entry.Name n h) kept.2 keeps),
+    )
+
+pub returns-in-Ok : goal.returns-in-Ok
+returns-in-Ok c =
+    let seen : c.self.inside.entries.items ≡ c.args.self.now = c.self.view_is in
+    rw c.in_ok-push.ensures.items (rw seen (declares_push c.args.self.now (entry.Name (record { name = c.args.name; meant = c.args.meant }) c.newest-hidden.result)))
