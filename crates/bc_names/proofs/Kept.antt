@@ -1,8 +1,8 @@
 -- What a scope keeps beside its entries, with one entry more, and with the last one taken off.
-use Rattle.std.proofs.Common.{◌≡◌, ℕ, ◌+◌, ◌-◌, ◌<◌, refl, ap, ◌∙◌, sym, subst, List, [], ◌∷◌, ◌++◌, length, get_or, take, ◌==◌, ◌&&◌, Bool, true, false, true≢false, cond, Option, Some, None, arith, ⊎_elim}
+use Rattle.std.proofs.Common.{◌≡◌, ℕ, ◌+◌, ◌<◌, refl, ap, ◌∙◌, sym, subst, List, [], ◌∷◌, ◌++◌, length, get_or, take, ◌==◌, ◌&&◌, Bool, true, false, true≢false, cond, Option, Some, None, arith, ⊎_elim}
 use Rattle.std.proofs.lemmas.Bool.{cases_lt}
-use Rattle.std.proofs.lemmas.List.{take_more, take-append-le, get_or_append_left}
-use Rattle.std.proofs.Math.Seq.{take-append_seam, take-length, get_or-append_seam}
+use Rattle.std.proofs.lemmas.List.{take-append-le, get_or_append_left}
+use Rattle.std.proofs.Math.Seq.{take-append_seam, get_or-append_seam}
 use Rattle.std.specs.Str.{bytes_eq}
 use Rattle.bc_names.specs.declared.scope.Borders.{Borders}
 use Rattle.bc_names.specs.declared.scope.Bound.{Bound}
@@ -37,6 +37,7 @@ finds_name es n h q r s e f = ap or_none e ∙ by (bytes_eq n.name.now q) (is_na
     by true false p = absurd (true≢false (sym p))
     by false true p = absurd (true≢false p)
     by false false p = f
+
 length_push : (xs : List Entry) (x : Entry) → length (xs ++ x ∷ []) ≡ length xs + 1
 length_push [] x = refl
 length_push (y ∷ xs) x = let n = length_push xs x in omega arith
