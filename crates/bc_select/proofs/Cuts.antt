@@ -38,7 +38,3 @@ take_front xs ys n h = ap (λ k. take k (xs ++ ys)) h ∙ take-append_seam xs ys
 
 pub drop_front : (xs ys : List Part) (n : ℕ) → n ≡ length xs → drop n (xs ++ ys) ≡ ys
 drop_front xs ys n h = ap (λ k. drop k (xs ++ ys)) h ∙ drop-append_seam xs ys
-
--- without its own node, an expression's are those of its parts
-pub below_vector : (ns : List Part) (e : Exp) (s : ℕ) → ns ≡ vector e s → take (length ns - 1) ns ≡ before e s
-below_vector ns e s h = ap (λ x. take (length x - 1) x) h ∙ take_front (before e s) (node e s ∷ []) _ (omega (arith, ending_length (before e s) e s))

@@ -3,6 +3,9 @@ pub mod Bounds
 pub mod Operands
 pub mod Wholes
 pub mod Trees
+pub mod Ends
+pub mod Waits
+pub mod Marked
 pub mod Cuts
 pub mod Readings
 pub mod Vectors

@@ -4,7 +4,9 @@ pub mod Planned
 pub mod Reads
 pub mod Cut
 pub mod Laid
-pub mod Pushed
+pub mod Ends
+pub mod Waiting
+pub mod Marks
 pub mod Row
 pub mod Selection
 pub mod Rows

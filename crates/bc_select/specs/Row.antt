@@ -18,7 +18,7 @@ abbrev pub row_of_part : Part → Row
 row_of_part p = row_of p.choices
 
 abbrev pub span_of : Part → Span
-span_of p = record { calls = p.calls; nodes = p.nodes }
+span_of p = record { calls = p.calls; nodes = p.nodes; rules = (row_of_part p).rules }
 
 abbrev pub choice_in : Option ℕ → Option Rule → Option Choice
 choice_in (Some w) (Some r) = Some (record { words = w; rule = r })

@@ -4,6 +4,7 @@
 mod candidates;
 mod layout;
 mod line;
+mod mark;
 mod pair;
 mod part;
 mod plan;
@@ -13,6 +14,7 @@ mod selection;
 mod split;
 mod table;
 mod tree;
+mod waiting;
 mod whole;
 
 pub use bc_derive::{Derivation, Rule};

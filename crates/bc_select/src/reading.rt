@@ -1,40 +1,32 @@
-// The derivation of a root, read off from its nodes. Each part is put behind the others, and the rule takes off what was put since it
-// began, so that the recursion over the tree takes little stack.
+// The parts that a rule has, put behind what waits to be read: the last part first, so that the first one is read next.
 
-ghost use Rattle.std.specs.Prelude.{◌≡◌, ◌≤◌, ◌+◌, ◌*◌, ◌^◌, ◌++◌, OnOk, cond};
+ghost use Rattle.std.specs.Prelude.{◌≡◌, ℕ, List, ◌≤◌, ◌+◌, ◌*◌, ◌^◌, ◌++◌, OnOk, cond};
 ghost use Rattle.bc_core.specs.Tree as tree;
 ghost use Rattle.bc_core.specs.View.{exp, args};
 ghost use Rattle.bc_core.specs.WellFormed.{nodes as nodes_in, nodes_of_args};
 ghost use Rattle.bc_derive.specs.declared.rule.Table.TheVariants.{Two};
 ghost use Rattle.bc_derive.specs.Rules.{end_with, one as one_tree};
 ghost use Rattle.bc_least.specs.Readings.{tree_for, readings, readings_of_all, pair_parts, cond_parts, turned as turned_of};
-ghost use Rattle.bc_core.specs.Tree.{count};
+ghost use Rattle.bc_core.specs.Tree.{Exp, count};
 ghost use Rattle.bc_select.specs.Planned.{side as side_of};
 ghost use Rattle.bc_least.specs.Choices.{zero_number};
 ghost use Rattle.bc_core.specs.Operand.{constant_of};
 ghost use Rattle.bc_least.specs.Chosen.{assign_parts};
-ghost use Rattle.bc_select.specs.Pushed.{Pushed};
+ghost use Rattle.bc_select.specs.Ends.{EndsAt};
+ghost use Rattle.bc_select.specs.Waiting.{Added};
+ghost use Rattle.bc_select.specs.declared.part.Part.{Part};
 ghost use Rattle.bc_select.specs.Vector.{vector, before, before_all};
 ghost use Rattle.bc_select.specs.Reads.{own_parts, parts_for};
 
 use crate::pair::is_zero;
 use crate::plan::{Plan, Side, sides};
-use crate::split::{below, cut, rule_for};
 use crate::table::Nodes;
-use crate::tree::close;
+use crate::waiting::{Place, Step, Waiting, wait};
 use bc_core::{CoreExp, constant};
-use bc_derive::{Aim, Derivation, Mode, Rule};
+use bc_derive::{Aim, Mode, Rule};
 use bc_word::Memory;
 
 pub const ANY: Aim = Aim::Gets(Mode::Any);
-
-/// The rule by which an expression gets its code for an aim, and its level.
-#[derive(Clone, Copy)]
-pub struct Step {
-    pub level: u64,
-    pub aim: Aim,
-    pub rule: Rule,
-}
 
 /// What the part of NOT is for.
 fn turned(aim: Aim) -> Aim
@@ -46,129 +38,143 @@ fn turned(aim: Aim) -> Aim
     }
 }
 
-/// Puts the derivation of an expression for an aim, which is read off from its nodes, behind the others.
-///
-/// `Memory` comes where an allocation was refused.
-#[cycle(reading)]
-fn read(
-    e: &CoreExp,
-    level: u64,
-    nodes: &Nodes,
-    aim: Aim,
-    trees: &mut Vec<Derivation>,
-) -> Result<(), Memory>
-    requires fits { level + 2 * nodes_in (exp e.now) ≤ 2 ^ 40 }
-    requires nodes { nodes.now ≡ vector (exp e.now) level }
-    ensures { OnOk result (Pushed trees.old.items trees.new.items (one_tree (tree_for aim (readings Two (exp e.now) level)))) }
+/// Where the nodes of an expression's parts end, at its level.
+fn below(place: Place) -> Place
+    ensures level { result.level ≡ place.level }
+    ensures end { (nodes : List Part) (e : Exp) (s : ℕ) → EndsAt nodes place.end (vector e s) → EndsAt nodes result.end (before e s) }
 {
-    let rule = rule_for(nodes, aim);
-    let before = trees.len();
-    parts(e, nodes, Step { level, aim, rule }, trees)?;
-    close(rule, before, trees)?;
-    Ok(())
+    Place {
+        level: place.level,
+        end: place.end.saturating_sub(1),
+    }
 }
 
-/// Puts the parts of a step behind the other trees.
-#[cycle(reading)]
-#[tactic(auto, using(crate::proofs::Trees::pushed_nothing))]
-pub fn parts(
-    e: &CoreExp,
+/// How many nodes stand in front of those of the part that ends there.
+#[inline(always)]
+fn start(nodes: &Nodes, end: usize) -> usize
+    ensures { (xs : List Part) (e : Exp) (s : ℕ) → EndsAt nodes.now end (xs ++ vector e s) → EndsAt nodes.now result xs }
+{
+    end.saturating_sub(nodes.count_at(end))
+}
+
+/// Puts the parts of a step behind what waits.
+#[tactic(auto, using(crate::proofs::Waits::added_nothing))]
+pub fn parts<'a>(
+    e: &'a CoreExp,
     nodes: &Nodes,
     step: Step,
-    trees: &mut Vec<Derivation>,
+    waiting: &mut Vec<Waiting<'a>>,
 ) -> Result<(), Memory>
-    requires fits { step.level + 2 * nodes_in (exp e.now) ≤ 2 ^ 40 }
-    requires nodes { nodes.now ≡ vector (exp e.now) step.level }
-    ensures { OnOk result (Pushed trees.old.items trees.new.items (parts_for (exp e.now) step.level step.aim step.rule)) }
+    requires fits { step.place.level + 2 * nodes_in (exp e.now) ≤ 2 ^ 40 }
+    requires nodes { EndsAt nodes.now step.place.end (vector (exp e.now) step.place.level) }
+    ensures { OnOk result (Added nodes.now waiting.old.items waiting.new.items (parts_for (exp e.now) step.place.level step.aim step.rule)) }
 {
     match (step.aim, step.rule) {
         (Aim::Gets(Mode::Any), Rule::V0) => {
-            read(e, step.level, nodes, Aim::Gets(Mode::Push), trees)
+            wait(e, step.place, Aim::Gets(Mode::Push), nodes, waiting)
         }
-        (Aim::Jumps(_), Rule::J6) => read(e, step.level, nodes, ANY, trees),
+        (Aim::Jumps(_), Rule::J6) => wait(e, step.place, ANY, nodes, waiting),
         (Aim::Gets(Mode::Push), Rule::V1) | (Aim::Jumps(_), Rule::J7) => Ok(()),
-        _ => own(e, nodes, step, trees),
+        _ => own(e, nodes, step, waiting),
     }
 }
 
 /// The parts that the own rules of an expression have.
-#[cycle(reading)]
-#[tactic(auto, using(bc_core::proofs::Rows::call_view, crate::proofs::Cuts::below_vector, crate::proofs::Trees::pushed_nothing))]
-fn own(e: &CoreExp, nodes: &Nodes, step: Step, trees: &mut Vec<Derivation>) -> Result<(), Memory>
-    requires fits { step.level + 2 * nodes_in (exp e.now) ≤ 2 ^ 40 }
-    requires nodes { nodes.now ≡ vector (exp e.now) step.level }
-    ensures { OnOk result (Pushed trees.old.items trees.new.items (own_parts (exp e.now) step.level step.aim step.rule)) }
+#[tactic(auto, using(bc_core::proofs::Rows::call_view, crate::proofs::Waits::added_nothing))]
+fn own<'a>(
+    e: &'a CoreExp,
+    nodes: &Nodes,
+    step: Step,
+    waiting: &mut Vec<Waiting<'a>>,
+) -> Result<(), Memory>
+    requires fits { step.place.level + 2 * nodes_in (exp e.now) ≤ 2 ^ 40 }
+    requires nodes { EndsAt nodes.now step.place.end (vector (exp e.now) step.place.level) }
+    ensures { OnOk result (Added nodes.now waiting.old.items waiting.new.items (own_parts (exp e.now) step.place.level step.aim step.rule)) }
 {
-    let below = below(nodes);
+    let below = below(step.place);
     match e {
         CoreExp::Num(_)
         | CoreExp::Frame(_)
         | CoreExp::Glob(_)
         | CoreExp::Place(_)
         | CoreExp::Valof(_) => Ok(()),
-        CoreExp::Load(part) => read(part, step.level, &below, step.aim, trees),
-        CoreExp::Neg(part) => read(part, step.level, &below, step.aim, trees),
-        CoreExp::Not(part) => read(part, step.level, &below, turned(step.aim), trees),
-        CoreExp::Bin(_, left, right) => pair_read(left, right, &below, step, trees),
+        CoreExp::Load(part) => wait(part, below, step.aim, nodes, waiting),
+        CoreExp::Neg(part) => wait(part, below, step.aim, nodes, waiting),
+        CoreExp::Not(part) => wait(part, below, turned(step.aim), nodes, waiting),
+        CoreExp::Bin(_, left, right) => {
+            let step = Step {
+                place: below,
+                ..step
+            };
+            pair_read(left, right, nodes, step, waiting)
+        }
         CoreExp::Cond(condition, this, that) => {
             let branches = Branches { this, that };
-            cond_read(condition, branches, &below, step, trees)
+            let step = Step {
+                place: below,
+                ..step
+            };
+            cond_read(condition, branches, nodes, step, waiting)
         }
-        CoreExp::Call(arguments, routine) => {
-            call_read(arguments, routine, step.level, &below, trees)
-        }
+        CoreExp::Call(arguments, routine) => call_read(arguments, routine, nodes, below, waiting),
     }
 }
 
-/// One of two operands, at its level.
+/// One of two operands, at its level, and where the nodes of both end.
 #[derive(Clone, Copy)]
 struct Operand {
     side: Side,
-    level: u64,
+    place: Place,
 }
 
 /// One of two operands.
-#[cycle(reading)]
-fn operand_read(
-    left: &CoreExp,
-    right: &CoreExp,
+#[tactic(auto, using(crate::proofs::Ends::last_part))]
+fn operand_read<'a>(
+    left: &'a CoreExp,
+    right: &'a CoreExp,
     nodes: &Nodes,
     operand: Operand,
-    trees: &mut Vec<Derivation>,
+    waiting: &mut Vec<Waiting<'a>>,
 ) -> Result<(), Memory>
-    requires fits { operand.level + 2 * (nodes_in (exp left.now) + nodes_in (exp right.now)) ≤ 2 ^ 40 }
-    requires nodes { nodes.now ≡ vector (exp left.now) operand.level ++ vector (exp right.now) operand.level }
-    ensures { OnOk result (Pushed trees.old.items trees.new.items (one_tree (side_of operand.side (readings Two (exp left.now) operand.level) (readings Two (exp right.now) operand.level)))) }
+    requires fits { operand.place.level + 2 * (nodes_in (exp left.now) + nodes_in (exp right.now)) ≤ 2 ^ 40 }
+    requires nodes { EndsAt nodes.now operand.place.end (vector (exp left.now) operand.place.level ++ vector (exp right.now) operand.place.level) }
+    ensures { OnOk result (Added nodes.now waiting.old.items waiting.new.items (one_tree (side_of operand.side (readings Two (exp left.now) operand.place.level) (readings Two (exp right.now) operand.place.level)))) }
 {
-    let (first, second) = cut(nodes);
-    if operand.side.right {
-        read(right, operand.level, &second, operand.side.aim, trees)
+    let Operand { side, place } = operand;
+    if side.right {
+        wait(right, place, side.aim, nodes, waiting)
     } else {
-        read(left, operand.level, &first, operand.side.aim, trees)
+        let first = Place {
+            level: place.level,
+            end: start(nodes, place.end),
+        };
+        wait(left, first, side.aim, nodes, waiting)
     }
 }
 
-/// The parts of a binary operator.
-#[cycle(reading)]
-#[tactic(auto, using(crate::proofs::Trees::pushed_nothing, crate::proofs::Trees::pushed_two))]
-fn pair_read(
-    left: &CoreExp,
-    right: &CoreExp,
+/// The parts of a binary operator, whose nodes end at the step's place.
+#[tactic(auto, using(crate::proofs::Waits::added_nothing, crate::proofs::Waits::added_two))]
+fn pair_read<'a>(
+    left: &'a CoreExp,
+    right: &'a CoreExp,
     nodes: &Nodes,
     step: Step,
-    trees: &mut Vec<Derivation>,
+    waiting: &mut Vec<Waiting<'a>>,
 ) -> Result<(), Memory>
-    requires fits { step.level + 2 * (1 + nodes_in (exp left.now) + nodes_in (exp right.now)) ≤ 2 ^ 40 }
-    requires nodes { nodes.now ≡ vector (exp left.now) (step.level + 1) ++ vector (exp right.now) (step.level + 1) }
-    ensures { OnOk result (Pushed trees.old.items trees.new.items (pair_parts (zero_number (constant_of (exp right.now))) (readings Two (exp left.now) (step.level + 1)) (readings Two (exp right.now) (step.level + 1)) step.aim step.rule)) }
+    requires fits { step.place.level + 2 * (1 + nodes_in (exp left.now) + nodes_in (exp right.now)) ≤ 2 ^ 40 }
+    requires nodes { EndsAt nodes.now step.place.end (vector (exp left.now) (step.place.level + 1) ++ vector (exp right.now) (step.place.level + 1)) }
+    ensures { OnOk result (Added nodes.now waiting.old.items waiting.new.items (pair_parts (zero_number (constant_of (exp right.now))) (readings Two (exp left.now) (step.place.level + 1)) (readings Two (exp right.now) (step.place.level + 1)) step.aim step.rule)) }
 {
-    let level = step.level + 1;
+    let place = Place {
+        level: step.place.level + 1,
+        end: step.place.end,
+    };
     match sides(is_zero(constant(right)), step.aim, step.rule) {
         Plan::Nothing => (),
-        Plan::One(side) => operand_read(left, right, nodes, Operand { side, level }, trees)?,
+        Plan::One(side) => operand_read(left, right, nodes, Operand { side, place }, waiting)?,
         Plan::Two(x, y) => {
-            operand_read(left, right, nodes, Operand { side: x, level }, trees)?;
-            operand_read(left, right, nodes, Operand { side: y, level }, trees)?;
+            operand_read(left, right, nodes, Operand { side: y, place }, waiting)?;
+            operand_read(left, right, nodes, Operand { side: x, place }, waiting)?;
         }
     }
     Ok(())
@@ -181,122 +187,124 @@ struct Branches<'a> {
     that: &'a CoreExp,
 }
 
-/// The parts of `condition -> this, that`.
-#[cycle(reading)]
-#[tactic(auto, using(crate::proofs::Trees::pushed_nothing, crate::proofs::Trees::pushed_three))]
-fn cond_read(
-    condition: &CoreExp,
-    branches: Branches,
+/// The parts of `condition -> this, that`, whose nodes end at the step's place.
+#[tactic(auto, using(crate::proofs::Ends::last_part, crate::proofs::Waits::added_nothing, crate::proofs::Waits::added_three))]
+fn cond_read<'a>(
+    condition: &'a CoreExp,
+    branches: Branches<'a>,
     nodes: &Nodes,
     step: Step,
-    trees: &mut Vec<Derivation>,
+    waiting: &mut Vec<Waiting<'a>>,
 ) -> Result<(), Memory>
-    requires fits { step.level + 2 * (1 + nodes_in (exp condition.now) + nodes_in (exp branches.this.now) + nodes_in (exp branches.that.now)) ≤ 2 ^ 40 }
-    requires nodes { nodes.now ≡ (vector (exp condition.now) step.level ++ vector (exp branches.this.now) step.level) ++ vector (exp branches.that.now) step.level }
-    ensures { OnOk result (Pushed trees.old.items trees.new.items (cond_parts (readings Two (exp condition.now) step.level) (readings Two (exp branches.entry.this.now) step.level) (readings Two (exp branches.entry.that.now) step.level) step.aim step.rule)) }
+    requires fits { step.place.level + 2 * (1 + nodes_in (exp condition.now) + nodes_in (exp branches.this.now) + nodes_in (exp branches.that.now)) ≤ 2 ^ 40 }
+    requires nodes { EndsAt nodes.now step.place.end ((vector (exp condition.now) step.place.level ++ vector (exp branches.this.now) step.place.level) ++ vector (exp branches.that.now) step.place.level) }
+    ensures { OnOk result (Added nodes.now waiting.old.items waiting.new.items (cond_parts (readings Two (exp condition.now) step.place.level) (readings Two (exp branches.entry.this.now) step.place.level) (readings Two (exp branches.entry.that.now) step.place.level) step.aim step.rule)) }
 {
-    let (front, that) = cut(nodes);
-    let (test, this) = cut(&front);
+    let level = step.place.level;
+    let that = step.place;
+    let this = Place {
+        level,
+        end: start(nodes, that.end),
+    };
+    let test = Place {
+        level,
+        end: start(nodes, this.end),
+    };
     match step.rule {
         Rule::V20 => {
-            read(condition, step.level, &test, Aim::Jumps(false), trees)?;
-            read(branches.this, step.level, &this, ANY, trees)?;
-            read(branches.that, step.level, &that, ANY, trees)?;
+            wait(branches.that, that, ANY, nodes, waiting)?;
+            wait(branches.this, this, ANY, nodes, waiting)?;
+            wait(condition, test, Aim::Jumps(false), nodes, waiting)?;
         }
         Rule::V21 => {
-            read(condition, step.level, &test, Aim::Jumps(true), trees)?;
-            read(branches.that, step.level, &that, ANY, trees)?;
-            read(branches.this, step.level, &this, ANY, trees)?;
+            wait(branches.this, this, ANY, nodes, waiting)?;
+            wait(branches.that, that, ANY, nodes, waiting)?;
+            wait(condition, test, Aim::Jumps(true), nodes, waiting)?;
         }
         _ => (),
     }
     Ok(())
 }
 
-/// The parts of a call.
-#[cycle(reading)]
-fn call_read(
-    arguments: &[CoreExp],
-    routine: &CoreExp,
-    level: u64,
+/// The parts of a call at a level, whose nodes end at this place.
+fn call_read<'a>(
+    arguments: &'a [CoreExp],
+    routine: &'a CoreExp,
     nodes: &Nodes,
-    trees: &mut Vec<Derivation>,
+    place: Place,
+    waiting: &mut Vec<Waiting<'a>>,
 ) -> Result<(), Memory>
-    requires fits { level + 2 * nodes_in (tree.Call (args arguments.now) (exp routine.now)) ≤ 2 ^ 40 }
-    requires nodes { nodes.now ≡ before (tree.Call (args arguments.now) (exp routine.now)) level }
-    ensures { OnOk result (Pushed trees.old.items trees.new.items (end_with (readings_of_all Two (args arguments.now) (level + 2)) (readings Two (exp routine.now) (level + 2 + count (args arguments.now))).any)) }
+    requires fits { place.level + 2 * nodes_in (tree.Call (args arguments.now) (exp routine.now)) ≤ 2 ^ 40 }
+    requires nodes { EndsAt nodes.now place.end (before (tree.Call (args arguments.now) (exp routine.now)) place.level) }
+    ensures { OnOk result (Added nodes.now waiting.old.items waiting.new.items (end_with (readings_of_all Two (args arguments.now) (place.level + 2)) (readings Two (exp routine.now) (place.level + 2 + count (args arguments.now))).any)) }
 {
-    let (front, last) = cut(nodes);
-    let count = arguments.len() as u64;
-    arguments_read(arguments, level + 2, &front, trees)?;
-    read(routine, level + 2 + count, &last, ANY, trees)?;
-    Ok(())
+    let level = place.level + 2;
+    let behind = Place {
+        level: level + arguments.len() as u64,
+        end: place.end,
+    };
+    let front = Place {
+        level,
+        end: start(nodes, place.end),
+    };
+    wait(routine, behind, ANY, nodes, waiting)?;
+    all_read(arguments, nodes, front, waiting)
 }
 
-/// The arguments of a call. One alone is read here: calls in calls take a third less stack for that.
-#[cycle(reading)]
-fn arguments_read(
-    arguments: &[CoreExp],
-    level: u64,
+/// Arguments of a call, the first of which stands at this level.
+#[tactic(auto, using(crate::proofs::Waits::added_nothing))]
+fn all_read<'a>(
+    arguments: &'a [CoreExp],
     nodes: &Nodes,
-    trees: &mut Vec<Derivation>,
+    place: Place,
+    waiting: &mut Vec<Waiting<'a>>,
 ) -> Result<(), Memory>
-    requires fits { level + 2 * nodes_of_args (args arguments.now) ≤ 2 ^ 40 }
-    requires nodes { nodes.now ≡ before_all (args arguments.now) level }
-    ensures { OnOk result (Pushed trees.old.items trees.new.items (readings_of_all Two (args arguments.now) level)) }
-{
-    match arguments {
-        [argument] => read(argument, level, nodes, ANY, trees),
-        _ => all_read(arguments, level, nodes, trees),
-    }
-}
-
-/// Arguments of a call.
-#[cycle(reading)]
-#[tactic(auto, using(crate::proofs::Trees::pushed_nothing))]
-fn all_read(
-    arguments: &[CoreExp],
-    level: u64,
-    nodes: &Nodes,
-    trees: &mut Vec<Derivation>,
-) -> Result<(), Memory>
-    requires fits { level + 2 * nodes_of_args (args arguments.now) ≤ 2 ^ 40 }
-    requires nodes { nodes.now ≡ before_all (args arguments.now) level }
-    ensures { OnOk result (Pushed trees.old.items trees.new.items (readings_of_all Two (args arguments.now) level)) }
+    requires fits { place.level + 2 * nodes_of_args (args arguments.now) ≤ 2 ^ 40 }
+    requires nodes { EndsAt nodes.now place.end (before_all (args arguments.now) place.level) }
+    ensures { OnOk result (Added nodes.now waiting.old.items waiting.new.items (readings_of_all Two (args arguments.now) place.level)) }
 {
     let Some((last, others)) = arguments.split_last() else {
         return Ok(());
     };
-    let (front, end) = cut(nodes);
-    let count = others.len() as u64;
-    all_read(others, level, &front, trees)?;
-    read(last, level + count, &end, ANY, trees)?;
-    Ok(())
+    let behind = Place {
+        level: place.level + others.len() as u64,
+        end: place.end,
+    };
+    let front = Place {
+        level: place.level,
+        end: start(nodes, place.end),
+    };
+    wait(last, behind, ANY, nodes, waiting)?;
+    all_read(others, nodes, front, waiting)
 }
 
 /// The parts of an assignment, both sides of which stand at the step's level.
-#[tactic(auto, using(crate::proofs::Trees::pushed_nothing, crate::proofs::Trees::pushed_two))]
-pub fn sides_read(
-    value: &CoreExp,
-    address: &CoreExp,
+#[tactic(auto, using(crate::proofs::Ends::last_part, crate::proofs::Waits::added_nothing, crate::proofs::Waits::added_two))]
+pub fn sides_read<'a>(
+    value: &'a CoreExp,
+    address: &'a CoreExp,
     nodes: &Nodes,
     step: Step,
-    trees: &mut Vec<Derivation>,
+    waiting: &mut Vec<Waiting<'a>>,
 ) -> Result<(), Memory>
-    requires fits { step.level + 2 * (nodes_in (exp value.now) + nodes_in (exp address.now)) ≤ 2 ^ 40 }
-    requires nodes { nodes.now ≡ vector (exp value.now) step.level ++ vector (exp address.now) step.level }
-    ensures { OnOk result (Pushed trees.old.items trees.new.items (assign_parts (readings Two (exp value.now) step.level) (readings Two (exp address.now) step.level) step.rule)) }
+    requires fits { step.place.level + 2 * (nodes_in (exp value.now) + nodes_in (exp address.now)) ≤ 2 ^ 40 }
+    requires nodes { EndsAt nodes.now step.place.end (vector (exp value.now) step.place.level ++ vector (exp address.now) step.place.level) }
+    ensures { OnOk result (Added nodes.now waiting.old.items waiting.new.items (assign_parts (readings Two (exp value.now) step.place.level) (readings Two (exp address.now) step.place.level) step.rule)) }
 {
-    let (first, second) = cut(nodes);
+    let second = step.place;
+    let first = Place {
+        level: second.level,
+        end: start(nodes, second.end),
+    };
     match step.rule {
-        Rule::A1 => read(value, step.level, &first, ANY, trees)?,
+        Rule::A1 => wait(value, first, ANY, nodes, waiting)?,
         Rule::A2 => {
-            read(address, step.level, &second, ANY, trees)?;
-            read(value, step.level, &first, ANY, trees)?;
+            wait(value, first, ANY, nodes, waiting)?;
+            wait(address, second, ANY, nodes, waiting)?;
         }
         Rule::A3 => {
-            read(value, step.level, &first, ANY, trees)?;
-            read(address, step.level, &second, ANY, trees)?;
+            wait(address, second, ANY, nodes, waiting)?;
+            wait(value, first, ANY, nodes, waiting)?;
         }
         _ => (),
     }

@@ -65,15 +65,16 @@ fn choices_from(row: &Row) -> Choices
     }
 }
 
-/// The rule for an aim by which a node with this row gets its code.
-fn rule_from(row: &Row, aim: Aim) -> Rule
-    ensures { (c : Choices) → row.now ≡ row_of c → result ≡ rule_or_v1 (choice_of aim c) }
+/// The rule for an aim by which a node gets its code whose row has these rules.
+#[inline(always)]
+pub fn rule_for(rules: &[Option<Rule>; 4], aim: Aim) -> Rule
+    ensures { (c : Choices) → rules.now ≡ (row_of c).rules → result ≡ rule_or_v1 (choice_of aim c) }
 {
     let rule = match aim {
-        Aim::Gets(Mode::Any) => row.rules[0],
-        Aim::Gets(Mode::Push) => row.rules[1],
-        Aim::Jumps(false) => row.rules[2],
-        Aim::Jumps(true) => row.rules[3],
+        Aim::Gets(Mode::Any) => rules[0],
+        Aim::Gets(Mode::Push) => rules[1],
+        Aim::Jumps(false) => rules[2],
+        Aim::Jumps(true) => rules[3],
     };
     match rule {
         Some(rule) => rule,
@@ -94,15 +95,5 @@ pub fn last_choices(rows: &[Row]) -> Choices
             on_false: None,
             on_true: None,
         },
-    }
-}
-
-/// The rule for an aim by which the last node gets its code.
-pub fn last_rule(rows: &[Row], aim: Aim) -> Rule
-    ensures { (xs : List Row) (c : Choices) → rows.now ≡ xs ++ (row_of c ∷ []) → result ≡ rule_or_v1 (choice_of aim c) }
-{
-    match rows.last() {
-        Some(row) => rule_from(row, aim),
-        None => Rule::V1,
     }
 }

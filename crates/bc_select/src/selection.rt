@@ -18,13 +18,15 @@ ghost use Rattle.bc_least.specs.Readings.{tree_for, readings};
 ghost use Rattle.bc_least.specs.Choices.{choice_for as choice_of, choices};
 
 use crate::layout::lay_out;
+use crate::mark::read;
 use crate::pair::assign_choice;
 use crate::part::own_operand;
-use crate::reading::{ANY, Step, parts, sides_read};
+use crate::reading::{ANY, parts, sides_read};
 use crate::row::Row;
-use crate::split::{choice_for, cut, last, rule_for};
+use crate::split::{choice_for, cut, last};
 use crate::table::{Nodes, Table};
 use crate::tree::tree;
+use crate::waiting::{Place, Step};
 use crate::whole::operand_node;
 use bc_core::{CoreExp, Root};
 use bc_derive::{Aim, Derivation, Rule};
@@ -89,9 +91,14 @@ fn expression(
     ensures derivation { IfOk result (λ r. derivation_of r.derivation ≡ tree_for aim (readings Two (exp e.now) level)) }
     ensures words { IfOk result (λ r. r.words ≡ words_or_none (choice_of aim (choices Two (exp e.now) level))) }
 {
-    let rule = rule_for(nodes, aim);
-    let mut trees = Vec::new(alloc);
-    parts(e, nodes, Step { level, aim, rule }, &mut trees)?;
+    let place = Place {
+        level,
+        end: nodes.len(),
+    };
+    let rule = nodes.rule_at(place.end, aim);
+    let mut waiting = Vec::new(alloc);
+    parts(e, nodes, Step { place, aim, rule }, &mut waiting)?;
+    let trees = read(alloc, nodes, waiting)?;
     Ok(Reading {
         derivation: tree(rule, trees),
         words: count(choice_for(&last(nodes).choices, aim)),
@@ -149,13 +156,18 @@ fn assignment(
     let second = operand_node(address, &last(nodes));
     let choice = assign_choice(own_operand(address), &first, &second, level);
     let rule = rule(choice);
-    let step = Step {
+    let place = Place {
         level: side,
+        end: nodes.len(),
+    };
+    let step = Step {
+        place,
         aim: ANY,
         rule,
     };
-    let mut trees = Vec::new(alloc);
-    sides_read(value, address, nodes, step, &mut trees)?;
+    let mut waiting = Vec::new(alloc);
+    sides_read(value, address, nodes, step, &mut waiting)?;
+    let trees = read(alloc, nodes, waiting)?;
     Ok(Reading {
         derivation: tree(rule, trees),
         words: count(choice),

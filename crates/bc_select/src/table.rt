@@ -1,25 +1,34 @@
 // The nodes of expressions in two vectors: their rows, and what their wholes ask besides.
 
-ghost use Rattle.std.specs.Prelude.{◌≡◌, ◌≤◌, ◌++◌, ◌∷◌, [], List, OnOk, length, map, take, drop};
+ghost use Rattle.std.specs.Prelude.{◌≡◌, ◌≤◌, ◌+◌, ◌++◌, ◌∷◌, [], List, OnOk, length, map, take, drop};
 ghost use Rattle.bc_least.specs.Choices.{choice_for as choice_of};
 ghost use Rattle.bc_select.specs.Reads.{rule_or_v1};
 ghost use Rattle.bc_select.specs.Row.{row_of_part};
 
 use crate::part::Part;
-use crate::row::{Row, last_choices, last_rule, row_from};
+use crate::row::{Row, last_choices, row_from, rule_for};
 use bc_derive::{Aim, Rule};
 use bc_word::Memory;
 use std::alloc::Global;
 use std::marker::Model;
 
-/// What a whole asks of a part besides its row.
+/// What a whole asks of a part besides its words. Its rules stand here a second time, so that a derivation is read off without the rows.
 #[derive(Clone, Copy)]
 pub struct Span {
     /// Whether a call or a VALOF stands in the part.
     pub calls: bool,
     /// How many nodes it has.
     pub nodes: usize,
+    /// The rules of its row.
+    pub rules: [Option<Rule>; 4],
 }
+
+/// The span of no node.
+const NO_SPAN: Span = Span {
+    calls: false,
+    nodes: 0,
+    rules: [None; 4],
+};
 
 /// The last span.
 #[inline(always)]
@@ -28,10 +37,18 @@ fn last_span(spans: &[Span]) -> Span
 {
     match spans.last() {
         Some(span) => *span,
-        None => Span {
-            calls: false,
-            nodes: 0,
-        },
+        None => NO_SPAN,
+    }
+}
+
+/// The span behind which so many end.
+#[inline(always)]
+fn span_at(spans: &[Span], end: usize) -> Span
+    ensures { (xs ys : List Span) (p : Span) → spans.now ≡ (xs ++ (p ∷ [])) ++ ys → end ≡ length xs + 1 → result ≡ p }
+{
+    match spans.get(end.saturating_sub(1)) {
+        Some(span) => *span,
+        None => NO_SPAN,
     }
 }
 
@@ -104,11 +121,14 @@ impl Table {
     pub fn push(&mut self, node: &Part) -> Result<(), Memory>
         ensures { OnOk result (self.new ≡ self.old ++ (node.now ∷ [])) }
     {
+        let row = row_from(&node.choices);
+        let rules = row.rules;
         let span = Span {
             calls: node.calls,
             nodes: node.nodes,
+            rules,
         };
-        self.rows.push(row_from(&node.choices))?;
+        self.rows.push(row)?;
         match self.spans.push(span) {
             Ok(()) => Ok(()),
             Err(_) => {
@@ -133,6 +153,15 @@ impl<'a> Nodes<'a> {
         ensures { result ≡ length self.now }
     {
         self.spans.len()
+    }
+
+    /// The same nodes.
+    pub fn again(&self) -> Nodes<'a>
+        ensures { result ≡ self.now }
+    {
+        let rows = self.rows;
+        let spans = self.spans;
+        Nodes { rows, spans }
     }
 
     /// The first nodes, so many, and the others.
@@ -174,10 +203,19 @@ impl<'a> Nodes<'a> {
         last_span(self.spans).nodes
     }
 
-    /// The rule for an aim by which the last node gets its code.
-    pub fn last_rule(&self, aim: Aim) -> Rule
-        ensures { (xs : List Part) (p : Part) → self.now ≡ xs ++ (p ∷ []) → result ≡ rule_or_v1 (choice_of aim p.choices) }
+    /// How many nodes the one has, below it and with itself, behind which so many end.
+    #[inline(always)]
+    pub fn count_at(&self, end: usize) -> usize
+        ensures { (xs ys : List Part) (p : Part) → self.now ≡ (xs ++ (p ∷ [])) ++ ys → end ≡ length xs + 1 → result ≡ p.nodes }
     {
-        last_rule(self.rows, aim)
+        span_at(self.spans, end).nodes
+    }
+
+    /// The rule for an aim by which the node gets its code behind which so many end.
+    #[inline(always)]
+    pub fn rule_at(&self, end: usize, aim: Aim) -> Rule
+        ensures { (xs ys : List Part) (p : Part) → self.now ≡ (xs ++ (p ∷ [])) ++ ys → end ≡ length xs + 1 → result ≡ rule_or_v1 (choice_of aim p.choices) }
+    {
+        rule_for(&span_at(self.spans, end).rules, aim)
     }
 }

@@ -4,12 +4,12 @@ use Rattle.bc_derive.specs.declared.rule.Table.TheVariants.{Two}
 use Rattle.bc_derive.specs.Rules.{no_part}
 use Rattle.bc_least.specs.Chosen.{assign_parts}
 use Rattle.bc_least.specs.Readings.{readings}
-use Rattle.bc_select.specs.Pushed.{Pushed}
-use Rattle.bc_select.proofs.Trees.{pushed_nothing}
+use Rattle.bc_select.specs.Waiting.{Added}
+use Rattle.bc_select.proofs.Waits.{added_nothing}
 use Rattle.bc_select.proofs.reading.sides_read.Goals as goal
 
 pub returns-in_default : goal.returns-in_default
 returns-in_default c =
-    let s = c.args.step.level in
+    let s = c.args.step.place.level in
     let none : no_part ≡ assign_parts (readings Two (exp c.args.value.now) s) (readings Two (exp c.args.address.now) s) c.args.step.rule = search rules in
-    subst (λ x. Pushed c.args.trees.now.items c.args.trees.now.items x) none (pushed_nothing c.args.trees.now.items)
+    subst (λ x. Added c.args.nodes.now c.args.waiting.now.items c.args.waiting.now.items x) none (added_nothing c.args.nodes.now c.args.waiting.now.items)

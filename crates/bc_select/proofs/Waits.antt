@@ -1,0 +1,64 @@
+-- What is put behind expressions that wait.
+use Rattle.std.proofs.Common.{◌≡◌, ◌+◌, refl, ap, sym, ◌∙◌, List, [], ◌∷◌, ◌++◌, length, append-nil, append_assoc, arith}
+use Rattle.bc_derive.specs.Rules.{Tree, Trees, no_part, part, one, two, three, end_with}
+use Rattle.bc_select.specs.declared.part.Part.{Part}
+use Rattle.bc_select.specs.declared.waiting.Waiting.{Waiting}
+use Rattle.bc_select.specs.Marks.{size}
+use Rattle.bc_select.specs.Waiting.{tree_of, trees_of, IsReady, AreReady, Added}
+
+abbrev pub joined : Trees → Trees → Trees
+joined no_part us = us
+joined (part t ts) us = part t (joined ts us)
+
+pub joined_end : (ts us : Trees) (t : Tree) → end_with (joined ts us) t ≡ joined ts (end_with us t)
+joined_end no_part us t = refl
+joined_end (part x ts) us t = ap (part x) (joined_end ts us t)
+
+pub joined_one : (ts : Trees) (t : Tree) → joined ts (one t) ≡ end_with ts t
+joined_one no_part t = refl
+joined_one (part x ts) t = ap (part x) (joined_one ts t)
+
+pub joined_nothing : (ts : Trees) → joined ts no_part ≡ ts
+joined_nothing no_part = refl
+joined_nothing (part x ts) = ap (part x) (joined_nothing ts)
+
+pub size_end : (ts : Trees) (t : Tree) → size (end_with ts t) ≡ size ts + 1
+size_end no_part t = refl
+size_end (part x ts) t = ap (λ n. n + 1) (size_end ts t)
+
+pub trees_append : (xs ys : List Waiting) → trees_of (xs ++ ys) ≡ joined (trees_of ys) (trees_of xs)
+trees_append [] ys = sym (joined_nothing (trees_of ys))
+trees_append (x ∷ xs) ys = ap (λ ts. end_with ts (tree_of x)) (trees_append xs ys) ∙ joined_end (trees_of ys) (trees_of xs) (tree_of x)
+
+pub trees_size : (xs : List Waiting) → size (trees_of xs) ≡ length xs
+trees_size [] = refl
+trees_size (x ∷ xs) = let h = size_end (trees_of xs) (tree_of x) in let i = trees_size xs in omega arith
+
+pub ready_append : (all : List Part) (xs ys : List Waiting) → AreReady all xs → AreReady all ys → AreReady all (xs ++ ys)
+ready_append all [] ys h i = i
+ready_append all (x ∷ xs) ys h i = (h.0, ready_append all xs ys h.1 i)
+
+pub ready_front : (all : List Part) (xs ys : List Waiting) → AreReady all (xs ++ ys) → AreReady all xs
+ready_front all [] ys h = tt
+ready_front all (x ∷ xs) ys h = (h.0, ready_front all xs ys h.1)
+
+pub ready_last : (all : List Part) (xs : List Waiting) (y : Waiting) → AreReady all (xs ++ (y ∷ [])) → IsReady all y
+ready_last all [] y h = h.0
+ready_last all (x ∷ xs) y h = ready_last all xs y h.1
+
+pub added_nothing : (all : List Part) (xs : List Waiting) → Added all xs xs no_part
+added_nothing all xs = record { added = []; is = sym (append-nil xs); ready = tt; trees_are = refl }
+
+pub added_then : (all : List Part) (a b c : List Waiting) (ts : Trees) (t : Tree) → Added all a b (one t) → Added all b c ts → Added all a c (end_with ts t)
+added_then all a b c ts t h i = record {
+  added = h.added ++ i.added;
+  is = i.is ∙ ap (λ x. x ++ i.added) h.is ∙ append_assoc a h.added i.added;
+  ready = ready_append all h.added i.added h.ready i.ready;
+  trees_are = trees_append h.added i.added ∙ ap (joined (trees_of i.added)) h.trees_are ∙ joined_one (trees_of i.added) t ∙ ap (λ x. end_with x t) i.trees_are;
+}
+
+pub added_two : (all : List Part) (a b c : List Waiting) (t u : Tree) → Added all a b (one u) → Added all b c (one t) → Added all a c (two t u)
+added_two all a b c t u h i = added_then all a b c (one t) u h i
+
+pub added_three : (all : List Part) (a b c d : List Waiting) (t u v : Tree) → Added all a b (one v) → Added all b c (one u) → Added all c d (one t) → Added all a d (three t u v)
+added_three all a b c d t u v h i j = added_then all a b d (two t u) v h (added_two all b c d t u i j)

@@ -1,0 +1,41 @@
+-- For proofs: trees as the list of their rules, wholes before parts, each with the number of its parts.
+use Rattle.std.specs.Prelude.{ℕ, zero, suc, ◌+◌, List, [], ◌∷◌, ◌++◌}
+use Rattle.bc_derive.specs.declared.derivation.Derivation.{Derivation}
+use Rattle.bc_derive.specs.Rules.{Tree, Trees, by, no_part, part, end_with}
+use Rattle.bc_derive.specs.View.{derivation}
+use Rattle.bc_select.specs.declared.mark.Mark.{Mark}
+
+abbrev pub size : Trees → ℕ
+size no_part = 0
+size (part t ts) = size ts + 1
+
+abbrev mutual
+  pub marks : Tree → List Mark
+  marks (by r ts) = record { rule = r; parts = size ts } ∷ marks_of_all ts
+
+  pub marks_of_all : Trees → List Mark
+  marks_of_all no_part = []
+  marks_of_all (part t ts) = marks t ++ marks_of_all ts
+
+abbrev pub first : ℕ → Trees → Trees
+first zero ts = no_part
+first (suc n) no_part = no_part
+first (suc n) (part t ts) = part t (first n ts)
+
+abbrev pub rest : ℕ → Trees → Trees
+rest zero ts = ts
+rest (suc n) no_part = no_part
+rest (suc n) (part t ts) = rest n ts
+
+-- what a mark does to trees, and what marks do, from the last to the first
+abbrev pub close : Mark → Trees → Trees
+close m ts = part (by m.rule (first m.parts ts)) (rest m.parts ts)
+
+abbrev pub unwind : List Mark → Trees → Trees
+unwind [] ts = ts
+unwind (m ∷ ms) ts = close m (unwind ms ts)
+
+-- derivations of which the last lies in front
+abbrev pub back : List Derivation → Trees
+back [] = no_part
+back (d ∷ ds) = end_with (back ds) (derivation d)

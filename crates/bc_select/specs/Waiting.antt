@@ -1,0 +1,36 @@
+-- For proofs: expressions that wait until their derivations are read, the first part last.
+use Rattle.std.specs.Prelude.{◌≡◌, ◌+◌, ◌*◌, ◌≤◌, ◌^◌, List, [], ◌∷◌, ◌++◌}
+use Rattle.bc_core.specs.View.{exp}
+use Rattle.bc_core.specs.WellFormed.{nodes}
+use Rattle.bc_derive.specs.declared.rule.Table.TheVariants.{Two}
+use Rattle.bc_derive.specs.Rules.{Tree, Trees, no_part, end_with}
+use Rattle.bc_least.specs.Choices.{choice_for, choices}
+use Rattle.bc_least.specs.Readings.{tree_for, readings}
+use Rattle.bc_select.specs.declared.part.Part.{Part}
+use Rattle.bc_select.specs.declared.waiting.Waiting.{Waiting}
+use Rattle.bc_select.specs.Ends.{EndsAt}
+use Rattle.bc_select.specs.Reads.{rule_or_v1}
+use Rattle.bc_select.specs.Vector.{vector}
+
+abbrev pub tree_of : Waiting → Tree
+tree_of t = tree_for t.step.aim (readings Two (exp t.e.now) t.step.place.level)
+
+abbrev pub trees_of : List Waiting → Trees
+trees_of [] = no_part
+trees_of (t ∷ ts) = end_with (trees_of ts) (tree_of t)
+
+-- these are a root's nodes
+pub record IsReady (all : List Part) (t : Waiting) : Type 0 where
+  pub fits : t.step.place.level + 2 * nodes (exp t.e.now) ≤ 2 ^ 40
+  pub nodes_are : EndsAt all t.step.place.end (vector (exp t.e.now) t.step.place.level)
+  pub rule_is : t.step.rule ≡ rule_or_v1 (choice_for t.step.aim (choices Two (exp t.e.now) t.step.place.level))
+
+abbrev pub AreReady : List Part → List Waiting → Type 0
+AreReady all [] = Unit {0}
+AreReady all (t ∷ ts) = IsReady all t × AreReady all ts
+
+pub record Added (all : List Part) (old new : List Waiting) (trees : Trees) : Type 0 where
+  pub added : List Waiting
+  pub is : new ≡ old ++ added
+  pub ready : AreReady all added
+  pub trees_are : trees_of added ≡ trees

@@ -1,0 +1,101 @@
+// The derivations of expressions, read off by loops: first the rules are listed, wholes before parts, and then the trees are made from
+// the end of that list. So neither takes stack for the depth of the tree.
+
+ghost use Rattle.std.specs.Prelude.{◌≡◌, IfOk, OnOk};
+ghost use Rattle.bc_derive.specs.View.{derivations};
+ghost use Rattle.bc_derive.specs.Rules.{Trees};
+ghost use Rattle.bc_select.specs.Marks.{marks_of_all, first, rest, close as closed, back};
+ghost use Rattle.bc_select.specs.Waiting.{AreReady, trees_of};
+
+use crate::reading::parts;
+use crate::table::Nodes;
+use crate::tree::tree;
+use crate::waiting::Waiting;
+use bc_derive::{Derivation, Rule};
+use bc_word::Memory;
+use std::alloc::Global;
+
+/// A rule of a derivation, and how many parts it has there.
+#[derive(Clone, Copy)]
+pub struct Mark {
+    pub rule: Rule,
+    pub parts: u32,
+}
+
+/// The rules of the derivations of what waits, the last first, and wholes before parts. There is room for so many.
+fn listed(
+    alloc: Global,
+    room: usize,
+    nodes: &Nodes,
+    mut waiting: Vec<Waiting>,
+) -> Result<Vec<Mark>, Memory>
+    requires { AreReady nodes.now waiting.items }
+    ensures { IfOk result (λ marks. marks.items ≡ marks_of_all (trees_of waiting.entry.items)) }
+{
+    let mut marks = Vec::with_capacity(alloc, room)?;
+    while let Some(next) = waiting.pop() {
+        let Waiting { e, step } = next;
+        let before = waiting.len();
+        parts(e, nodes, step, &mut waiting)?;
+        match u32::try_from(waiting.len().saturating_sub(before)) {
+            Ok(parts) => marks.push(Mark {
+                rule: step.rule,
+                parts,
+            })?,
+            Err(_) => return Err(Memory),
+        }
+    }
+    Ok(marks)
+}
+
+/// Takes so many derivations from the end, the last first.
+fn taken(
+    alloc: Global,
+    count: usize,
+    trees: &mut Vec<Derivation>,
+) -> Result<Vec<Derivation>, Memory>
+    ensures taken { IfOk result (λ v. derivations v.items ≡ first count (back trees.old.items)) }
+    ensures left { OnOk result (back trees.new.items ≡ rest count (back trees.old.items)) }
+{
+    let mut parts = Vec::with_capacity(alloc, count)?;
+    for _taken in 0..count {
+        match trees.pop() {
+            Some(part) => parts.push(part)?,
+            None => (),
+        }
+    }
+    Ok(parts)
+}
+
+/// Takes the parts of a rule from the end, and puts the rule over them in their place.
+fn close(alloc: Global, mark: Mark, trees: &mut Vec<Derivation>) -> Result<(), Memory>
+    ensures { OnOk result (back trees.new.items ≡ closed mark (back trees.old.items)) }
+{
+    let parts = taken(alloc, mark.parts as usize, trees)?;
+    trees.push(tree(mark.rule, parts))?;
+    Ok(())
+}
+
+/// The derivations of these rules, the first of which is the last.
+fn built(alloc: Global, mut marks: Vec<Mark>) -> Result<Vec<Derivation>, Memory>
+    ensures { (ts : Trees) → marks.items ≡ marks_of_all ts → IfOk result (λ v. derivations v.items ≡ ts) }
+{
+    let mut trees = Vec::new(alloc);
+    while let Some(mark) = marks.pop() {
+        close(alloc, mark, &mut trees)?;
+    }
+    let count = trees.len();
+    taken(alloc, count, &mut trees)
+}
+
+/// The derivations of what waits, the last first, by these nodes. There is room for the rules of twice as many as there are nodes, so
+/// that what is listed is seldom copied.
+///
+/// `Memory` comes where an allocation was refused.
+pub fn read(alloc: Global, nodes: &Nodes, waiting: Vec<Waiting>) -> Result<Vec<Derivation>, Memory>
+    requires { AreReady nodes.now waiting.items }
+    ensures { IfOk result (λ v. derivations v.items ≡ trees_of waiting.entry.items) }
+{
+    let marks = listed(alloc, nodes.len().saturating_mul(2), nodes, waiting)?;
+    built(alloc, marks)
+}
