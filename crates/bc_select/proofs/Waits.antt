@@ -10,10 +10,6 @@ abbrev pub joined : Trees → Trees → Trees
 joined no_part us = us
 joined (part t ts) us = part t (joined ts us)
 
-pub joined_end : (ts us : Trees) (t : Tree) → end_with (joined ts us) t ≡ joined ts (end_with us t)
-joined_end no_part us t = refl
-joined_end (part x ts) us t = ap (part x) (joined_end ts us t)
-
 pub joined_one : (ts : Trees) (t : Tree) → joined ts (one t) ≡ end_with ts t
 joined_one no_part t = refl
 joined_one (part x ts) t = ap (part x) (joined_one ts t)
@@ -22,17 +18,22 @@ pub joined_nothing : (ts : Trees) → joined ts no_part ≡ ts
 joined_nothing no_part = refl
 joined_nothing (part x ts) = ap (part x) (joined_nothing ts)
 
-pub size_end : (ts : Trees) (t : Tree) → size (end_with ts t) ≡ size ts + 1
-size_end no_part t = refl
-size_end (part x ts) t = ap (λ n. n + 1) (size_end ts t)
+-- a tree at the end of these is one in front of those
+pub joined_shift : (us ts : Trees) (t : Tree) → joined (end_with us t) ts ≡ joined us (part t ts)
+joined_shift no_part ts t = refl
+joined_shift (part x us) ts t = ap (part x) (joined_shift us ts t)
 
-pub trees_append : (xs ys : List Waiting) → trees_of (xs ++ ys) ≡ joined (trees_of ys) (trees_of xs)
-trees_append [] ys = sym (joined_nothing (trees_of ys))
-trees_append (x ∷ xs) ys = ap (λ ts. end_with ts (tree_of x)) (trees_append xs ys) ∙ joined_end (trees_of ys) (trees_of xs) (tree_of x)
+pub joined_size : (ts us : Trees) → size (joined ts us) ≡ size ts + size us
+joined_size no_part us = omega arith
+joined_size (part t ts) us = omega (arith, joined_size ts us)
+
+pub trees_append : (xs ys : List Waiting) → trees_of (xs ++ ys) ≡ joined (trees_of xs) (trees_of ys)
+trees_append [] ys = refl
+trees_append (x ∷ xs) ys = ap (part (tree_of x)) (trees_append xs ys)
 
 pub trees_size : (xs : List Waiting) → size (trees_of xs) ≡ length xs
 trees_size [] = refl
-trees_size (x ∷ xs) = let h = size_end (trees_of xs) (tree_of x) in let i = trees_size xs in omega arith
+trees_size (x ∷ xs) = omega (arith, trees_size xs)
 
 pub ready_append : (all : List Part) (xs ys : List Waiting) → AreReady all xs → AreReady all ys → AreReady all (xs ++ ys)
 ready_append all [] ys h i = i
@@ -49,16 +50,24 @@ ready_last all (x ∷ xs) y h = ready_last all xs y h.1
 pub added_nothing : (all : List Part) (xs : List Waiting) → Added all xs xs no_part
 added_nothing all xs = record { added = []; is = sym (append-nil xs); ready = tt; trees_are = refl }
 
-pub added_then : (all : List Part) (a b c : List Waiting) (ts : Trees) (t : Tree) → Added all a b (one t) → Added all b c ts → Added all a c (end_with ts t)
-added_then all a b c ts t h i = record {
+pub added_then : (all : List Part) (a b c : List Waiting) (t : Tree) (ts : Trees) → Added all a b (one t) → Added all b c ts → Added all a c (part t ts)
+added_then all a b c t ts h i = record {
   added = h.added ++ i.added;
   is = i.is ∙ ap (λ x. x ++ i.added) h.is ∙ append_assoc a h.added i.added;
   ready = ready_append all h.added i.added h.ready i.ready;
-  trees_are = trees_append h.added i.added ∙ ap (joined (trees_of i.added)) h.trees_are ∙ joined_one (trees_of i.added) t ∙ ap (λ x. end_with x t) i.trees_are;
+  trees_are = trees_append h.added i.added ∙ ap (λ x. joined x (trees_of i.added)) h.trees_are ∙ ap (part t) i.trees_are;
 }
 
-pub added_two : (all : List Part) (a b c : List Waiting) (t u : Tree) → Added all a b (one u) → Added all b c (one t) → Added all a c (two t u)
-added_two all a b c t u h i = added_then all a b c (one t) u h i
+pub added_end : (all : List Part) (a b c : List Waiting) (ts : Trees) (t : Tree) → Added all a b ts → Added all b c (one t) → Added all a c (end_with ts t)
+added_end all a b c ts t h i = record {
+  added = h.added ++ i.added;
+  is = i.is ∙ ap (λ x. x ++ i.added) h.is ∙ append_assoc a h.added i.added;
+  ready = ready_append all h.added i.added h.ready i.ready;
+  trees_are = trees_append h.added i.added ∙ ap (λ x. joined x (trees_of i.added)) h.trees_are ∙ ap (joined ts) i.trees_are ∙ joined_one ts t;
+}
 
-pub added_three : (all : List Part) (a b c d : List Waiting) (t u v : Tree) → Added all a b (one v) → Added all b c (one u) → Added all c d (one t) → Added all a d (three t u v)
-added_three all a b c d t u v h i j = added_then all a b d (two t u) v h (added_two all b c d t u i j)
+pub added_two : (all : List Part) (a b c : List Waiting) (t u : Tree) → Added all a b (one t) → Added all b c (one u) → Added all a c (two t u)
+added_two all a b c t u h i = added_then all a b c t (one u) h i
+
+pub added_three : (all : List Part) (a b c d : List Waiting) (t u v : Tree) → Added all a b (one t) → Added all b c (one u) → Added all c d (one v) → Added all a d (three t u v)
+added_three all a b c d t u v h i j = added_then all a b d t (two u v) h (added_two all b c d u v i j)

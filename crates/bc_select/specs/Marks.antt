@@ -1,8 +1,6 @@
--- For proofs: trees as the list of their rules, wholes before parts, each with the number of its parts.
-use Rattle.std.specs.Prelude.{ℕ, zero, suc, ◌+◌, List, [], ◌∷◌, ◌++◌}
-use Rattle.bc_derive.specs.declared.derivation.Derivation.{Derivation}
+-- For proofs: trees as the list of their rules, wholes before parts and the last part first, each with the number of its parts.
+use Rattle.std.specs.Prelude.{ℕ, zero, suc, ◌+◌, ◌-◌, List, [], ◌∷◌, ◌++◌}
 use Rattle.bc_derive.specs.Rules.{Tree, Trees, by, no_part, part, end_with}
-use Rattle.bc_derive.specs.View.{derivation}
 use Rattle.bc_select.specs.declared.mark.Mark.{Mark}
 
 abbrev pub size : Trees → ℕ
@@ -15,7 +13,7 @@ abbrev mutual
 
   pub marks_of_all : Trees → List Mark
   marks_of_all no_part = []
-  marks_of_all (part t ts) = marks t ++ marks_of_all ts
+  marks_of_all (part t ts) = marks_of_all ts ++ marks t
 
 abbrev pub first : ℕ → Trees → Trees
 first zero ts = no_part
@@ -27,15 +25,10 @@ rest zero ts = ts
 rest (suc n) no_part = no_part
 rest (suc n) (part t ts) = rest n ts
 
--- what a mark does to trees, and what marks do, from the last to the first
+-- a mark takes the last trees as its parts; and what marks do, from the last to the first
 abbrev pub close : Mark → Trees → Trees
-close m ts = part (by m.rule (first m.parts ts)) (rest m.parts ts)
+close m ts = let k = size ts - m.parts in end_with (first k ts) (by m.rule (rest k ts))
 
 abbrev pub unwind : List Mark → Trees → Trees
 unwind [] ts = ts
 unwind (m ∷ ms) ts = close m (unwind ms ts)
-
--- derivations of which the last lies in front
-abbrev pub back : List Derivation → Trees
-back [] = no_part
-back (d ∷ ds) = end_with (back ds) (derivation d)

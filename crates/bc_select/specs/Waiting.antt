@@ -1,9 +1,9 @@
--- For proofs: expressions that wait until their derivations are read, the first part last.
+-- For proofs: expressions that wait until their derivations are read.
 use Rattle.std.specs.Prelude.{◌≡◌, ◌+◌, ◌*◌, ◌≤◌, ◌^◌, List, [], ◌∷◌, ◌++◌}
 use Rattle.bc_core.specs.View.{exp}
 use Rattle.bc_core.specs.WellFormed.{nodes}
 use Rattle.bc_derive.specs.declared.rule.Table.TheVariants.{Two}
-use Rattle.bc_derive.specs.Rules.{Tree, Trees, no_part, end_with}
+use Rattle.bc_derive.specs.Rules.{Tree, Trees, no_part, part}
 use Rattle.bc_least.specs.Choices.{choice_for, choices}
 use Rattle.bc_least.specs.Readings.{tree_for, readings}
 use Rattle.bc_select.specs.declared.part.Part.{Part}
@@ -17,7 +17,7 @@ tree_of t = tree_for t.step.aim (readings Two (exp t.e.now) t.step.place.level)
 
 abbrev pub trees_of : List Waiting → Trees
 trees_of [] = no_part
-trees_of (t ∷ ts) = end_with (trees_of ts) (tree_of t)
+trees_of (t ∷ ts) = part (tree_of t) (trees_of ts)
 
 -- these are a root's nodes
 pub record IsReady (all : List Part) (t : Waiting) : Type 0 where

@@ -1,10 +1,10 @@
-// The derivations of expressions, read off by loops: first the rules are listed, wholes before parts, and then the trees are made from
-// the end of that list. So neither takes stack for the depth of the tree.
+// The derivations of expressions, read off by loops: first the rules are listed, wholes before parts and the last part first, and then the
+// trees are made from the end of that list, the first part first. So neither takes stack for the depth of the tree.
 
 ghost use Rattle.std.specs.Prelude.{◌≡◌, IfOk, OnOk};
 ghost use Rattle.bc_derive.specs.View.{derivations};
 ghost use Rattle.bc_derive.specs.Rules.{Trees};
-ghost use Rattle.bc_select.specs.Marks.{marks_of_all, first, rest, close as closed, back};
+ghost use Rattle.bc_select.specs.Marks.{marks_of_all, close as closed};
 ghost use Rattle.bc_select.specs.Waiting.{AreReady, trees_of};
 
 use crate::reading::parts;
@@ -22,7 +22,7 @@ pub struct Mark {
     pub parts: u32,
 }
 
-/// The rules of the derivations of what waits, the last first, and wholes before parts. There is room for so many.
+/// The rules of the derivations of what waits, wholes before parts and the last first. There is room for so many.
 fn listed(
     alloc: Global,
     room: usize,
@@ -48,47 +48,28 @@ fn listed(
     Ok(marks)
 }
 
-/// Takes so many derivations from the end, the last first.
-fn taken(
-    alloc: Global,
-    count: usize,
-    trees: &mut Vec<Derivation>,
-) -> Result<Vec<Derivation>, Memory>
-    ensures taken { IfOk result (λ v. derivations v.items ≡ first count (back trees.old.items)) }
-    ensures left { OnOk result (back trees.new.items ≡ rest count (back trees.old.items)) }
-{
-    let mut parts = Vec::with_capacity(alloc, count)?;
-    for _taken in 0..count {
-        match trees.pop() {
-            Some(part) => parts.push(part)?,
-            None => (),
-        }
-    }
-    Ok(parts)
-}
-
 /// Takes the parts of a rule from the end, and puts the rule over them in their place.
-fn close(alloc: Global, mark: Mark, trees: &mut Vec<Derivation>) -> Result<(), Memory>
-    ensures { OnOk result (back trees.new.items ≡ closed mark (back trees.old.items)) }
+fn close(mark: Mark, trees: &mut Vec<Derivation>) -> Result<(), Memory>
+    ensures { OnOk result (derivations trees.new.items ≡ closed mark (derivations trees.old.items)) }
 {
-    let parts = taken(alloc, mark.parts as usize, trees)?;
+    let first = trees.len().saturating_sub(mark.parts as usize);
+    let parts = trees.split_off(first)?;
     trees.push(tree(mark.rule, parts))?;
     Ok(())
 }
 
-/// The derivations of these rules, the first of which is the last.
+/// The derivations of these rules.
 fn built(alloc: Global, mut marks: Vec<Mark>) -> Result<Vec<Derivation>, Memory>
     ensures { (ts : Trees) → marks.items ≡ marks_of_all ts → IfOk result (λ v. derivations v.items ≡ ts) }
 {
     let mut trees = Vec::new(alloc);
     while let Some(mark) = marks.pop() {
-        close(alloc, mark, &mut trees)?;
+        close(mark, &mut trees)?;
     }
-    let count = trees.len();
-    taken(alloc, count, &mut trees)
+    Ok(trees)
 }
 
-/// The derivations of what waits, the last first, by these nodes. There is room for the rules of twice as many as there are nodes, so
+/// The derivations of what waits, by these nodes. There is room for the rules of twice as many as there are nodes, so
 /// that what is listed is seldom copied.
 ///
 /// `Memory` comes where an allocation was refused.

@@ -1,4 +1,4 @@
-// The parts that a rule has, put behind what waits to be read: the last part first, so that the first one is read next.
+// The parts that a rule has, put behind what waits to be read.
 
 ghost use Rattle.std.specs.Prelude.{◌≡◌, ℕ, List, ◌≤◌, ◌+◌, ◌*◌, ◌^◌, ◌++◌, OnOk, cond};
 ghost use Rattle.bc_core.specs.Tree as tree;
@@ -173,8 +173,8 @@ fn pair_read<'a>(
         Plan::Nothing => (),
         Plan::One(side) => operand_read(left, right, nodes, Operand { side, place }, waiting)?,
         Plan::Two(x, y) => {
-            operand_read(left, right, nodes, Operand { side: y, place }, waiting)?;
             operand_read(left, right, nodes, Operand { side: x, place }, waiting)?;
+            operand_read(left, right, nodes, Operand { side: y, place }, waiting)?;
         }
     }
     Ok(())
@@ -212,14 +212,14 @@ fn cond_read<'a>(
     };
     match step.rule {
         Rule::V20 => {
-            wait(branches.that, that, ANY, nodes, waiting)?;
-            wait(branches.this, this, ANY, nodes, waiting)?;
             wait(condition, test, Aim::Jumps(false), nodes, waiting)?;
+            wait(branches.this, this, ANY, nodes, waiting)?;
+            wait(branches.that, that, ANY, nodes, waiting)?;
         }
         Rule::V21 => {
-            wait(branches.this, this, ANY, nodes, waiting)?;
-            wait(branches.that, that, ANY, nodes, waiting)?;
             wait(condition, test, Aim::Jumps(true), nodes, waiting)?;
+            wait(branches.that, that, ANY, nodes, waiting)?;
+            wait(branches.this, this, ANY, nodes, waiting)?;
         }
         _ => (),
     }
@@ -247,8 +247,8 @@ fn call_read<'a>(
         level,
         end: start(nodes, place.end),
     };
-    wait(routine, behind, ANY, nodes, waiting)?;
-    all_read(arguments, nodes, front, waiting)
+    all_read(arguments, nodes, front, waiting)?;
+    wait(routine, behind, ANY, nodes, waiting)
 }
 
 /// Arguments of a call, the first of which stands at this level.
@@ -274,8 +274,8 @@ fn all_read<'a>(
         level: place.level,
         end: start(nodes, place.end),
     };
-    wait(last, behind, ANY, nodes, waiting)?;
-    all_read(others, nodes, front, waiting)
+    all_read(others, nodes, front, waiting)?;
+    wait(last, behind, ANY, nodes, waiting)
 }
 
 /// The parts of an assignment, both sides of which stand at the step's level.
@@ -299,12 +299,12 @@ pub fn sides_read<'a>(
     match step.rule {
         Rule::A1 => wait(value, first, ANY, nodes, waiting)?,
         Rule::A2 => {
-            wait(value, first, ANY, nodes, waiting)?;
             wait(address, second, ANY, nodes, waiting)?;
+            wait(value, first, ANY, nodes, waiting)?;
         }
         Rule::A3 => {
-            wait(address, second, ANY, nodes, waiting)?;
             wait(value, first, ANY, nodes, waiting)?;
+            wait(address, second, ANY, nodes, waiting)?;
         }
         _ => (),
     }

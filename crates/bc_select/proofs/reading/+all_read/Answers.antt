@@ -12,7 +12,7 @@ use Rattle.bc_select.proofs.Bounds.{some_node, count_of_args}
 use Rattle.bc_select.proofs.Ends.{last_part}
 use Rattle.bc_select.proofs.Laid.{on_ok}
 use Rattle.bc_select.proofs.Readings.{before_all-then, readings_of_all-then, nodes-then}
-use Rattle.bc_select.proofs.Waits.{added_then}
+use Rattle.bc_select.proofs.Waits.{added_end}
 use Rattle.bc_select.proofs.Wholes.{args_count}
 use Rattle.bc_select.proofs.reading.+all_read.Goals as goal
 
@@ -42,4 +42,4 @@ returns t c =
     let is : end_with (readings_of_all Two (args others) level) (readings Two last (level + length others)).any ≡ readings_of_all Two (args c.args.arguments.now) level =
     ap (λ m. end_with (readings_of_all Two (args others) level) (readings Two last (level + m)).any) (sym (args_count others))
     ∙ sym (readings_of_all-then (args others) last level) ∙ sym (ap (λ x. readings_of_all Two x level) a) in
-    on_ok c.all_read.result _ _ (λ h. subst (λ x. Added c.args.nodes.now c.args.waiting.now.items c.all_read.new.waiting.items x) is (added_then _ _ _ _ _ _ c.in_ok-wait.ensures h)) c.all_read.ensures
+    on_ok c.wait.result _ _ (λ h. subst (λ x. Added c.args.nodes.now c.args.waiting.now.items c.wait.new.waiting.items x) is (added_end _ _ _ _ _ _ c.in_ok-all_read.ensures h)) c.wait.ensures

@@ -10,7 +10,7 @@ use Rattle.bc_select.specs.Vector.{before_all, vector}
 use Rattle.bc_select.proofs.Bounds.{count_of_args}
 use Rattle.bc_select.proofs.Ends.{last_part}
 use Rattle.bc_select.proofs.Laid.{on_ok}
-use Rattle.bc_select.proofs.Waits.{added_then}
+use Rattle.bc_select.proofs.Waits.{added_end}
 use Rattle.bc_select.proofs.Wholes.{args_count}
 use Rattle.bc_select.proofs.reading.call_read.Goals as goal
 
@@ -31,4 +31,4 @@ returns c =
     let es = c.args.arguments.now in let f = exp c.args.routine.now in let level = c.args.place.level in
     let is : end_with (readings_of_all Two (args es) (level + 2)) (readings Two f (level + 2 + length es)).any ≡ end_with (readings_of_all Two (args es) (level + 2)) (readings Two f (level + 2 + count (args es))).any =
     ap (λ m. end_with (readings_of_all Two (args es) (level + 2)) (readings Two f (level + 2 + m)).any) (sym (args_count es)) in
-    on_ok c.all_read.result _ _ (λ h. subst (λ x. Added c.args.nodes.now c.args.waiting.now.items c.all_read.new.waiting.items x) is (added_then _ _ _ _ _ _ c.in_ok-wait.ensures h)) c.all_read.ensures
+    on_ok c.wait.result _ _ (λ h. subst (λ x. Added c.args.nodes.now c.args.waiting.now.items c.wait.new.waiting.items x) is (added_end _ _ _ _ _ _ c.in_ok-all_read.ensures h)) c.wait.ensures
