@@ -4,6 +4,7 @@ use Rattle.bc_derive.specs.declared.rule.Rule.{Rule}
 use Rattle.bc_least.specs.declared.choice.Choice.{Choice}
 use Rattle.bc_least.specs.declared.choice.Choices.{Choices}
 use Rattle.bc_least.specs.Options.{words_of, rule_of}
+use Rattle.bc_select.specs.Reads.{rule_or_v1}
 use Rattle.bc_select.specs.declared.part.Part.{Part}
 use Rattle.bc_select.specs.declared.row.Row.{Row}
 use Rattle.bc_select.specs.declared.table.Span.{Span}
@@ -14,11 +15,15 @@ row_of c = record {
   rules = rule_of c.any ∷ rule_of c.push ∷ rule_of c.on_false ∷ rule_of c.on_true ∷ [];
 }
 
+-- the rules by which a node gets its code
+abbrev pub rules_of : Choices → List Rule
+rules_of c = rule_or_v1 c.any ∷ rule_or_v1 c.push ∷ rule_or_v1 c.on_false ∷ rule_or_v1 c.on_true ∷ []
+
 abbrev pub row_of_part : Part → Row
 row_of_part p = row_of p.choices
 
 abbrev pub span_of : Part → Span
-span_of p = record { calls = p.calls; nodes = p.nodes; rules = (row_of_part p).rules }
+span_of p = record { nodes = p.nodes; rules = rules_of p.choices; calls = p.calls }
 
 abbrev pub choice_in : Option ℕ → Option Rule → Option Choice
 choice_in (Some w) (Some r) = Some (record { words = w; rule = r })

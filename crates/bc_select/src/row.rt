@@ -1,5 +1,5 @@
 ghost use Rattle.std.specs.Prelude.{◌≡◌, List, ◌∷◌, [], ◌++◌};
-ghost use Rattle.bc_select.specs.Row.{row_of, choice_in};
+ghost use Rattle.bc_select.specs.Row.{row_of, rules_of, choice_in};
 ghost use Rattle.bc_select.specs.Reads.{rule_or_v1};
 ghost use Rattle.bc_least.specs.Options.{rule_of};
 ghost use Rattle.bc_least.specs.Choices.{choice_for as choice_of};
@@ -65,20 +65,39 @@ fn choices_from(row: &Row) -> Choices
     }
 }
 
-/// The rule for an aim by which a node gets its code whose row has these rules.
-#[inline(always)]
-pub fn rule_for(rules: &[Option<Rule>; 4], aim: Aim) -> Rule
-    ensures { (c : Choices) → rules.now ≡ (row_of c).rules → result ≡ rule_or_v1 (choice_of aim c) }
+/// The rule of a choice; V1 where there is none.
+pub fn rule_or_v1(choice: Option<Choice>) -> Rule
+    ensures { result ≡ rule_or_v1 choice }
 {
-    let rule = match aim {
+    match choice {
+        Some(choice) => choice.rule,
+        None => Rule::V1,
+    }
+}
+
+/// The rules by which a node with these choices gets its code, in the order of a row.
+#[inline(always)]
+pub fn rules_from(choices: &Choices) -> [Rule; 4]
+    ensures { result ≡ rules_of choices.now }
+{
+    [
+        rule_or_v1(choices.any),
+        rule_or_v1(choices.push),
+        rule_or_v1(choices.on_false),
+        rule_or_v1(choices.on_true),
+    ]
+}
+
+/// The rule for an aim among those by which a node gets its code.
+#[inline(always)]
+pub fn rule_for(rules: &[Rule; 4], aim: Aim) -> Rule
+    ensures { (c : Choices) → rules.now ≡ rules_of c → result ≡ rule_or_v1 (choice_of aim c) }
+{
+    match aim {
         Aim::Gets(Mode::Any) => rules[0],
         Aim::Gets(Mode::Push) => rules[1],
         Aim::Jumps(false) => rules[2],
         Aim::Jumps(true) => rules[3],
-    };
-    match rule {
-        Some(rule) => rule,
-        None => Rule::V1,
     }
 }
 

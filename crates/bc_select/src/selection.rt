@@ -10,7 +10,6 @@ ghost use Rattle.bc_derive.specs.Rules.{root_shape};
 ghost use Rattle.bc_derive.specs.Code.{root_cost};
 ghost use Rattle.bc_least.specs.Chosen.{chosen, root_choice, root_reading};
 ghost use Rattle.bc_least.specs.Nodes.{root_nodes, root_in_order};
-ghost use Rattle.bc_select.specs.Reads.{rule_or_v1};
 ghost use Rattle.bc_select.specs.Rows.{IsRowOf};
 ghost use Rattle.bc_select.specs.Selection.{root_vector, words_or_none};
 ghost use Rattle.bc_select.specs.Vector.{vector};
@@ -22,7 +21,7 @@ use crate::mark::read;
 use crate::pair::assign_choice;
 use crate::part::own_operand;
 use crate::reading::{ANY, parts, sides_read};
-use crate::row::Row;
+use crate::row::{Row, rule_or_v1};
 use crate::split::{choice_for, cut, last};
 use crate::table::{Nodes, Table};
 use crate::tree::tree;
@@ -115,16 +114,6 @@ fn count(choice: Option<Choice>) -> u64
     }
 }
 
-/// The rule of a choice.
-fn rule(choice: Option<Choice>) -> Rule
-    ensures { result ≡ rule_or_v1 choice }
-{
-    match choice {
-        Some(choice) => choice.rule,
-        None => Rule::V1,
-    }
-}
-
 /// The level of both sides of an assignment to an address.
 fn side_level(address: &CoreExp, level: u64) -> u64
     requires { level ≤ 65535 }
@@ -155,7 +144,7 @@ fn assignment(
     let first = operand_node(value, &last(&front));
     let second = operand_node(address, &last(nodes));
     let choice = assign_choice(own_operand(address), &first, &second, level);
-    let rule = rule(choice);
+    let rule = rule_or_v1(choice);
     let place = Place {
         level: side,
         end: nodes.len(),

@@ -6,28 +6,28 @@ ghost use Rattle.bc_select.specs.Reads.{rule_or_v1};
 ghost use Rattle.bc_select.specs.Row.{row_of_part};
 
 use crate::part::Part;
-use crate::row::{Row, last_choices, row_from, rule_for};
+use crate::row::{Row, last_choices, row_from, rule_for, rules_from};
 use bc_derive::{Aim, Rule};
 use bc_word::Memory;
 use std::alloc::Global;
 use std::marker::Model;
 
-/// What a whole asks of a part besides its words. Its rules stand here a second time, so that a derivation is read off without the rows.
+/// What a whole asks of a part besides its row, and what is asked where its derivation is read off. It has the order that takes the least room.
 #[derive(Clone, Copy)]
 pub struct Span {
-    /// Whether a call or a VALOF stands in the part.
-    pub calls: bool,
-    /// How many nodes it has.
+    /// How many nodes the part has.
     pub nodes: usize,
-    /// The rules of its row.
-    pub rules: [Option<Rule>; 4],
+    /// The rules by which it gets its code.
+    pub rules: [Rule; 4],
+    /// Whether a call or a VALOF stands in it.
+    pub calls: bool,
 }
 
 /// The span of no node.
 const NO_SPAN: Span = Span {
-    calls: false,
     nodes: 0,
-    rules: [None; 4],
+    rules: [Rule::V1; 4],
+    calls: false,
 };
 
 /// The last span.
@@ -121,14 +121,13 @@ impl Table {
     pub fn push(&mut self, node: &Part) -> Result<(), Memory>
         ensures { OnOk result (self.new ≡ self.old ++ (node.now ∷ [])) }
     {
-        let row = row_from(&node.choices);
-        let rules = row.rules;
+        let rules = rules_from(&node.choices);
         let span = Span {
-            calls: node.calls,
             nodes: node.nodes,
             rules,
+            calls: node.calls,
         };
-        self.rows.push(row)?;
+        self.rows.push(row_from(&node.choices))?;
         match self.spans.push(span) {
             Ok(()) => Ok(()),
             Err(_) => {

@@ -47,8 +47,8 @@ returns-clause-derivation c =
     let choice = assignment_choice v a c.args.level s _ _ _ _ c.assign_choice-choice.ensures c.own_operand.ensures first second c.side_level-side.ensures in
     let p = c.in_ok-sides_read.ensures in
     let own : c.sides_read.new.waiting.items ≡ p.added = p.is ∙ ap (λ x. x ++ p.added) c.new-waiting.ensures.items in
-    c.tree.ensures ∙ ap (by c.rule-rule.result) (c.in_ok-trees.ensures ∙ ap trees_of own ∙ p.trees_are)
-    ∙ assignment_is v a c.args.level s c.assign_choice-choice.result c.rule-rule.result c.side_level-side.ensures choice c.rule-rule.ensures
+    c.tree.ensures ∙ ap (by c.rule_or_v1-rule.result) (c.in_ok-trees.ensures ∙ ap trees_of own ∙ p.trees_are)
+    ∙ assignment_is v a c.args.level s c.assign_choice-choice.result c.rule_or_v1-rule.result c.side_level-side.ensures choice c.rule_or_v1-rule.ensures
 
 pub returns-clause-words : goal.returns-clause-words
 returns-clause-words c =
