@@ -1,6 +1,5 @@
 -- The marks of trees make these trees.
 use Rattle.std.proofs.Common.{◌≡◌, ℕ, zero, suc, ◌+◌, ◌-◌, ◌<◌, refl, ap, sym, ◌∙◌, List, [], ◌∷◌, ◌++◌, length, take, drop, append-nil, append_assoc, length-append, arith, add-one}
-use Rattle.std.specs.Prelude.{Result, Ok, Err, IfOk}
 use Rattle.bc_derive.specs.declared.derivation.Derivation.{Derivation}
 use Rattle.bc_derive.specs.declared.rule.Rule.{Rule}
 use Rattle.bc_derive.specs.Rules.{Tree, Trees, by, no_part, part, one, end_with}

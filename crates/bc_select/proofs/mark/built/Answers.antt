@@ -1,6 +1,5 @@
 use Rattle.std.proofs.Common.{◌≡◌, ◌∷◌, [], ◌++◌, ap, sym, ◌∙◌, arith}
 use Rattle.std.proofs.lemmas.Grind.{common_steps}
-use Rattle.bc_derive.specs.Rules.{no_part}
 use Rattle.bc_derive.specs.View.{derivations}
 use Rattle.bc_select.specs.Marks.{unwind}
 use Rattle.bc_select.proofs.Marked.{unwind_last, made}

@@ -1,4 +1,4 @@
-use Rattle.std.proofs.Common.{◌≡◌, ◌-◌, length, ap, ◌∙◌, arith}
+use Rattle.std.proofs.Common.{◌≡◌, ◌-◌, ap, ◌∙◌, arith}
 use Rattle.bc_derive.specs.Rules.{by, end_with}
 use Rattle.bc_derive.specs.View.{derivation, derivations}
 use Rattle.bc_select.specs.Marks.{size, first, rest}

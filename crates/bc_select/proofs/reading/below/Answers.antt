@@ -1,4 +1,4 @@
-use Rattle.std.proofs.Common.{◌≡◌, ◌∷◌, [], arith}
+use Rattle.std.proofs.Common.{◌∷◌, [], arith}
 use Rattle.bc_select.specs.Vector.{node, before}
 use Rattle.bc_select.proofs.Ends.{first_part}
 use Rattle.bc_select.proofs.reading.below.Goals as goal

@@ -1,4 +1,4 @@
-use Rattle.std.proofs.Common.{◌≡◌, ◌+◌, ◌++◌, length, ap, sym, subst, ◌∙◌, arith}
+use Rattle.std.proofs.Common.{◌≡◌, ◌+◌, ◌++◌, length, ap, sym, subst, arith}
 use Rattle.bc_core.specs.Tree.{count}
 use Rattle.bc_core.specs.View.{exp, args}
 use Rattle.bc_derive.specs.declared.rule.Table.TheVariants.{Two}

@@ -1,4 +1,4 @@
-use Rattle.std.proofs.Common.{◌≡◌, ◌++◌, ◌∷◌, [], refl}
+use Rattle.std.proofs.Common.{◌++◌, ◌∷◌, [], refl}
 use Rattle.bc_core.specs.View.{exp}
 use Rattle.bc_select.specs.Vector.{node, before}
 use Rattle.bc_select.proofs.Ends.{at_end, at_end_count}
