@@ -43,6 +43,29 @@ def one(tokens):
     yield "LET G(" + ",".join(f"N{i}" for i in range(tokens // 2 - 6)) + ") BE N0 := N1"
 
 
+def variables_of_blocks(tokens):
+    return [[f"N{k}X{i}" for i in range(tokens // (4 * DEPTH) - 1)] for k in range(DEPTH)]
+
+
+def variables(names):
+    return "LET " + ",".join(names) + " = " + ",".join("0" for _ in names)
+
+
+def scopes(tokens):
+    yield "LET G(A) BE $("
+    for names in variables_of_blocks(tokens):
+        yield f"$( {variables(names)}"
+    yield f"N{DEPTH - 1}X0 := N{DEPTH - 1}X1"
+    yield "$)" * DEPTH + " $)"
+
+
+def let(tokens):
+    yield "LET G(A) BE $("
+    yield variables([name for names in variables_of_blocks(tokens) for name in names])
+    yield f"N{DEPTH - 1}X0 := N{DEPTH - 1}X1"
+    yield "$)"
+
+
 def tiny(tokens):
     names = tokens // 20
     yield "GLOBAL $( " + "; ".join(f"NAME{k}:{k % 512}" for k in range(names)) + " $)"
@@ -51,8 +74,9 @@ def tiny(tokens):
 
 
 def main():
-    kinds = {"constants": constants, "routines": routines, "blocks": blocks, "nested": nested, "one": one, "tiny": tiny}
-    for line in kinds[sys.argv[1]](int(sys.argv[2])):
+    kinds = (constants, routines, blocks, nested, one, scopes, let, tiny)
+    kind = next(kind for kind in kinds if kind.__name__ == sys.argv[1])
+    for line in kind(int(sys.argv[2])):
         print(line)
 
 

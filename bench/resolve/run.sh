@@ -1,18 +1,18 @@
 #!/usr/bin/env bash
 # bench/resolve/run.sh: the time of `resolve` alone, on a generated program of almost 60,000 tokens and on one of half as many, and on programs that
-# ask much of scopes (bench/build/make_names.py): the best of twenty runs of each, taken in turn.
+# ask much of scopes (bench/build/make_names.py): the best of twenty runs of each, taken in turn, each of which resolves its program five times.
 set -eu
 cd "$(dirname "$0")"
 . ../workspace.sh
-make_workspace resolve_bench resolve.rt.in anyhow bc_lex bc_library bc_parse bc_scope
+make_workspace resolve_bench resolve.rt.in anyhow bc_lex bc_library bc_parse bc_scope bc_tree
 python3 ../build/make_program.py 59950 >"$work/program-whole"
 python3 ../build/make_program.py 29950 >"$work/program-half"
-for kind in constants routines blocks nested one tiny; do
+for kind in constants routines blocks nested one scopes let tiny; do
     python3 ../build/make_names.py "$kind" 59000 >"$work/$kind-whole"
     python3 ../build/make_names.py "$kind" 29500 >"$work/$kind-half"
 done
 build_program <"$work/program-half"
-for kind in program constants routines blocks nested one tiny; do
+for kind in program constants routines blocks nested one scopes let tiny; do
     for _ in $(seq 20); do
         echo "$("$program" <"$work/$kind-whole") $("$program" <"$work/$kind-half")"
     done | awk -v kind="$kind" '

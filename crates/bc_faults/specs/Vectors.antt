@@ -36,6 +36,10 @@ abbrev pub vector_faults : (constants : Env) → Numbers → Definitions → Lis
 vector_faults K at no_definitions = []
 vector_faults K at (definition d ds) = vector_fault K at d ∷ vector_faults K (behind_definition at d) ds
 
+abbrev pub no_faults : Definitions → List (Option ScopeError)
+no_faults no_definitions = []
+no_faults (definition d ds) = None ∷ no_faults ds
+
 abbrev pub first_found : List (Option ScopeError) → Option ScopeError
 first_found [] = None
 first_found (f ∷ fs) = f

@@ -27,14 +27,14 @@ ghost use Rattle.bc_faults.specs.Parts.{item_fault, item_found, item_width};
 
 use crate::judging::{
     Allowed, Met, address_fault, all_have_cells, all_held, declare_all_once, declare_once,
-    entry_fault, fault_at, jump_fault, level_at, level_of, name_fault, parameters_fault,
+    entry_fault, fault_at, jump_fault, level_at, level_of, name_fault, no_faults, parameters_fault,
     push_width, unless_found, unless_misplaced, widest,
 };
 use crate::progress::{Extent, Progress, also_fits};
 use bc_names::{
     Meant, Numbers, Scope, ScopeError, behind_definition, behind_entry, constant, constant_in,
     count, declare_entry, declare_let, declare_let_pending, declare_list, declare_parameters,
-    declare_pending, labels_in, priors_of_let, side_levels, sum,
+    declare_pending, has_vector, labels_in, priors_of_let, side_levels, sum,
 };
 use bc_tree::{Block, Command, Constant, Declaration, Definition, Exp, Item, Label, Storage};
 use bc_word::Memory;
@@ -430,14 +430,14 @@ fn vector_faults<'s>(
     let mut progress = progress;
     for tree in list {
         faults.push(vector_fault(scope, progress, tree)?)?;
-        progress.at = behind_definition(progress.at, tree)?;
+        behind_definition(&mut progress.at, tree)?;
     }
     Ok(faults)
 }
 
 /// The faults of the constants of a LET, which see its names as pending.
 #[cycle(faults)]
-#[tactic(auto, using(bc_names::proofs::Extends::left, crate::proofs::Kept::keeping))]
+#[tactic(auto, using(bc_names::proofs::Extends::left, crate::proofs::Kept::keeping, crate::proofs::Lets::none_found))]
 fn pending_faults<'s>(
     scope: &mut Scope<'s>,
     progress: Progress,
@@ -445,6 +445,9 @@ fn pending_faults<'s>(
 ) -> Result<Vec<Option<ScopeError<'s>>>, Memory>
     ensures { IfOk result (λ fs. (map fault_view fs.items ≡ vector_faults (before_let (definitions_view list.now) (scope_view scope.old)) (numbers_view progress.at) (definitions_view list.now)) × (scope.new ≡ scope.old)) }
 {
+    if !has_vector(list) {
+        return no_faults(scope.alloc(), list);
+    }
     let mark = scope.mark();
     declare_let_pending(scope, list)?;
     let faults = vector_faults(scope, progress, list)?;

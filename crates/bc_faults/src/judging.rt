@@ -1,17 +1,17 @@
 //! The faults that a part has by itself.
 ghost use Rattle.std.specs.Prelude.{◌≡◌, true, None, length, drop, [], ◌∷◌, ◌++◌, IfOk};
-ghost use Rattle.bc_tree.specs.View.{exp_view, exps_view};
+ghost use Rattle.bc_tree.specs.View.{exp_view, exps_view, definitions_view};
 ghost use Rattle.bc_scoping.specs.Frames.{all_held, widest};
 ghost use Rattle.bc_scoping.specs.Faults.{AMisplaced, unless, allowed_in_routine, allowed_in_valof, in_a_loop, in_a_switch, name_fault, jump_fault, is_cell, is_load, is_index, has_cell, address_fault, all_have_cells, twice_fault, all_twice_fault, none_met, case_fault, default_fault, entry_fault};
 ghost use Rattle.bc_names.specs.View.{meant_view, scope_view};
 ghost use Rattle.bc_core.specs.Level.{level_behind_parameters};
 ghost use Rattle.bc_faults.specs.Parts.{head_level, side_width};
 ghost use Rattle.bc_faults.specs.Judged.{Judges, Passes};
-ghost use Rattle.bc_faults.specs.Vectors.{fault_view, first_found};
+ghost use Rattle.bc_faults.specs.Vectors.{fault_view, first_found, no_faults};
 ghost use Rattle.bc_faults.specs.Seen.{allowed_view, names_view, met_view};
 
 use bc_names::{Meant, Scope, ScopeError, constant, is_operand, sum};
-use bc_tree::{Dyadic, Exp, Monadic, Storage};
+use bc_tree::{Definition, Dyadic, Exp, Monadic, Storage};
 use bc_word::{Memory, Word};
 use indexmap::IndexSet;
 use std::alloc::Global;
@@ -244,7 +244,7 @@ pub fn declare_all_once<'s>(
 pub fn parameters_fault<'s>(alloc: Global, names: &[&'s [u8]]) -> Result<(), ScopeError<'s>>
     ensures { Passes result (all_twice_fault [] (names_view names.now)) }
 {
-    let mut before = IndexSet::new(alloc);
+    let mut before = IndexSet::with_capacity(alloc, names.len())?;
     declare_all_once(&mut before, names)
 }
 
@@ -367,6 +367,20 @@ pub fn fault_at<'s>(faults: &[Option<ScopeError<'s>>], i: u64) -> Option<ScopeEr
 {
     let i = i as usize;
     if i < faults.len() { faults[i] } else { None }
+}
+
+/// For each definition of a LET, that no fault was found.
+pub fn no_faults<'s>(
+    alloc: Global,
+    list: &[Definition<'s>],
+) -> Result<Vec<Option<ScopeError<'s>>>, Memory>
+    ensures { IfOk result (λ fs. fs.items ≡ no_faults (definitions_view list.now)) }
+{
+    let mut faults = Vec::with_capacity(alloc, list.len())?;
+    for _each in list {
+        faults.push(None)?;
+    }
+    Ok(faults)
 }
 
 /// The width of an expression of this pair, where there is such a pair.

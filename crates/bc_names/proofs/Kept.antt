@@ -3,13 +3,14 @@ use Rattle.std.proofs.Common.{◌≡◌, ℕ, ◌+◌, ◌<◌, refl, ap, ◌∙
 use Rattle.std.proofs.lemmas.Bool.{cases_lt}
 use Rattle.std.proofs.lemmas.List.{take-append-le, get_or_append_left}
 use Rattle.std.proofs.Math.Seq.{take-append_seam, get_or-append_seam}
+use Rattle.std.specs.Option.{option_flatten}
 use Rattle.std.specs.Str.{bytes_eq}
 use Rattle.bc_names.specs.declared.scope.Borders.{Borders}
 use Rattle.bc_names.specs.declared.scope.Bound.{Bound}
 use Rattle.bc_names.specs.declared.scope.Named.{Named}
 use Rattle.bc_names.specs.declared.scope.Entry.{Entry}
 use Rattle.bc_names.specs.declared.scope.Entry.TheVariants as entry
-use Rattle.bc_names.specs.Index.{newest, borders_of, no_borders, or_none, Keeps, CanUndo}
+use Rattle.bc_names.specs.Index.{newest, borders_of, no_borders, Keeps, CanUndo}
 use Rattle.bc_names.specs.View.{scope_view, behind_one, Extends, Declares}
 use Rattle.bc_names.proofs.Names.{newest_last, borders_last, behind_push}
 use Rattle.bc_scoping.specs.Scope.{Name, is_name}
@@ -25,14 +26,14 @@ pub declares_push : (es : List Entry) (e : Entry) → Declares es (es ++ e ∷ [
 unfolding scope_view Extends
 declares_push es e = (behind_push es e [], take-append_seam es (e ∷ []))
 
-pub finds_name : (es : List Entry) (n : Named) (h : Option Bound) (q : Name) (r s : Option (Option Bound)) → s ≡ cond (bytes_eq n.name.now q) (Some (Some (record { meant = n.meant; place = length es }))) r → or_none r ≡ newest 0 es q None
-    → or_none s ≡ newest 0 (es ++ entry.Name n h ∷ []) q None
-finds_name es n h q r s e f = ap or_none e ∙ by (bytes_eq n.name.now q) (is_name n.name.now q) (is_name-bytes_eq n.name.now q) ∙ sym (newest_last es (entry.Name n h) q None)
+pub finds_name : (es : List Entry) (n : Named) (h : Option Bound) (q : Name) (r s : Option (Option Bound)) → s ≡ cond (bytes_eq n.name.now q) (Some (Some (record { meant = n.meant; place = length es }))) r → option_flatten r ≡ newest 0 es q None
+    → option_flatten s ≡ newest 0 (es ++ entry.Name n h ∷ []) q None
+finds_name es n h q r s e f = ap option_flatten e ∙ by (bytes_eq n.name.now q) (is_name n.name.now q) (is_name-bytes_eq n.name.now q) ∙ sym (newest_last es (entry.Name n h) q None)
   where
     k : Bound
     k = record { meant = n.meant; place = length es }
 
-    by : (t u : Bool) → u ≡ t → or_none (cond t (Some (Some k)) r) ≡ cond u (Some k) (newest 0 es q None)
+    by : (t u : Bool) → u ≡ t → option_flatten (cond t (Some (Some k)) r) ≡ cond u (Some k) (newest 0 es q None)
     by true true p = refl
     by true false p = absurd (true≢false (sym p))
     by false true p = absurd (true≢false p)
@@ -66,11 +67,11 @@ same_name [] (y ∷ b) h = absurd (true≢false (sym h))
 same_name (x ∷ a) [] h = absurd (true≢false (sym h))
 same_name (x ∷ a) (y ∷ b) h = grind (arith, same_name a b)
 
-pub finds_back : (es : List Entry) (n : Named) (h : Option Bound) (q : Name) (r s : Option (Option Bound)) → s ≡ cond (bytes_eq n.name.now q) (Some h) r → or_none r ≡ newest 0 (es ++ entry.Name n h ∷ []) q None → h ≡ newest 0 es n.name.now None
-    → or_none s ≡ newest 0 es q None
-finds_back es n h q r s e f k = ap or_none e ∙ by (bytes_eq n.name.now q) (is_name n.name.now q) (is_name-bytes_eq n.name.now q) (same_name n.name.now q) (f ∙ newest_last es (entry.Name n h) q None)
+pub finds_back : (es : List Entry) (n : Named) (h : Option Bound) (q : Name) (r s : Option (Option Bound)) → s ≡ cond (bytes_eq n.name.now q) (Some h) r → option_flatten r ≡ newest 0 (es ++ entry.Name n h ∷ []) q None → h ≡ newest 0 es n.name.now None
+    → option_flatten s ≡ newest 0 es q None
+finds_back es n h q r s e f k = ap option_flatten e ∙ by (bytes_eq n.name.now q) (is_name n.name.now q) (is_name-bytes_eq n.name.now q) (same_name n.name.now q) (f ∙ newest_last es (entry.Name n h) q None)
   where
-    by : (t u : Bool) → u ≡ t → (u ≡ true → n.name.now ≡ q) → or_none r ≡ cond u (Some (record { meant = n.meant; place = length es })) (newest 0 es q None) → or_none (cond t (Some h) r) ≡ newest 0 es q None
+    by : (t u : Bool) → u ≡ t → (u ≡ true → n.name.now ≡ q) → option_flatten r ≡ cond u (Some (record { meant = n.meant; place = length es })) (newest 0 es q None) → option_flatten (cond t (Some h) r) ≡ newest 0 es q None
     by true true p same g = k ∙ ap (λ x. newest 0 es x None) (same refl)
     by true false p same g = absurd (true≢false (sym p))
     by false true p same g = absurd (true≢false p)
@@ -100,9 +101,9 @@ same_spelled [] = refl
 same_spelled (x ∷ a) = grind (arith, same_spelled a)
 
 -- a name that has an entry is in the index
-pub is_found : (es : List Entry) (n : Named) (h : Option Bound) (r : Option (Option Bound)) → or_none r ≡ newest 0 (es ++ entry.Name n h ∷ []) n.name.now None → r ≡ None → ⊥
+pub is_found : (es : List Entry) (n : Named) (h : Option Bound) (r : Option (Option Bound)) → option_flatten r ≡ newest 0 (es ++ entry.Name n h ∷ []) n.name.now None → r ≡ None → ⊥
 is_found es n h r f none =
     let k : Bound = record { meant = n.meant; place = length es } in
     let e : newest 0 (es ++ entry.Name n h ∷ []) n.name.now None ≡ Some k = newest_last es (entry.Name n h) n.name.now None ∙ ap (λ t. cond t (Some k) (newest 0 es n.name.now None)) (same_spelled n.name.now) in
-    let none_found : or_none r ≡ None = ap or_none none in
+    let none_found : option_flatten r ≡ None = ap option_flatten none in
     cc

@@ -1,12 +1,12 @@
 -- What the names before a LET say of its definitions gives what they take and make known.
-use Rattle.std.proofs.Common.{◌≡◌, ℕ, ◌+◌, ◌<◌, ◌≤◌, refl, ap, ◌∙◌, sym, List, length, drop, get_or, Option}
+use Rattle.std.proofs.Common.{◌≡◌, ℕ, ◌+◌, ◌<◌, ◌≤◌, refl, ap, ◌∙◌, sym, true≢false, false, List, ◌∷◌, length, drop, get_or, Option}
 use Rattle.std.proofs.lemmas.List.{at_drop_more, drop-drop, drop_all}
 use Rattle.bc_tree.specs.declared.tree.Definition as code
 use Rattle.bc_tree.specs.View.{definition_view, definitions_view}
 use Rattle.bc_names.specs.declared.declaring.Prior.{Prior}
 use Rattle.bc_tree.specs.Tree.{Definition, Definitions, no_definitions, definition}
 use Rattle.bc_tree.specs.Tree as tree
-use Rattle.bc_names.specs.Priors.{prior_at, global_before, globals_before, greatest_of, all_greatest_of, cells_by, all_cells_by, routine_by, declared_by, all_declared_by}
+use Rattle.bc_names.specs.Priors.{prior_at, global_before, globals_before, greatest_of, all_greatest_of, has_vector, cells_by, all_cells_by, routine_by, declared_by, all_declared_by}
 use Rattle.bc_scoping.specs.Scope.{Env, Name, Numbers, Meant, Constant, Pending, Static, Global, Routine, Variable, Label, OuterVariable, OuterLabel, LabelOutside, Undeclared, meant_by}
 use Rattle.bc_scoping.specs.Scoping.{cells_of, cells_of_all, routine_name, in_definition, in_definitions}
 use Rattle.bc_scoping.specs.Found.{global_of}
@@ -47,6 +47,14 @@ all_declared_is B K at k (definition d ds) E =
     ap (λ j. all_declared_by (globals_before B ds) (all_greatest_of K ds) (behind_definition at d) (k + j) ds (declared_by (record { global = global_before B d; greatest = greatest_of K d }) at k d E)) (cells_are B K d)
     ∙ ap (λ F. all_declared_by (globals_before B ds) (all_greatest_of K ds) (behind_definition at d) (k + cells_of K d) ds F) (declared_is B K at k d E)
     ∙ all_declared_is B K (behind_definition at d) (k + cells_of K d) ds (in_definition B at k d E)
+
+-- without a vector nobody asks what the names of a LET mean
+pub greatest_anywhere : (K L : Env) (ds : Definitions) → has_vector ds ≡ false → all_greatest_of K ds ≡ all_greatest_of L ds
+greatest_anywhere K L no_definitions h = refl
+greatest_anywhere K L (definition (tree.Variables ns es) ds) h = ap (λ ws. 0 ∷ ws) (greatest_anywhere K L ds h)
+greatest_anywhere K L (definition (tree.Vector n k) ds) h = absurd (true≢false h)
+greatest_anywhere K L (definition (tree.Function n ps e) ds) h = ap (λ ws. 0 ∷ ws) (greatest_anywhere K L ds h)
+greatest_anywhere K L (definition (tree.Routine n ps b) ds) h = ap (λ ws. 0 ∷ ws) (greatest_anywhere K L ds h)
 
 -- one definition of a list, by what stands there
 

@@ -2,6 +2,7 @@
 use Rattle.std.specs.Prelude.{◌≡◌, ◌<◌, ◌+◌, ℕ, Bool, cond, List, [], ◌∷◌, length, take, Option, Some, None}
 use Rattle.std.proofs.Common.{get_or}
 use Rattle.std.specs.Borrow.{Bor}
+use Rattle.std.specs.Option.{option_flatten}
 use Rattle.std.specs.Str.{bytes_eq}
 use Rattle.indexmap.specs.IndexMap.{IndexMap, get}
 use Rattle.bc_names.specs.declared.scope.Borders.{Borders}
@@ -35,13 +36,9 @@ abbrev pub borders_of : (i : ℕ) → List Entry → Borders → Borders
 borders_of i [] b = b
 borders_of i (e ∷ es) b = borders_of (i + 1) es (behind_border i e b)
 
-abbrev pub or_none : Option (Option Bound) → Option Bound
-or_none None = None
-or_none (Some k) = k
-
 -- the index has the newest entry of each name
 abbrev pub Finds : {S : Type 0} → IndexMap (Bor (List ℕ)) (Option Bound) S → List Entry → Type 0
-Finds m es = (q : Bor (List ℕ)) → or_none (get is_key m q) ≡ newest 0 es q.now None
+Finds m es = (q : Bor (List ℕ)) → option_flatten (get is_key m q) ≡ newest 0 es q.now None
 
 -- an entry keeps what was known before it
 abbrev pub Keeps : List Entry → Entry → Type 0

@@ -1,5 +1,5 @@
 -- For proofs: what the names before a LET say of its definitions, and what these take and make known by that.
-use Rattle.std.specs.Prelude.{◌≡◌, ◌+◌, ℕ, List, [], ◌∷◌, drop, Option, Some, None}
+use Rattle.std.specs.Prelude.{◌≡◌, ◌+◌, ℕ, Bool, true, false, ◌||◌, List, [], ◌∷◌, drop, Option, Some, None}
 use Rattle.bc_tree.specs.Tree.{Definition, Definitions, no_definitions, definition}
 use Rattle.bc_tree.specs.Tree as tree
 use Rattle.bc_names.specs.declared.declaring.Prior.{Prior}
@@ -30,6 +30,17 @@ greatest_of K (tree.Routine n ps b) = 0
 abbrev pub all_greatest_of : Env → Definitions → List ℕ
 all_greatest_of K no_definitions = []
 all_greatest_of K (definition d ds) = greatest_of K d ∷ all_greatest_of K ds
+
+-- whether a LET has a constant that asks what its names mean
+abbrev pub is_vector : Definition → Bool
+is_vector (tree.Variables ns es) = false
+is_vector (tree.Vector n k) = true
+is_vector (tree.Function n ps e) = false
+is_vector (tree.Routine n ps b) = false
+
+abbrev pub has_vector : Definitions → Bool
+has_vector no_definitions = false
+has_vector (definition d ds) = is_vector d || has_vector ds
 
 abbrev pub ArePriors : Priors → Env → Definitions → Type 0
 ArePriors ps E ds = (ps.globals.items ≡ globals_before E ds) × (ps.greatest.items ≡ all_greatest_of (before_let ds E) ds)

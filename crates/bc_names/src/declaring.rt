@@ -6,7 +6,7 @@ ghost use Rattle.bc_scoping.specs.Numbering.{labels_of, labels_of_item};
 ghost use Rattle.bc_scoping.specs.Scoping.{pending, meant_as, in_entry, count, pending_names, names_of, before_let, cells_of_all, variables, in_let, in_label, in_labels, in_item, in_list};
 ghost use Rattle.bc_scoping.specs.Found.{global_of, in_parameters};
 ghost use Rattle.bc_names.specs.View.{meant_view, scope_view, numbers_view, Declares, Extends};
-ghost use Rattle.bc_names.specs.Priors.{global_before, globals_before, greatest_of, all_greatest_of, ArePriors, prior_at, cells_by, routine_by, declared_by};
+ghost use Rattle.bc_names.specs.Priors.{global_before, globals_before, greatest_of, all_greatest_of, is_vector, has_vector, ArePriors, prior_at, cells_by, routine_by, declared_by};
 
 use crate::constants::{constant, constant_in};
 use crate::numbering::{behind_definition, labels_named};
@@ -204,8 +204,48 @@ fn all_greatest_of(
     Ok(greatest)
 }
 
+fn is_vector(definition: &Definition<'_>) -> bool
+    ensures { result ≡ is_vector (definition_view definition.now) }
+{
+    match definition {
+        Definition::Vector(_, _) => true,
+        Definition::Variables(_, _)
+        | Definition::Function(_, _, _)
+        | Definition::Routine(_, _, _) => false,
+    }
+}
+
+/// Whether a LET declares a vector. Nothing else has constants that see its names as pending.
+pub fn has_vector(definitions: &[Definition<'_>]) -> bool
+    ensures { result ≡ has_vector (definitions_view definitions.now) }
+{
+    for definition in definitions {
+        if is_vector(definition) {
+            return true;
+        }
+    }
+    false
+}
+
+/// For each definition of a LET the constant of a vector, else 0. The scope is then as it was.
+#[tactic(auto, using(crate::proofs::Extends::left, crate::proofs::Lets::greatest_anywhere))]
+fn greatest_of_let<'s>(
+    scope: &mut Scope<'s>,
+    definitions: &[Definition<'s>],
+) -> Result<Vec<u16>, Memory>
+    ensures { IfOk result (λ ws. (ws.items ≡ all_greatest_of (before_let (definitions_view definitions.now) (scope_view scope.old)) (definitions_view definitions.now)) × (scope.new ≡ scope.old)) }
+{
+    if !has_vector(definitions) {
+        return all_greatest_of(scope, definitions);
+    }
+    let mark = scope.mark();
+    declare_let_pending(scope, definitions)?;
+    let greatest = all_greatest_of(scope, definitions)?;
+    scope.leave(mark);
+    Ok(greatest)
+}
+
 /// What the names before a LET say of its definitions. The scope is then as it was.
-#[tactic(auto, using(crate::proofs::Extends::left))]
 pub fn priors_of_let<'s>(
     scope: &mut Scope<'s>,
     definitions: &[Definition<'s>],
@@ -213,10 +253,7 @@ pub fn priors_of_let<'s>(
     ensures { IfOk result (λ priors. ArePriors priors (scope_view scope.old) (definitions_view definitions.now) × (scope.new ≡ scope.old)) }
 {
     let globals = globals_before(scope, definitions)?;
-    let mark = scope.mark();
-    declare_let_pending(scope, definitions)?;
-    let greatest = all_greatest_of(scope, definitions)?;
-    scope.leave(mark);
+    let greatest = greatest_of_let(scope, definitions)?;
     Ok(Priors { globals, greatest })
 }
 
@@ -305,7 +342,7 @@ pub fn declare_let<'s>(
         i = sum(i, 1)?;
         // Nothing asks for the numbers behind the last definition, which may be a walk over a large body.
         if i < definitions.len() as u64 {
-            at = behind_definition(at, definition)?;
+            behind_definition(&mut at, definition)?;
         }
     }
     Ok(offset)

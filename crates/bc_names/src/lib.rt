@@ -13,7 +13,7 @@ mod sides;
 pub use constants::{constant, constant_in, operator};
 pub use declaring::{
     Prior, Priors, count, declare_entry, declare_let, declare_let_pending, declare_list,
-    declare_parameters, declare_pending, priors_of_let,
+    declare_parameters, declare_pending, has_vector, priors_of_let,
 };
 pub use error::ScopeError;
 pub use numbering::{behind_block, behind_definition, behind_entry, labels_in};

@@ -51,68 +51,83 @@ pub fn behind_entry(storage: Storage, at: Numbers) -> Result<Numbers, Memory>
 
 fn behind_entries(
     storage: Storage,
-    at: Numbers,
+    at: &mut Numbers,
     entries: &[Constant<'_>],
-) -> Result<Numbers, Memory>
-    ensures { IfOk result (λ n. numbers_view n ≡ behind_entries storage (numbers_view at) (entries_view entries.now)) }
+) -> Result<(), Memory>
+    ensures { IfOk result (λ _. numbers_view at.new ≡ behind_entries storage (numbers_view at.old) (entries_view entries.now)) }
 {
-    let mut at = at;
     for _each in entries {
-        at = behind_entry(storage, at)?;
+        *at = behind_entry(storage, *at)?;
     }
-    Ok(at)
+    Ok(())
 }
 
 #[cycle(numbering)]
-fn behind(at: Numbers, e: &Exp<'_>) -> Result<Numbers, Memory>
-    ensures { IfOk result (λ n. numbers_view n ≡ behind (numbers_view at) (exp_view e.now)) }
+fn behind(at: &mut Numbers, e: &Exp<'_>) -> Result<(), Memory>
+    ensures { IfOk result (λ _. numbers_view at.new ≡ behind (numbers_view at.old) (exp_view e.now)) }
 {
     match e {
-        Exp::String(_) | Exp::Table(_) => at.behind_place(),
-        Exp::Valof(body) => behind_block(at.behind_valof()?, body),
+        Exp::String(_) | Exp::Table(_) => {
+            *at = at.behind_place()?;
+            Ok(())
+        }
+        Exp::Valof(body) => {
+            *at = at.behind_valof()?;
+            behind_block(at, body)
+        }
         Exp::Monadic(_, operand) => behind(at, operand),
-        Exp::Dyadic(_, left, right) => behind(behind(at, left)?, right),
-        Exp::Condition { test, this, that } => behind(behind(behind(at, test)?, this)?, that),
-        Exp::Call(routine, arguments) => behind_all(behind(at, routine)?, arguments),
-        Exp::Name(_) | Exp::Number(_) | Exp::Character(_) | Exp::True | Exp::False => Ok(at),
+        Exp::Dyadic(_, left, right) => {
+            behind(at, left)?;
+            behind(at, right)
+        }
+        Exp::Condition { test, this, that } => {
+            behind(at, test)?;
+            behind(at, this)?;
+            behind(at, that)
+        }
+        Exp::Call(routine, arguments) => {
+            behind(at, routine)?;
+            behind_all(at, arguments)
+        }
+        Exp::Name(_) | Exp::Number(_) | Exp::Character(_) | Exp::True | Exp::False => Ok(()),
     }
 }
 
 #[cycle(numbering)]
-fn behind_all(at: Numbers, list: &[Exp<'_>]) -> Result<Numbers, Memory>
-    ensures { IfOk result (λ n. numbers_view n ≡ behind_all (numbers_view at) (exps_view list.now)) }
+fn behind_all(at: &mut Numbers, list: &[Exp<'_>]) -> Result<(), Memory>
+    ensures { IfOk result (λ _. numbers_view at.new ≡ behind_all (numbers_view at.old) (exps_view list.now)) }
 {
-    let mut at = at;
     for e in list {
-        at = behind(at, e)?;
+        behind(at, e)?;
     }
-    Ok(at)
+    Ok(())
 }
 
 /// The numbers behind a block.
+///
+/// `Memory` comes where one would pass what 64 bits hold.
 #[cycle(numbering)]
-pub fn behind_block(at: Numbers, block: &Block<'_>) -> Result<Numbers, Memory>
-    ensures { IfOk result (λ n. numbers_view n ≡ behind_block (numbers_view at) (block_view block.now)) }
+pub fn behind_block(at: &mut Numbers, block: &Block<'_>) -> Result<(), Memory>
+    ensures { IfOk result (λ _. numbers_view at.new ≡ behind_block (numbers_view at.old) (block_view block.now)) }
 {
-    let at = behind_declarations(at, &block.declarations)?;
-    let at = at.behind_labels(labels_in(&block.items)?)?;
+    behind_declarations(at, &block.declarations)?;
+    *at = at.behind_labels(labels_in(&block.items)?)?;
     behind_items(at, &block.items)
 }
 
 #[cycle(numbering)]
-fn behind_declarations(at: Numbers, list: &[Declaration<'_>]) -> Result<Numbers, Memory>
-    ensures { IfOk result (λ n. numbers_view n ≡ behind_declarations (numbers_view at) (declarations_view list.now)) }
+fn behind_declarations(at: &mut Numbers, list: &[Declaration<'_>]) -> Result<(), Memory>
+    ensures { IfOk result (λ _. numbers_view at.new ≡ behind_declarations (numbers_view at.old) (declarations_view list.now)) }
 {
-    let mut at = at;
     for declaration in list {
-        at = behind_declaration(at, declaration)?;
+        behind_declaration(at, declaration)?;
     }
-    Ok(at)
+    Ok(())
 }
 
 #[cycle(numbering)]
-fn behind_declaration(at: Numbers, declaration: &Declaration<'_>) -> Result<Numbers, Memory>
-    ensures { IfOk result (λ n. numbers_view n ≡ behind_declaration (numbers_view at) (declaration_view declaration.now)) }
+fn behind_declaration(at: &mut Numbers, declaration: &Declaration<'_>) -> Result<(), Memory>
+    ensures { IfOk result (λ _. numbers_view at.new ≡ behind_declaration (numbers_view at.old) (declaration_view declaration.now)) }
 {
     match declaration {
         Declaration::Constants(storage, entries) => behind_entries(*storage, at, entries),
@@ -121,85 +136,108 @@ fn behind_declaration(at: Numbers, declaration: &Declaration<'_>) -> Result<Numb
 }
 
 #[cycle(numbering)]
-fn behind_definitions(at: Numbers, list: &[Definition<'_>]) -> Result<Numbers, Memory>
-    ensures { IfOk result (λ n. numbers_view n ≡ behind_definitions (numbers_view at) (definitions_view list.now)) }
+fn behind_definitions(at: &mut Numbers, list: &[Definition<'_>]) -> Result<(), Memory>
+    ensures { IfOk result (λ _. numbers_view at.new ≡ behind_definitions (numbers_view at.old) (definitions_view list.now)) }
 {
-    let mut at = at;
     for definition in list {
-        at = behind_definition(at, definition)?;
+        behind_definition(at, definition)?;
     }
-    Ok(at)
+    Ok(())
 }
 
 /// The numbers behind one definition.
+///
+/// `Memory` comes where one would pass what 64 bits hold.
 #[cycle(numbering)]
-pub fn behind_definition(at: Numbers, definition: &Definition<'_>) -> Result<Numbers, Memory>
-    ensures { IfOk result (λ n. numbers_view n ≡ behind_definition (numbers_view at) (definition_view definition.now)) }
+pub fn behind_definition(at: &mut Numbers, definition: &Definition<'_>) -> Result<(), Memory>
+    ensures { IfOk result (λ _. numbers_view at.new ≡ behind_definition (numbers_view at.old) (definition_view definition.now)) }
 {
     match definition {
         Definition::Variables(_, values) => behind_all(at, values),
-        Definition::Vector(_, _) => Ok(at),
-        Definition::Function(_, _, value) => behind(at.behind_place()?, value),
-        Definition::Routine(_, _, body) => behind_block(at.behind_place()?, body),
+        Definition::Vector(_, _) => Ok(()),
+        Definition::Function(_, _, value) => {
+            *at = at.behind_place()?;
+            behind(at, value)
+        }
+        Definition::Routine(_, _, body) => {
+            *at = at.behind_place()?;
+            behind_block(at, body)
+        }
     }
 }
 
 #[cycle(numbering)]
-fn behind_items(at: Numbers, list: &[Item<'_>]) -> Result<Numbers, Memory>
-    ensures { IfOk result (λ n. numbers_view n ≡ behind_items (numbers_view at) (items_view list.now)) }
+fn behind_items(at: &mut Numbers, list: &[Item<'_>]) -> Result<(), Memory>
+    ensures { IfOk result (λ _. numbers_view at.new ≡ behind_items (numbers_view at.old) (items_view list.now)) }
 {
-    let mut at = at;
     for item in list {
-        at = behind_item(at, item)?;
+        behind_item(at, item)?;
     }
-    Ok(at)
+    Ok(())
 }
 
 #[cycle(numbering)]
-fn behind_item(at: Numbers, item: &Item<'_>) -> Result<Numbers, Memory>
-    ensures { IfOk result (λ n. numbers_view n ≡ behind_item (numbers_view at) (item_view item.now)) }
+fn behind_item(at: &mut Numbers, item: &Item<'_>) -> Result<(), Memory>
+    ensures { IfOk result (λ _. numbers_view at.new ≡ behind_item (numbers_view at.old) (item_view item.now)) }
 {
     match &item.command {
         Some(command) => behind_command(at, command),
-        None => Ok(at),
+        None => Ok(()),
     }
 }
 
 #[cycle(numbering)]
-fn behind_command(at: Numbers, command: &Command<'_>) -> Result<Numbers, Memory>
-    ensures { IfOk result (λ n. numbers_view n ≡ behind_command (numbers_view at) (command_view command.now)) }
+fn behind_command(at: &mut Numbers, command: &Command<'_>) -> Result<(), Memory>
+    ensures { IfOk result (λ _. numbers_view at.new ≡ behind_command (numbers_view at.old) (command_view command.now)) }
 {
     match command {
-        Command::Assign(places, values) => behind_all(behind_all(at, places)?, values),
-        Command::Call(routine, arguments) => behind_all(behind(at, routine)?, arguments),
+        Command::Assign(places, values) => {
+            behind_all(at, places)?;
+            behind_all(at, values)
+        }
+        Command::Call(routine, arguments) => {
+            behind(at, routine)?;
+            behind_all(at, arguments)
+        }
         Command::Block(block) => behind_block(at, block),
         Command::ResultIs(value) => behind(at, value),
         Command::Repeat(repeated) => behind_command(at, repeated),
         Command::RepeatWhile(repeated, test) | Command::RepeatUntil(repeated, test) => {
-            behind(behind_command(at, repeated)?, test)
+            behind_command(at, repeated)?;
+            behind(at, test)
         }
         Command::If(test, body)
         | Command::Unless(test, body)
         | Command::While(test, body)
-        | Command::Until(test, body) => behind_block(behind(at, test)?, body),
+        | Command::Until(test, body) => {
+            behind(at, test)?;
+            behind_block(at, body)
+        }
         Command::Test { test, this, that } => {
-            behind_block(behind_block(behind(at, test)?, this)?, that)
+            behind(at, test)?;
+            behind_block(at, this)?;
+            behind_block(at, that)
         }
         Command::For {
             start,
             limit,
             body,
             ..
-        } => { behind_block(behind(behind(at, start)?, limit)?, body) }
+        } => {
+            behind(at, start)?;
+            behind(at, limit)?;
+            behind_block(at, body)
+        }
         Command::SwitchOn(value, items) => {
-            let at = behind(at, value)?;
-            behind_items(at.behind_labels(labels_in(items)?)?, items)
+            behind(at, value)?;
+            *at = at.behind_labels(labels_in(items)?)?;
+            behind_items(at, items)
         }
         Command::Break
         | Command::Loop
         | Command::EndCase
         | Command::Return
         | Command::Finish
-        | Command::Goto(_) => Ok(at),
+        | Command::Goto(_) => Ok(()),
     }
 }

@@ -146,19 +146,14 @@ impl<'s> Scope<'s> {
     pub fn declare(&mut self, name: &'s [u8], meant: Meant) -> Result<(), Memory>
         ensures { IfOk result (λ _. Declares self.old self.new ((name.entry.now, meant_view meant) ∷ scope_view self.old)) }
     {
-        let hidden = self.newest(name);
-        let bound = Bound {
-            meant,
-            place: self.entries.len(),
-        };
-        self.entries
-            .push(Entry::Name(Named { name, meant }, hidden))?;
-        match self.index.insert(name, Some(bound)) {
-            Ok(_) => Ok(()),
-            Err(_) => {
-                self.entries.pop();
-                Err(Memory)
-            }
+        // Behind this an entry more can't be refused, when the index has changed already.
+        self.entries.reserve(1)?;
+        let place = self.entries.len();
+        let hidden = self.index.insert(name, Some(Bound { meant, place }))?;
+        let named = Named { name, meant };
+        match self.entries.push(Entry::Name(named, hidden.flatten())) {
+            Ok(()) => Ok(()),
+            Err(_) => unreachable!(),
         }
     }
 

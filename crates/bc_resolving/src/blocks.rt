@@ -55,10 +55,7 @@ fn definition<'s>(
     match tree {
         Definition::Variables(_, values) => initials(scope, at, variables, values),
         Definition::Vector(_, _) => Ok(variables.push(Variable::Vector(Word::new(greatest)))?),
-        Definition::Function(_, _, _) | Definition::Routine(_, _, _) => {
-            *at = behind_definition(*at, tree)?;
-            Ok(())
-        }
+        Definition::Function(_, _, _) | Definition::Routine(_, _, _) => behind_definition(at, tree),
     }
 }
 

@@ -38,7 +38,8 @@ pub fn expression<'s>(scope: &Scope<'s>, at: &mut Numbers, e: &Exp<'s>) -> Resul
         }
         Exp::Valof(body) => {
             let number = short(at.valof)?;
-            *at = behind_block(at.behind_valof()?, body)?;
+            *at = at.behind_valof()?;
+            behind_block(at, body)?;
             Ok(Formed::Plain(CoreExp::Valof(number)))
         }
         Exp::Monadic(sign, operand) => {

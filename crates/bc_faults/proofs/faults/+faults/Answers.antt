@@ -92,7 +92,7 @@ vector_faults-loop-tree-preserved t c =
     let n = definitions_on c.args.list.now c.loop-tree.tree-index c.tree-item.result c.loop-tree-test.true c.tree-item.is in
     let v = rw n at c.loop-tree.invariant in
     let w = c.in_ok-vector_fault.ensures in
-    (rw (c.in_ok-push.ensures.items, w.1, c.in_ok-progress.ensures) (one_more_found c.loop-tree.faults.items c.in_ok-vector_fault.field-0 _ _ _ w.0 v.0), w.1 ∙ v.1)
+    (rw (c.in_ok-push.ensures.items, w.1, c.in_ok-behind_definition.ensures) (one_more_found c.loop-tree.faults.items c.in_ok-vector_fault.field-0 _ _ _ w.0 v.0), w.1 ∙ v.1)
 
 pub entries-loop-entry-preserved : goal.entries-loop-entry-preserved
 entries-loop-entry-preserved t c =

@@ -7,7 +7,7 @@ use Rattle.bc_names.specs.Priors.{globals_before, prior_at, cells_by, all_cells_
 use Rattle.bc_names.proofs.Extends.{extends_on}
 use Rattle.bc_names.proofs.Lets.{cells_on, declared_on, declared_last, cells_behind, declared_behind, all_cells_are, all_declared_is}
 use Rattle.bc_names.proofs.declaring.declare_let.Goals as goal
-use Rattle.bc_names.proofs.declaring.declare_let.Goals.{then-i-definitions+in_ok-at, else-i-definitions}
+use Rattle.bc_names.proofs.declaring.declare_let.Goals.{then-i-definitions+in_ok-behind_definition, else-i-definitions}
 
 pub loop-definition-preserved : goal.loop-definition-preserved
 loop-definition-preserved c =
@@ -31,8 +31,8 @@ loop-definition-preserved c =
     let rest = definitions_view (drop (i + 1) ds) in
     let numbered : all_declared_by (drop j gs) (drop j ws) (numbers_view c.if-i-definitions.at) c.in_ok-offset.offset rest (scope_view c.declare_definition.new.scope) ≡ all_declared_by (drop j gs) (drop j ws) behind c.in_ok-offset.offset rest (scope_view c.declare_definition.new.scope)
     = elim c.if-i-definitions.branch [
-      | then-i-definitions+in_ok-at w ↦
-          ap (λ a. all_declared_by (drop j gs) (drop j ws) a c.in_ok-offset.offset rest (scope_view c.declare_definition.new.scope)) (ap (λ a. numbers_view a) w.at-is ∙ w.in_ok-at.ensures)
+      | then-i-definitions+in_ok-behind_definition w ↦
+          ap (λ a. all_declared_by (drop j gs) (drop j ws) a c.in_ok-offset.offset rest (scope_view c.declare_definition.new.scope)) (ap (λ a. numbers_view a) w.at-is ∙ w.in_ok-behind_definition.ensures)
       | else-i-definitions w ↦
           declared_last (drop j gs) (drop j ws) (numbers_view c.if-i-definitions.at) behind c.in_ok-offset.offset ds (i + 1) (scope_view c.declare_definition.new.scope) (omega arith)
     ] in (

@@ -1,4 +1,5 @@
-use Rattle.std.proofs.Common.{◌≡◌, ◌∙◌, ℕ, ap, cond, sym, None, Some}
+use Rattle.std.proofs.Common.{◌≡◌, ◌∙◌, ◌++◌, ◌∷◌, [], ℕ, ap, cond, sym, None, Some}
+use Rattle.std.specs.Option.{option_flatten}
 use Rattle.std.specs.Str.{bytes_eq}
 use Rattle.bc_names.specs.declared.scope.Bound.{Bound}
 use Rattle.indexmap.specs.IndexMap.{get}
@@ -9,22 +10,22 @@ use Rattle.bc_names.proofs.Kept.{declares_push, can_undo_push, finds_name}
 use Rattle.bc_names.proofs.Names.{borders_last}
 use Rattle.bc_names.proofs.scope.Scope.declare.Goals as goal
 
-pub invariant_of-self-in-Ok : goal.invariant_of-self-in-Ok
-invariant_of-self-in-Ok c =
+pub invariant_of-self-2 : goal.invariant_of-self-2
+invariant_of-self-2 c =
     let es = c.self.inside.entries.items in
     let kept = c.self.invariant in
-    let put = c.in_ok-push.ensures.items in
     let n : Named = record { name = c.args.name; meant = c.args.meant } in
-    let h = c.newest-hidden.result in
-    let seen : es ≡ c.args.self.now = c.self.view_is in
+    let h = c.flatten.result in
+    let put : c.push.new.self.items ≡ es ++ entry.Name n h ∷ [] = c.in-Ok.ensures.items ∙ ap (λ l. l ++ entry.Name n h ∷ []) c.in_ok-reserve.ensures.items in
     let bound : ℕ → Bound = λ k. record { meant = c.args.meant; place = k } in
-    let keeps : h ≡ newest 0 es c.args.name.now None = rw seen c.newest-hidden.ensures in (
-      λ q. rw put (finds_name es n h q.now (get is_key c.self.inside.index q) (get is_key c.insert.new.self q) (c.in-Ok.ensures.updates.0 q ∙ ap (λ (k : ℕ). cond (bytes_eq c.args.name.now q.now) (Some (Some (bound k))) (get is_key c.self.inside.index q)) (c.len.ensures ∙ c.self.inside.entries.ok.0)) (kept.0 q)),
+    let place = c.len-place.ensures ∙ c.in_ok-reserve.ensures.len ∙ c.self.inside.entries.ok.0 in
+    let keeps : h ≡ newest 0 es c.args.name.now None = c.flatten.ensures ∙ ap option_flatten c.in_ok-hidden.ensures.old ∙ kept.0 c.args.name in (
+      λ q. rw put (finds_name es n h q.now (get is_key c.self.inside.index q) (get is_key c.insert.new.self q) (c.in_ok-hidden.ensures.updates.0 q ∙ ap (λ (k : ℕ). cond (bytes_eq c.args.name.now q.now) (Some (Some (bound k))) (get is_key c.self.inside.index q)) place) (kept.0 q)),
       rw put (kept.1 ∙ sym (borders_last es (entry.Name n h) no_borders)),
       rw put (can_undo_push es (entry.Name n h) kept.2 keeps),
     )
 
-pub returns-in-Ok : goal.returns-in-Ok
-returns-in-Ok c =
+pub returns : goal.returns
+returns c =
     let seen : c.self.inside.entries.items ≡ c.args.self.now = c.self.view_is in
-    rw c.in_ok-push.ensures.items (rw seen (declares_push c.args.self.now (entry.Name (record { name = c.args.name; meant = c.args.meant }) c.newest-hidden.result)))
+    rw (c.in-Ok.ensures.items, c.in_ok-reserve.ensures.items, seen) (declares_push c.args.self.now (entry.Name (record { name = c.args.name; meant = c.args.meant }) c.flatten.result))
