@@ -154,15 +154,6 @@ impl<'a> Nodes<'a> {
         self.spans.len()
     }
 
-    /// The same nodes.
-    pub fn again(&self) -> Nodes<'a>
-        ensures { result ≡ self.now }
-    {
-        let rows = self.rows;
-        let spans = self.spans;
-        Nodes { rows, spans }
-    }
-
     /// The first nodes, so many, and the others.
     pub fn split_at(&self, count: usize) -> (Nodes<'a>, Nodes<'a>)
         requires { count ≤ length self.now }
