@@ -1,6 +1,6 @@
 #!/usr/bin/env bash
 # The time of `select`, `rows`, `is_derivation` and `code_of` on roots of a thousand to a million nodes: sums to the left, quotients to the
-# right, balanced products, and calls in calls: the best of a number of runs of each. Prints millions of nodes a second for each, and how many
+# right, balanced products, and calls in calls: the best of a number of rounds. Prints millions of nodes a second for each, and how many
 # times as long twice the nodes take, which is the largest of the ratios from one size to the next. All of it twice: with memory as a first
 # call finds it, and with memory that was used before, so that what the system takes to hand out and zero its pages can be told apart.
 set -eu

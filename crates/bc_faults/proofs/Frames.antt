@@ -1,8 +1,9 @@
 -- Frames of parts, one behind another.
 use Rattle.std.proofs.Common.{◌≡◌, ℕ, max, arith, refl, ap, ◌∙◌, sym, nat_le, ◌&&◌, Bool, true, false, List, [], ◌∷◌, ◌++◌}
 use Rattle.bc_scoping.specs.Found.{Thing, AValof, ARoutine, Data}
-use Rattle.bc_scoping.specs.Frames.{frame_of}
-use Rattle.bc_scoping.specs.Faults.{AFrameTooLarge, unless, or_else, frames_fault}
+use Rattle.bc_scoping.specs.FramesAlong.{frame_of}
+use Rattle.bc_scoping.specs.Faults.{AFrameTooLarge, unless, or_else}
+use Rattle.bc_scoping.specs.FaultsAlong.{frames_fault}
 use Rattle.bc_faults.specs.Seen.{frames_fit}
 
 pub frames_along : (b : Bool) (xs ys : List Thing) → frames_fit b (xs ++ ys) ≡ frames_fit (frames_fit b xs) ys

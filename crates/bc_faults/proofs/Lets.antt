@@ -8,7 +8,8 @@ use Rattle.bc_names.specs.declared.error.ScopeError.{ScopeError}
 use Rattle.bc_scoping.specs.Scope.{Env, Name, Numbers}
 use Rattle.bc_scoping.specs.Numbering.{behind_definition}
 use Rattle.bc_scoping.specs.Scoping.{names_of}
-use Rattle.bc_scoping.specs.Faults.{Fault, or_else, definition_fault, definitions_fault}
+use Rattle.bc_scoping.specs.Faults.{Fault, or_else}
+use Rattle.bc_scoping.specs.FaultsAlong.{definition_fault, definitions_fault}
 use Rattle.bc_names.specs.Priors.{has_vector}
 use Rattle.bc_faults.specs.Vectors.{fault_view, vector_fault, vector_faults, no_faults, definition_fault_by, definitions_fault_by}
 

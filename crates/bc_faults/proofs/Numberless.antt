@@ -4,7 +4,7 @@ use Rattle.bc_tree.specs.Tree.{Items, no_items, item, Labelled, Labels_alone}
 use Rattle.bc_scoping.specs.Scope.{Env, Numbers}
 use Rattle.bc_scoping.specs.Numbering.{labels_of, behind_command}
 use Rattle.bc_scoping.specs.Found.{found_in_items, found_in_command}
-use Rattle.bc_scoping.specs.Frames.{width_of_items, width_of_command}
+use Rattle.bc_scoping.specs.FramesAlong.{width_of_items, width_of_command}
 
 pub items_found : (E : Env) (k : ℕ) (at : Numbers) (is : Items) (s : ℕ) → found_in_items E k at is s ≡ found_in_items E 0 at is s
 items_found E k at no_items s = refl

@@ -10,8 +10,9 @@ use Rattle.bc_scoping.specs.Scope.{Env, Numbers}
 use Rattle.bc_scoping.specs.Numbering.{labels_of, behind, behind_item, behind_command}
 use Rattle.bc_scoping.specs.Source.{labels_of_that}
 use Rattle.bc_scoping.specs.Found.{Thing, found_entry, found, found_in_sides, found_in_items, found_in_command}
-use Rattle.bc_scoping.specs.Frames.{width, widths, width_of_items, width_of_command}
-use Rattle.bc_scoping.specs.Faults.{Fault, Allowed, Met, or_else, met_labels, fault, sides_fault, items_fault, labels_fault, command_fault}
+use Rattle.bc_scoping.specs.FramesAlong.{width, widths, width_of_items, width_of_command}
+use Rattle.bc_scoping.specs.Faults.{Fault, Allowed, Met, or_else, met_labels}
+use Rattle.bc_scoping.specs.FaultsAlong.{fault, sides_fault, items_fault, labels_fault, command_fault}
 use Rattle.bc_faults.specs.Seen.{frames_fit}
 use Rattle.bc_faults.specs.Parts.{item_fault, item_found, item_width, head_level, side_width}
 use Rattle.bc_faults.proofs.Numberless.{items_found, items_width}

@@ -3,8 +3,9 @@ use Rattle.std.specs.Prelude.{ℕ, Bool, List, [], ◌∷◌, Option}
 use Rattle.bc_tree.specs.Tree.{Item, Labelled, Labels_alone}
 use Rattle.bc_scoping.specs.Scope.{Env, Numbers}
 use Rattle.bc_scoping.specs.Found.{Thing, found_in_command}
-use Rattle.bc_scoping.specs.Frames.{width_of_command}
-use Rattle.bc_scoping.specs.Faults.{Fault, Allowed, Met, or_else, labels_fault, command_fault}
+use Rattle.bc_scoping.specs.FramesAlong.{width_of_command}
+use Rattle.bc_scoping.specs.Faults.{Fault, Allowed, Met, or_else}
+use Rattle.bc_scoping.specs.FaultsAlong.{labels_fault, command_fault}
 
 abbrev pub item_fault : (cases : Bool) → Met → Allowed → Env → Numbers → Item → (s : ℕ) → Option Fault
 item_fault cases M W E at (Labelled ls c) s = or_else (labels_fault cases M E at ls) (command_fault W E at c s)

@@ -9,7 +9,7 @@ use Rattle.bc_faults.specs.declared.progress.Progress.{Progress}
 use Rattle.bc_faults.specs.Judged.{IsFault}
 use Rattle.bc_scoping.specs.Scope.{Numbers}
 use Rattle.bc_scoping.specs.Found.{Thing, AValof, ARoutine, Data}
-use Rattle.bc_scoping.specs.Frames.{frame_of}
+use Rattle.bc_scoping.specs.FramesAlong.{frame_of}
 use Rattle.bc_scoping.specs.Faults.{Fault, Allowed, Met}
 
 abbrev pub allowed_view : code_allowed.Allowed → Allowed

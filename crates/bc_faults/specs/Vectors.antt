@@ -7,7 +7,8 @@ use Rattle.bc_names.specs.declared.error.ScopeError.TheVariants as code
 use Rattle.bc_scoping.specs.Scope.{Env, Name, Numbers}
 use Rattle.bc_scoping.specs.Numbering.{behind_definition}
 use Rattle.bc_scoping.specs.Scoping.{names_of}
-use Rattle.bc_scoping.specs.Faults.{Fault, AnUndeclared, ADeclaredTwice, ADynamicFree, ANotConstant, AGlobalNumber, ANotAssignable, AMisplaced, AFrameTooLarge, ACaseTwice, ATooManyPlaces, or_else, unless, all_twice_fault, not_constant, fault, definition_fault}
+use Rattle.bc_scoping.specs.Faults.{Fault, AnUndeclared, ADeclaredTwice, ADynamicFree, ANotConstant, AGlobalNumber, ANotAssignable, AMisplaced, AFrameTooLarge, ACaseTwice, ATooManyPlaces, or_else, unless, all_twice_fault, not_constant}
+use Rattle.bc_scoping.specs.FaultsAlong.{fault, definition_fault}
 
 abbrev pub fault_of : ScopeError → Option Fault
 fault_of (code.Undeclared n) = Some (AnUndeclared n.now)

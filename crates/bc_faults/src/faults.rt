@@ -14,8 +14,10 @@ ghost use Rattle.bc_scoping.specs.Numbering.{labels_in, behind_entries, behind, 
 ghost use Rattle.bc_scoping.specs.Scoping.{count, names_of, before_let, in_let, cells_of_all, in_entries, in_declaration, in_declarations, cells_in, level_behind, in_for, in_list};
 ghost use Rattle.bc_scoping.specs.Sides.{side_levels};
 ghost use Rattle.bc_scoping.specs.Found.{section_start, found_in_section, routine, Gives, Does, in_parameters, found, found_in_arguments, found_in_sides, found_in_initials, found_in_entries, found_in_definition, found_in_definitions, found_in_declaration, found_in_declarations, found_in_block, found_in_items, found_in_command};
-ghost use Rattle.bc_scoping.specs.Frames.{all_held, widest, width, widths, width_of_arguments, width_of_initials, width_of_definition, width_of_definitions, width_of_declaration, width_of_declarations, width_of_block, width_of_items, width_of_command};
-ghost use Rattle.bc_scoping.specs.Faults.{ANotAssignable, or_else, unless, none_met, met_label, met_labels, in_a_loop, in_a_switch, allowed_in_routine, all_have_cells, not_constant, all_twice_fault, fault, arguments_fault, constants_fault, sides_fault, initials_fault, entries_fault, definitions_fault, declaration_fault, declarations_fault, frames_fault, block_fault, label_fault, labels_fault, items_fault, command_fault};
+ghost use Rattle.bc_scoping.specs.Frames.{all_held, widest};
+ghost use Rattle.bc_scoping.specs.FramesAlong.{width, widths, width_of_arguments, width_of_initials, width_of_definition, width_of_definitions, width_of_declaration, width_of_declarations, width_of_block, width_of_items, width_of_command};
+ghost use Rattle.bc_scoping.specs.Faults.{ANotAssignable, or_else, unless, none_met, met_label, met_labels, in_a_loop, in_a_switch, allowed_in_routine, all_have_cells, not_constant, all_twice_fault};
+ghost use Rattle.bc_scoping.specs.FaultsAlong.{fault, arguments_fault, constants_fault, sides_fault, initials_fault, entries_fault, definitions_fault, declaration_fault, declarations_fault, frames_fault, block_fault, label_fault, labels_fault, items_fault, command_fault};
 ghost use Rattle.bc_names.specs.View.{scope_view, numbers_view};
 ghost use Rattle.bc_faults.specs.Judged.{Judges, Passes};
 ghost use Rattle.bc_faults.specs.Kept.{Keeps, Grows};

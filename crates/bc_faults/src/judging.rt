@@ -2,7 +2,7 @@
 ghost use Rattle.std.specs.Prelude.{◌≡◌, true, None, length, drop, [], ◌∷◌, ◌++◌, IfOk};
 ghost use Rattle.bc_tree.specs.View.{exp_view, exps_view, definitions_view};
 ghost use Rattle.bc_scoping.specs.Frames.{all_held, widest};
-ghost use Rattle.bc_scoping.specs.Faults.{AMisplaced, unless, allowed_in_routine, allowed_in_valof, in_a_loop, in_a_switch, name_fault, jump_fault, is_cell, is_load, is_index, has_cell, address_fault, all_have_cells, twice_fault, all_twice_fault, none_met, case_fault, default_fault, entry_fault};
+ghost use Rattle.bc_scoping.specs.Faults.{AMisplaced, unless, allowed_in_routine, allowed_in_valof, in_a_loop, in_a_switch, name_fault, jump_fault, is_cell, has_cell, address_fault, all_have_cells, twice_fault, all_twice_fault, none_met, case_fault, default_fault, entry_fault};
 ghost use Rattle.bc_names.specs.View.{meant_view, scope_view};
 ghost use Rattle.bc_core.specs.Level.{level_behind_parameters};
 ghost use Rattle.bc_faults.specs.Parts.{head_level, side_width};
@@ -144,33 +144,16 @@ fn is_cell(meant: Meant) -> bool
     }
 }
 
-fn is_load(sign: Monadic) -> bool
-    ensures { result ≡ is_load sign }
-{
-    match sign {
-        Monadic::Load => true,
-        Monadic::Not | Monadic::Negate | Monadic::Address => false,
-    }
-}
-
-fn is_index(sign: Dyadic) -> bool
-    ensures { result ≡ is_index sign }
-{
-    match sign {
-        Dyadic::Index => true,
-        _ => false,
-    }
-}
-
 /// Whether an expression is a variable, `!E` or `E1!E2`.
 fn has_cell(scope: &Scope<'_>, e: &Exp<'_>) -> bool
     ensures { result ≡ has_cell (scope_view scope.now) (exp_view e.now) }
 {
     match e {
         Exp::Name(name) => is_cell(scope.meant_by(name)),
-        Exp::Monadic(sign, _) => is_load(*sign),
-        Exp::Dyadic(sign, _, _) => is_index(*sign),
-        Exp::Number(_)
+        Exp::Monadic(Monadic::Load, _) | Exp::Dyadic(Dyadic::Index, _, _) => true,
+        Exp::Monadic(_, _)
+        | Exp::Dyadic(_, _, _)
+        | Exp::Number(_)
         | Exp::Character(_)
         | Exp::String(_)
         | Exp::True

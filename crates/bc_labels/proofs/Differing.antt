@@ -11,8 +11,10 @@ use Rattle.bc_scoping.specs.Numbering.{behind, behind_all, behind_declarations, 
 use Rattle.bc_scoping.specs.Scoping.{constant, in_declarations, level_behind, in_for, in_list}
 use Rattle.bc_scoping.specs.Translation.{Forms, forms_of_all, assignments, assignment, core_labels, core_block, core_items, core_command, core_body, places_of, valofs_of}
 use Rattle.bc_scoping.specs.Found.{RoutineBody, Gives, Does, Thing, AValof, ARoutine, Data, AStatic, ATable, AText, found_in_section}
-use Rattle.bc_scoping.specs.Faults.{Fault, ACaseTwice, AMisplaced, or_else, unless, Met, met_label, met_labels, has_value, Allowed, labels_fault, items_fault, section_fault}
+use Rattle.bc_scoping.specs.Faults.{Fault, ACaseTwice, AMisplaced, or_else, unless, Met, met_label, met_labels, has_value, Allowed, section_fault}
+use Rattle.bc_scoping.specs.FaultsAlong.{labels_fault, items_fault}
 use Rattle.bc_scoping.specs.Faults as faults
+use Rattle.bc_scoping.specs.FaultsAlong as along
 use Rattle.bc_translation.proofs.Fits.{AllThings, none_left, none_right, no_fault}
 use Rattle.bc_translation.proofs.Cleanness.{Clean, body_fault}
 use Rattle.bc_translation.proofs.Fitting.{section_clean, sections_fit}
@@ -64,7 +66,7 @@ labels_fresh M E k at (tree.label (tree.Case c) ls) is h i =
     let w = constant E c in
     let M1 = met_label E M (tree.Case c) in
     let js = core_labels E (k + 0) ls is in
-    let of_constant = or_else (faults.fault true E at c 0) (faults.not_constant E c) in
+    let of_constant = or_else (along.fault true E at c 0) (faults.not_constant E c) in
     let twice : Option Fault = unless (not (has_value M.values w)) ACaseTwice in
     let rest = labels_fault true M1 E at ls in
     let new = not_true (has_value M.values w) (no_fault (not (has_value M.values w)) ACaseTwice (none_right of_constant twice (none_left (or_else of_constant twice) rest h))) in
@@ -98,7 +100,7 @@ items_fresh : (M : Met) (W : Allowed) (E : Env) (k : ℕ) (at : Numbers) (is : t
 items_fresh M W E k at tree.no_items s h = record { apart = λ v l. refl; distinct = refl; none = λ e. refl; few = omega arith }
 items_fresh M W E k at (tree.item (tree.Labelled ls c) is) s h =
     let M1 = met_labels E M ls in
-    let of_command = faults.command_fault W E at c s in
+    let of_command = along.command_fault W E at c s in
     let rest = items_fault true M1 W E (behind_command at c) is s in
     let inner = items_fresh M1 W E (k + labels_of ls) (behind_command at c) is s (none_right of_command rest (none_right (labels_fault true M E at ls) (or_else of_command rest) h)) in
     labels_fresh M E k at ls _ (none_left (labels_fault true M E at ls) (or_else of_command rest) h) (record { apart = inner.apart; distinct = inner.distinct; none = inner.none; few = inner.few })
@@ -129,26 +131,26 @@ assignment_differs (f ∷ []) (g ∷ g1 ∷ gs) = pairs_differ (f ∷ []) (g ∷
 assignment_differs (f ∷ []) (g ∷ []) = refl
 
 mutual
-  block_differs : (W : Allowed) (E : Env) (at : Numbers) (b : tree.Block) (s : ℕ) → faults.block_fault W E at b s ≡ None → block_cases_differ (core_block E at b s) ≡ true
+  block_differs : (W : Allowed) (E : Env) (at : Numbers) (b : tree.Block) (s : ℕ) → along.block_fault W E at b s ≡ None → block_cases_differ (core_block E at b s) ≡ true
   block_differs W E at (tree.block ds is) s h =
       let at1 = behind_declarations at ds in
       let k = at1.label in
       let E1 = in_list k is (in_declarations E at s ds) in
       let at2 = behind_labels at1 (labels_in is) in
       let s1 = level_behind E at s ds in
-      items_differ false faults.none_met W E1 k at2 is s1 (none_right (faults.declarations_fault true E at ds s) (items_fault false faults.none_met W E1 at2 is s1) h)
+      items_differ false faults.none_met W E1 k at2 is s1 (none_right (along.declarations_fault true E at ds s) (items_fault false faults.none_met W E1 at2 is s1) h)
 
   items_differ : (cases : Bool) (M : Met) (W : Allowed) (E : Env) (k : ℕ) (at : Numbers) (is : tree.Items) (s : ℕ) → items_fault cases M W E at is s ≡ None → items_cases_differ (core_items E k at is s) ≡ true
   items_differ cases M W E k at tree.no_items s h = refl
   items_differ cases M W E k at (tree.item (tree.Labelled ls c) is) s h =
-      let of_command = faults.command_fault W E at c s in
+      let of_command = along.command_fault W E at c s in
       let rest = items_fault cases (met_labels E M ls) W E (behind_command at c) is s in
       let h1 = none_right (labels_fault cases M E at ls) (or_else of_command rest) h in
       labels_differ E k ls _ ∙ both_true _ _ (command_differs W E at c s (none_left of_command rest h1)) (items_differ cases (met_labels E M ls) W E (k + labels_of ls) (behind_command at c) is s (none_right of_command rest h1))
   items_differ cases M W E k at (tree.item (tree.Labels_alone ls) is) s h =
       labels_differ E k ls _ ∙ items_differ cases (met_labels E M ls) W E (k + labels_of ls) at is s (none_right (labels_fault cases M E at ls) (items_fault cases (met_labels E M ls) W E at is s) h)
 
-  command_differs : (W : Allowed) (E : Env) (at : Numbers) (c : tree.Command) (s : ℕ) → faults.command_fault W E at c s ≡ None → command_cases_differ (core_command E at c s) ≡ true
+  command_differs : (W : Allowed) (E : Env) (at : Numbers) (c : tree.Command) (s : ℕ) → along.command_fault W E at c s ≡ None → command_cases_differ (core_command E at c s) ≡ true
   command_differs W E at (tree.Assign xs es) s h = assignment_differs (forms_of_all E at xs) (forms_of_all E (behind_all at xs) es)
   command_differs W E at (tree.Do f es) s h = refl
   command_differs W E at (tree.Compound b) s h = block_differs W E at b s h
@@ -161,45 +163,45 @@ mutual
   command_differs W E at (tree.Goto n) s h = refl
   command_differs W E at (tree.Repeat c) s h = both_true _ true (command_differs (faults.in_a_loop W) E at c s h) refl
   command_differs W E at (tree.RepeatWhile c e) s h =
-      both_true _ true (command_differs (faults.in_a_loop W) E at c s (none_left (faults.command_fault (faults.in_a_loop W) E at c s) (faults.fault false E (behind_command at c) e s) h)) refl
+      both_true _ true (command_differs (faults.in_a_loop W) E at c s (none_left (along.command_fault (faults.in_a_loop W) E at c s) (along.fault false E (behind_command at c) e s) h)) refl
   command_differs W E at (tree.RepeatUntil c e) s h =
-      both_true _ true (command_differs (faults.in_a_loop W) E at c s (none_left (faults.command_fault (faults.in_a_loop W) E at c s) (faults.fault false E (behind_command at c) e s) h)) refl
-  command_differs W E at (tree.If e b) s h = block_differs W E (behind at e) b s (none_right (faults.fault false E at e s) (faults.block_fault W E (behind at e) b s) h)
-  command_differs W E at (tree.Unless e b) s h = block_differs W E (behind at e) b s (none_right (faults.fault false E at e s) (faults.block_fault W E (behind at e) b s) h)
+      both_true _ true (command_differs (faults.in_a_loop W) E at c s (none_left (along.command_fault (faults.in_a_loop W) E at c s) (along.fault false E (behind_command at c) e s) h)) refl
+  command_differs W E at (tree.If e b) s h = block_differs W E (behind at e) b s (none_right (along.fault false E at e s) (along.block_fault W E (behind at e) b s) h)
+  command_differs W E at (tree.Unless e b) s h = block_differs W E (behind at e) b s (none_right (along.fault false E at e s) (along.block_fault W E (behind at e) b s) h)
   command_differs W E at (tree.While e b) s h =
-      block_differs (faults.in_a_loop W) E (behind at e) b s (none_right (faults.fault false E at e s) (faults.block_fault (faults.in_a_loop W) E (behind at e) b s) h)
+      block_differs (faults.in_a_loop W) E (behind at e) b s (none_right (along.fault false E at e s) (along.block_fault (faults.in_a_loop W) E (behind at e) b s) h)
   command_differs W E at (tree.Until e b) s h =
-      block_differs (faults.in_a_loop W) E (behind at e) b s (none_right (faults.fault false E at e s) (faults.block_fault (faults.in_a_loop W) E (behind at e) b s) h)
+      block_differs (faults.in_a_loop W) E (behind at e) b s (none_right (along.fault false E at e s) (along.block_fault (faults.in_a_loop W) E (behind at e) b s) h)
   command_differs W E at (tree.Test e b c) s h =
       let be = behind at e in
       let bb = behind_block be b in
-      let this = faults.block_fault W E be b s in
-      let that = faults.block_fault W E bb c s in
-      let h1 = none_right (faults.fault false E at e s) (or_else this that) h in
+      let this = along.block_fault W E be b s in
+      let that = along.block_fault W E bb c s in
+      let h1 = none_right (along.fault false E at e s) (or_else this that) h in
       both_true _ _ (block_differs W E be b s (none_left this that h1)) (block_differs W E bb c s (none_right this that h1))
   command_differs W E at (tree.For n a z b) s h =
       let ba = behind at a in
       let s1 = level_in_for s in
       let E1 = in_for E n s in
-      let body = faults.block_fault (faults.in_a_loop W) E1 (behind ba z) b s1 in
-      let limit = faults.fault false E ba z s1 in
-      block_differs (faults.in_a_loop W) E1 (behind ba z) b s1 (none_right limit body (none_right (faults.fault false E at a s1) (or_else limit body) h))
+      let body = along.block_fault (faults.in_a_loop W) E1 (behind ba z) b s1 in
+      let limit = along.fault false E ba z s1 in
+      block_differs (faults.in_a_loop W) E1 (behind ba z) b s1 (none_right limit body (none_right (along.fault false E at a s1) (or_else limit body) h))
   command_differs W E at (tree.ForBy n a z k b) s h =
       let ba = behind at a in
       let s1 = level_in_for s in
       let E1 = in_for E n s in
-      let body = faults.block_fault (faults.in_a_loop W) E1 (behind ba z) b s1 in
-      let limit = faults.fault false E ba z s1 in
-      let step = or_else (faults.fault true E (behind ba z) k 0) (faults.not_constant E k) in
+      let body = along.block_fault (faults.in_a_loop W) E1 (behind ba z) b s1 in
+      let limit = along.fault false E ba z s1 in
+      let step = or_else (along.fault true E (behind ba z) k 0) (faults.not_constant E k) in
       block_differs (faults.in_a_loop W) E1 (behind ba z) b s1
-      (none_right step body (none_right limit (or_else step body) (none_right (faults.fault false E at a s1) (or_else limit (or_else step body)) h)))
+      (none_right step body (none_right limit (or_else step body) (none_right (along.fault false E at a s1) (or_else limit (or_else step body)) h)))
   command_differs W E at (tree.SwitchOn e is) s h =
       let be = behind at e in
       let k = be.label in
       let E1 = in_list k is E in
       let at1 = behind_labels be (labels_in is) in
       let W1 = faults.in_a_switch W in
-      let h1 = none_right (faults.fault false E at e s) (items_fault true faults.none_met W1 E1 at1 is s) h in
+      let h1 = none_right (along.fault false E at e s) (items_fault true faults.none_met W1 E1 at1 is s) h in
       let js = core_items E1 k at1 is s in
       let own = items_fresh faults.none_met W1 E1 k at1 is s h1 in
       both_true (are_distinct (cases_of js) && nat_le (defaults_in js) 1) (items_cases_differ js)

@@ -21,7 +21,7 @@ use std::alloc::Global;
 fn side<'s>(scope: &Scope<'s>, at: &mut Numbers, list: &[Exp<'s>]) -> Result<Vec<Formed>, Memory>
     ensures { Translates (λ fs. formed_list fs.items) result (forms_of_all (scope_view scope.now) (numbers_view at.old) (exps_view list.now)) at.new (behind_all (numbers_view at.old) (exps_view list.now)) }
 {
-    let mut formed = Vec::new(scope.alloc());
+    let mut formed = Vec::with_capacity(scope.alloc(), list.len())?;
     for e in list {
         formed.push(expression(scope, at, e)?)?;
     }
@@ -32,7 +32,7 @@ fn side<'s>(scope: &Scope<'s>, at: &mut Numbers, list: &[Exp<'s>]) -> Result<Vec
 fn pairs(alloc: Global, places: Vec<Formed>, values: Vec<Formed>) -> Result<Vec<ListItem>, Memory>
     ensures { IfOk result (λ is. items_of is.items ≡ assignments (formed_list places.items) (formed_list values.items)) }
 {
-    let mut list = Vec::new(alloc);
+    let mut list = Vec::with_capacity(alloc, places.len())?;
     for (place, value) in places.into_iter().zip(values) {
         list.push(ListItem::Command(CoreCommand::Assign {
             value: value.content(alloc)?,

@@ -90,7 +90,7 @@ fn arguments<'s>(
 ) -> Result<Vec<CoreExp>, Memory>
     ensures { Translates (λ es. args es.items) result (core_arguments (scope_view scope.now) (numbers_view at.old) (exps_view list.now)) at.new (behind_all (numbers_view at.old) (exps_view list.now)) }
 {
-    let mut values = Vec::new(scope.alloc());
+    let mut values = Vec::with_capacity(scope.alloc(), list.len())?;
     for e in list {
         values.push(value(scope, at, e)?)?;
     }

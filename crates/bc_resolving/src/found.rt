@@ -30,7 +30,7 @@ use std::alloc::Global;
 fn words_of_table<'s>(scope: &Scope<'s>, values: &[Exp<'s>]) -> Result<Vec<Word>, Memory>
     ensures { IfOk result (λ ws. ws.items ≡ words_of (scope_view scope.now) (exps_view values.now)) }
 {
-    let mut words = Vec::new(scope.alloc());
+    let mut words = Vec::with_capacity(scope.alloc(), values.len())?;
     for e in values {
         words.push(constant(scope, e))?;
     }

@@ -7,8 +7,10 @@ use Rattle.bc_core.specs.Level.{level_behind_parameters}
 use Rattle.bc_core.specs.Layout.{Bodies, cells_of_block, cells_of_body}
 use Rattle.bc_scoping.specs.Found.{Found, FoundRoutine, RoutineBody, Gives, Does, Thing, AValof, ARoutine, Data, AStatic, ATable, AText, found_in_section, section_start}
 use Rattle.bc_scoping.specs.Translation.{core_block, valofs_of, places_of, core_body, core_routine, core_of}
-use Rattle.bc_scoping.specs.Frames.{width_of_body, frame_of}
-use Rattle.bc_scoping.specs.Faults.{Fault, AFrameTooLarge, or_else, unless, frames_fault, places_fault, declarations_fault}
+use Rattle.bc_scoping.specs.FramesAlong.{width_of_body, frame_of}
+use Rattle.bc_scoping.specs.Faults.{Fault, AFrameTooLarge, or_else, unless, places_fault}
+use Rattle.bc_scoping.specs.FaultsAlong.{frames_fault, declarations_fault}
+use Rattle.bc_translation.proofs.AlikeFaults.{same_section_fault}
 use Rattle.bc_translation.proofs.Table.{same_number, other_number}
 use Rattle.bc_translation.proofs.Numbered.{Nested, body_of, routine_body, found_in_routine, all_nested}
 use Rattle.bc_translation.proofs.Widths.{AllWide, block_wide, exp_wide, first_wide}
@@ -117,7 +119,7 @@ roots_have_levels T choice ds n =
     let levels = level_of c.valofs in
     let nested = all_nested ds in
     let behind = or_else (frames_fault fs) (places_fault fs) in
-    let frames = none_left (frames_fault fs) (places_fault fs) (none_right (declarations_fault false [] section_start ds 0) behind n) in
+    let frames = none_left (frames_fault fs) (places_fault fs) (none_right (declarations_fault false [] section_start ds 0) behind (same_section_fault ds ∙ n)) in
     let V = table levels 0 c.valofs in
     let wide = table_wide levels 0 1 fs nested (all_at levels 0 1 fs nested (λ i. let m : 0 + i ≡ i = omega arith in ap levels m)) in
     let bodies = bodies_from Plain (marked_over coding levels) 0 c.valofs in

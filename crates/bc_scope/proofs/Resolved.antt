@@ -12,19 +12,21 @@ use Rattle.bc_names.specs.declared.error.ScopeError.TheVariants as code
 use Rattle.bc_faults.specs.Judged.{IsFault}
 use Rattle.bc_scoping.specs.Found.{Thing, AValof, ARoutine, Data, section_start, found_in_section}
 use Rattle.bc_scoping.specs.Translation.{places_of, core_of}
-use Rattle.bc_scoping.specs.Faults.{Fault, ATooManyPlaces, unless, or_else, declarations_fault, frames_fault, places_among, places_fault, section_fault}
+use Rattle.bc_scoping.specs.Faults.{Fault, ATooManyPlaces, unless, or_else, places_among, places_fault, section_fault}
+use Rattle.bc_scoping.specs.FaultsAlong.{declarations_fault, frames_fault}
+use Rattle.bc_translation.proofs.AlikeFaults.{same_section_fault}
 use Rattle.bc_translation.proofs.Fitting.{sections_fit}
 
--- the first fault but for the number of places
+-- the first fault but for the number of places, as it is found
 abbrev pub judged : Declarations → Option Fault
 judged ds = or_else (declarations_fault false [] section_start ds 0) (frames_fault (found_in_section ds))
 
-along : (a b c : Option Fault) → or_else a (or_else b c) ≡ or_else (or_else a b) c
-along None b c = refl
-along (Some f) b c = refl
+grouped : (a b c : Option Fault) → or_else a (or_else b c) ≡ or_else (or_else a b) c
+grouped None b c = refl
+grouped (Some f) b c = refl
 
 pub places_last : (ds : Declarations) → section_fault ds ≡ or_else (judged ds) (places_fault (found_in_section ds))
-places_last ds = along (declarations_fault false [] section_start ds 0) (frames_fault (found_in_section ds)) (places_fault (found_in_section ds))
+places_last ds = sym (same_section_fault ds) ∙ grouped (declarations_fault false [] section_start ds 0) (frames_fault (found_in_section ds)) (places_fault (found_in_section ds))
 
 first : (a b : Option Fault) (f : Fault) → a ≡ Some f → or_else a b ≡ Some f
 first a b f h = ap (λ x. or_else x b) h

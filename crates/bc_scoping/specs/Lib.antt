@@ -7,8 +7,10 @@ pub mod Source
 pub mod Translation
 pub mod Found
 pub mod Frames
+pub mod FramesAlong
 pub mod Sections
 pub mod Faults
+pub mod FaultsAlong
 pub mod Words
 pub mod Examples
 pub mod FaultExamples

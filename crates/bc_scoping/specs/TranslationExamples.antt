@@ -13,8 +13,8 @@ use Rattle.bc_scoping.specs.Scope.{Env, Constant, Global, Routine, Variable}
 use Rattle.bc_scoping.specs.Scoping.{level_behind}
 use Rattle.bc_scoping.specs.Sides.{side_level_of}
 use Rattle.bc_scoping.specs.Translation.{forms, core_of}
-use Rattle.bc_scoping.specs.Found.{section_start, found_in_section}
-use Rattle.bc_scoping.specs.Frames.{frames_found}
+use Rattle.bc_scoping.specs.Found.{Thing, AValof, ARoutine, Data, section_start, found_in_section}
+use Rattle.bc_scoping.specs.Frames.{frame_of}
 use Rattle.bc_scoping.specs.Examples.{a, b, f, g, l, v, x, y, start, wrch, of, number, two, list, call, set, do_call, plain, labelled, body, commands, lets, variables, variable, constants, declarations, alone, program}
 
 abbrev at : ℕ → core.Exp
@@ -103,8 +103,15 @@ abbrev these : List c.Command → c.Items
 these [] = c.no_item
 these (d ∷ ds) = c.command d (these ds)
 
+-- of the routines that are found, in text order
+abbrev frames_among : List Thing → List ℕ
+frames_among [] = []
+frames_among (ARoutine r ∷ things) = frame_of r ∷ frames_among things
+frames_among (AValof f ∷ things) = frames_among things
+frames_among (Data label d ∷ things) = frames_among things
+
 abbrev frames : Declarations → List ℕ
-frames ds = frames_found (found_in_section ds)
+frames ds = frames_among (found_in_section ds)
 
 -- `LET A, B = 1, 2; A := A + B`: the roots' level is 4, and the frame has 6 cells
 abbrev sum : Declarations

@@ -19,6 +19,7 @@ use Rattle.bc_scoping.specs.Translation.{Forms, form_of_name, form_of_monadic, f
 use Rattle.bc_scoping.specs.Found.{Thing, AValof, ARoutine, Data, found, found_in_arguments, found_in_definition, found_in_definitions, found_in_entries}
 use Rattle.bc_scoping.specs.Faults.{Fault, or_else, unless, Allowed}
 use Rattle.bc_scoping.specs.Faults as faults
+use Rattle.bc_scoping.specs.FaultsAlong as along
 use Rattle.bc_translation.proofs.Forms.{count_kept}
 
 -- of all things that are found
@@ -115,23 +116,23 @@ manifest_fits P L at None = tt
 manifest_fits P L at (Some w) = tt
 
 abbrev first_part : (ns : List Name) (at : Numbers) (x : Name) (k : tree.Exp) (E : Env) → Option Fault
-first_part ns at x k E = or_else (faults.fault true E at k 0) (faults.not_constant E k)
+first_part ns at x k E = or_else (along.fault true E at k 0) (faults.not_constant E k)
 
 abbrev last_part : (s : Storage) (ns : List Name) (at : Numbers) (x : Name) (k : tree.Exp) (es : tree.Entries) (E : Env) → Option Fault
-last_part s ns at x k es E = faults.entries_fault s (ns ++ (x ∷ [])) (behind_entry s at) es (in_entry s at x k E)
+last_part s ns at x k es E = along.entries_fault s (ns ++ (x ∷ [])) (behind_entry s at) es (in_entry s at x k E)
 
-behind_constant : (s : Storage) (ns : List Name) (at : Numbers) (x : Name) (k : tree.Exp) (es : tree.Entries) (E : Env) → faults.entries_fault s ns at (tree.entry x k es) E ≡ None → or_else (faults.entry_fault s E x k) (last_part s ns at x k es E) ≡ None
+behind_constant : (s : Storage) (ns : List Name) (at : Numbers) (x : Name) (k : tree.Exp) (es : tree.Entries) (E : Env) → along.entries_fault s ns at (tree.entry x k es) E ≡ None → or_else (faults.entry_fault s E x k) (last_part s ns at x k es E) ≡ None
 behind_constant s ns at x k es E n =
     none_right (first_part ns at x k E) (or_else (faults.entry_fault s E x k) (last_part s ns at x k es E))
     (none_right (faults.twice_fault ns x) (or_else (first_part ns at x k E) (or_else (faults.entry_fault s E x k) (last_part s ns at x k es E))) n)
 
-own_entry_fault : (s : Storage) (ns : List Name) (at : Numbers) (x : Name) (k : tree.Exp) (es : tree.Entries) (E : Env) → faults.entries_fault s ns at (tree.entry x k es) E ≡ None → faults.entry_fault s E x k ≡ None
+own_entry_fault : (s : Storage) (ns : List Name) (at : Numbers) (x : Name) (k : tree.Exp) (es : tree.Entries) (E : Env) → along.entries_fault s ns at (tree.entry x k es) E ≡ None → faults.entry_fault s E x k ≡ None
 own_entry_fault s ns at x k es E n = none_left (faults.entry_fault s E x k) (last_part s ns at x k es E) (behind_constant s ns at x k es E n)
 
-behind_entry_fault : (s : Storage) (ns : List Name) (at : Numbers) (x : Name) (k : tree.Exp) (es : tree.Entries) (E : Env) → faults.entries_fault s ns at (tree.entry x k es) E ≡ None → last_part s ns at x k es E ≡ None
+behind_entry_fault : (s : Storage) (ns : List Name) (at : Numbers) (x : Name) (k : tree.Exp) (es : tree.Entries) (E : Env) → along.entries_fault s ns at (tree.entry x k es) E ≡ None → last_part s ns at x k es E ≡ None
 behind_entry_fault s ns at x k es E n = none_right (faults.entry_fault s E x k) (last_part s ns at x k es E) (behind_constant s ns at x k es E n)
 
-pub sound_entries : {L : List ℕ} (A : Around) (s : Storage) (ns : List Name) (at : Numbers) (es : tree.Entries) (E : Env) → AllThings (Stands A) (found_in_entries s at es E) → faults.entries_fault s ns at es E ≡ None → Sound A.places L E → Sound A.places L (in_entries s at es E)
+pub sound_entries : {L : List ℕ} (A : Around) (s : Storage) (ns : List Name) (at : Numbers) (es : tree.Entries) (E : Env) → AllThings (Stands A) (found_in_entries s at es E) → along.entries_fault s ns at es E ≡ None → Sound A.places L E → Sound A.places L (in_entries s at es E)
 sound_entries A s ns at tree.no_entries E h n so = so
 sound_entries {L} A storage.Manifest ns at (tree.entry x k es) E h n so =
     sound_entries A storage.Manifest (ns ++ (x ∷ [])) at es _ h (behind_entry_fault storage.Manifest ns at x k es E n) (sound_more x _ (manifest_fits A.places L at (constant_in E k)) so)

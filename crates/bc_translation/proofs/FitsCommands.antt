@@ -21,6 +21,7 @@ use Rattle.bc_scoping.specs.Sides.{side_levels}
 use Rattle.bc_scoping.specs.Source.{among_labels, has_label_in, label_number}
 use Rattle.bc_scoping.specs.Faults.{Fault, or_else, unless, Allowed}
 use Rattle.bc_scoping.specs.Faults as faults
+use Rattle.bc_scoping.specs.FaultsAlong as along
 use Rattle.bc_translation.proofs.Declared.{cells_kept, level_kept}
 use Rattle.bc_translation.proofs.Small.{small, few, nodes_of_addresses, nodes_of_contents, addresses_small, contents_small}
 use Rattle.bc_translation.proofs.Items.{label_among, label_kept, levels}
@@ -136,30 +137,30 @@ distinct E k at (tree.item (tree.Labels_alone ls) is) s =
 some_none : (f : Fault) → Some f ≡ None → ⊥
 some_none f h = cc
 
-no_case : (M : faults.Met) (E : Env) (k : ℕ) (at : Numbers) (ls : tree.Labels) (is : Items) → faults.labels_fault false M E at ls ≡ None → has_entries (core_labels E k ls is) ≡ has_entries is
+no_case : (M : faults.Met) (E : Env) (k : ℕ) (at : Numbers) (ls : tree.Labels) (is : Items) → along.labels_fault false M E at ls ≡ None → has_entries (core_labels E k ls is) ≡ has_entries is
 no_case M E k at tree.no_labels is h = refl
 no_case M E k at (tree.label (tree.Case c) ls) is h =
-    let constant_fault = or_else (faults.fault true E at c 0) (faults.not_constant E c) in
-    let rest = faults.labels_fault false (faults.met_label E M (tree.Case c)) E at ls in
+    let constant_fault = or_else (along.fault true E at c 0) (faults.not_constant E c) in
+    let rest = along.labels_fault false (faults.met_label E M (tree.Case c)) E at ls in
     absurd (some_none faults.AMisplaced (none_right constant_fault (Some faults.AMisplaced) (none_left (or_else constant_fault (Some faults.AMisplaced)) rest h)))
 no_case M E k at (tree.label tree.Default ls) is h =
-    absurd (some_none faults.AMisplaced (none_left (Some faults.AMisplaced) (faults.labels_fault false (faults.met_label E M tree.Default) E at ls) h))
+    absurd (some_none faults.AMisplaced (none_left (Some faults.AMisplaced) (along.labels_fault false (faults.met_label E M tree.Default) E at ls) h))
 no_case M E k at (tree.label (tree.Named n) ls) is h =
     let M1 = faults.met_label E M (tree.Named n) in
-    no_case M1 E (k + 1) at ls is (none_right (faults.twice_fault M.names n) (faults.labels_fault false M1 E at ls) h)
+    no_case M1 E (k + 1) at ls is (none_right (faults.twice_fault M.names n) (along.labels_fault false M1 E at ls) h)
 
-no_cases : (M : faults.Met) (W : Allowed) (E : Env) (k : ℕ) (at : Numbers) (is : tree.Items) (s : ℕ) → faults.items_fault false M W E at is s ≡ None → has_entries (core_items E k at is s) ≡ false
+no_cases : (M : faults.Met) (W : Allowed) (E : Env) (k : ℕ) (at : Numbers) (is : tree.Items) (s : ℕ) → along.items_fault false M W E at is s ≡ None → has_entries (core_items E k at is s) ≡ false
 no_cases M W E k at tree.no_items s h = refl
 no_cases M W E k at (tree.item (tree.Labelled ls c) is) s h =
-    let rest = faults.items_fault false (faults.met_labels E M ls) W E (behind_command at c) is s in
-    let of_item = or_else (faults.command_fault W E at c s) rest in
-    no_case M E k at ls _ (none_left (faults.labels_fault false M E at ls) of_item h)
+    let rest = along.items_fault false (faults.met_labels E M ls) W E (behind_command at c) is s in
+    let of_item = or_else (along.command_fault W E at c s) rest in
+    no_case M E k at ls _ (none_left (along.labels_fault false M E at ls) of_item h)
     ∙ no_cases (faults.met_labels E M ls) W E (k + labels_of ls) (behind_command at c) is s
-    (none_right (faults.command_fault W E at c s) rest (none_right (faults.labels_fault false M E at ls) of_item h))
+    (none_right (along.command_fault W E at c s) rest (none_right (along.labels_fault false M E at ls) of_item h))
 no_cases M W E k at (tree.item (tree.Labels_alone ls) is) s h =
-    let rest = faults.items_fault false (faults.met_labels E M ls) W E at is s in
-    no_case M E k at ls _ (none_left (faults.labels_fault false M E at ls) rest h)
-    ∙ no_cases (faults.met_labels E M ls) W E (k + labels_of ls) at is s (none_right (faults.labels_fault false M E at ls) rest h)
+    let rest = along.items_fault false (faults.met_labels E M ls) W E at is s in
+    no_case M E k at ls _ (none_left (along.labels_fault false M E at ls) rest h)
+    ∙ no_cases (faults.met_labels E M ls) W E (k + labels_of ls) at is s (none_right (along.labels_fault false M E at ls) rest h)
 
 labels_fit : (A : Around) (J : Jumps) (E : Env) (k : ℕ) (ls : tree.Labels) (is : Items) (s : ℕ) → items_fit A J (core_labels E k ls is) s ≡ items_fit A J is s
 labels_fit A J E k tree.no_labels is s = refl
@@ -258,12 +259,12 @@ definitions_fit A O E B at (tree.definition d ds) s z so h =
     (definition_fits A O E B at d s (omega arith) so (first (Stands A) of_first of_rest h))
     (definitions_fit A O E B (behind_definition at d) ds s (omega arith) so (second (Stands A) of_first of_rest h))
 
-pub sound_declaration : {L : List ℕ} (i : Bool) (A : Around) (E : Env) (at : Numbers) (d : tree.Declaration) (s : ℕ) → Sound A.places L E → AllThings (Stands A) (found_in_declaration E at d s) → faults.declaration_fault i E at d s ≡ None → Sound A.places L (in_declaration E at s d)
+pub sound_declaration : {L : List ℕ} (i : Bool) (A : Around) (E : Env) (at : Numbers) (d : tree.Declaration) (s : ℕ) → Sound A.places L E → AllThings (Stands A) (found_in_declaration E at d s) → along.declaration_fault i E at d s ≡ None → Sound A.places L (in_declaration E at s d)
 sound_declaration i A E at (tree.Constants k es) s so h n = sound_entries A k [] at es (pending es E) h n (sound_pending es E so)
 sound_declaration i A E at (tree.Let ds) s so h n =
     sound_definitions A E (in_let E at s ds) E (before_let ds E) at s (s + scoping.cells_of_all (before_let ds E) ds) ds E h so
 
-pub sound_declarations : {L : List ℕ} (i : Bool) (A : Around) (E : Env) (at : Numbers) (ds : tree.Declarations) (s : ℕ) → Sound A.places L E → AllThings (Stands A) (found_in_declarations E at ds s) → faults.declarations_fault i E at ds s ≡ None → Sound A.places L (in_declarations E at s ds)
+pub sound_declarations : {L : List ℕ} (i : Bool) (A : Around) (E : Env) (at : Numbers) (ds : tree.Declarations) (s : ℕ) → Sound A.places L E → AllThings (Stands A) (found_in_declarations E at ds s) → along.declarations_fault i E at ds s ≡ None → Sound A.places L (in_declarations E at s ds)
 sound_declarations i A E at tree.no_declarations s so h n = so
 sound_declarations i A E at (tree.declaration d ds) s so h n =
     let of_first = found_in_declaration E at d s in
@@ -271,7 +272,7 @@ sound_declarations i A E at (tree.declaration d ds) s so h n =
     sound_declarations i A (in_declaration E at s d) (behind_declaration at d) ds (s + cells_in E d)
     (sound_declaration i A E at d s so (first (Stands A) of_first of_rest h) (none_left _ _ n)) (second (Stands A) of_first of_rest h) (none_right _ _ n)
 
-declarations_stand : {L : List ℕ} (i : Bool) (A : Around) (E : Env) (at : Numbers) (ds : tree.Declarations) (s : ℕ) → declarations_size ds ≤ most_size → Sound A.places L E → AllThings (Stands A) (found_in_declarations E at ds s) → faults.declarations_fault i E at ds s ≡ None → declarations_fit A (core_declarations E at s ds) s ≡ true
+declarations_stand : {L : List ℕ} (i : Bool) (A : Around) (E : Env) (at : Numbers) (ds : tree.Declarations) (s : ℕ) → declarations_size ds ≤ most_size → Sound A.places L E → AllThings (Stands A) (found_in_declarations E at ds s) → along.declarations_fault i E at ds s ≡ None → declarations_fit A (core_declarations E at s ds) s ≡ true
 declarations_stand i A E at tree.no_declarations s z so h n = refl
 declarations_stand i A E at (tree.declaration (tree.Constants k es) ds) s z so h n =
     let d : tree.Declaration = tree.Constants k es in
@@ -318,7 +319,7 @@ body_fits : (A : Around) (J : Jumps) (c : core.Command) (s : ℕ) → command_fi
 body_fits A J c s h = plain_fits A J (command c no_item) s refl refl (λ i. h i && true)
 
 mutual
-  pub block_fit : (A : Around) (W : Allowed) (L : List ℕ) (E : Env) (at : Numbers) (b : tree.Block) (s : ℕ) → block_size b ≤ most_size → Sound A.places L E → AllThings (Stands A) (found_in_block E at b s) → faults.block_fault W E at b s ≡ None
+  pub block_fit : (A : Around) (W : Allowed) (L : List ℕ) (E : Env) (at : Numbers) (b : tree.Block) (s : ℕ) → block_size b ≤ most_size → Sound A.places L E → AllThings (Stands A) (found_in_block E at b s) → along.block_fault W E at b s ≡ None
       → block_fits A (jumps_of W L) (core_block E at b s) s ≡ true
   block_fit A W L E at (tree.block ds is) s z so h n =
       let at1 = behind_declarations at ds in
@@ -336,7 +337,7 @@ mutual
       (λ i. hd i && not (no_cases faults.none_met W E1 k at2 is s1 (none_right _ _ n) i) && distinct E1 k at2 is s1 i && items_fit A (jumps_of W (fitting.labels_of items ++ L)) items (sym (level_kept E at s ds) i))
       ∙ hi
 
-  items_stand : (A : Around) (cases : Bool) (M : faults.Met) (W : Allowed) (L : List ℕ) (E : Env) (k : ℕ) (at : Numbers) (is : tree.Items) (s : ℕ) → items_size is ≤ most_size → Sound A.places L E → AllThings (Stands A) (found_in_items E k at is s) → faults.items_fault cases M W E at is s ≡ None
+  items_stand : (A : Around) (cases : Bool) (M : faults.Met) (W : Allowed) (L : List ℕ) (E : Env) (k : ℕ) (at : Numbers) (is : tree.Items) (s : ℕ) → items_size is ≤ most_size → Sound A.places L E → AllThings (Stands A) (found_in_items E k at is s) → along.items_fault cases M W E at is s ≡ None
       → items_fit A (jumps_of W L) (core_items E k at is s) s ≡ true
   items_stand A cases M W L E k at tree.no_items s z so h n = refl
   items_stand A cases M W L E k at (tree.item (tree.Labelled ls c) is) s z so h n =
@@ -349,7 +350,7 @@ mutual
   items_stand A cases M W L E k at (tree.item (tree.Labels_alone ls) is) s z so h n =
       labels_fit A (jumps_of W L) E k ls _ s ∙ items_stand A cases (faults.met_labels E M ls) W L E (k + labels_of ls) at is s (omega arith) so h (none_right _ _ n)
 
-  pub command_fit : (A : Around) (W : Allowed) (L : List ℕ) (E : Env) (at : Numbers) (c : tree.Command) (s : ℕ) → command_size c ≤ most_size → Sound A.places L E → AllThings (Stands A) (found_in_command E at c s) → faults.command_fault W E at c s ≡ None
+  pub command_fit : (A : Around) (W : Allowed) (L : List ℕ) (E : Env) (at : Numbers) (c : tree.Command) (s : ℕ) → command_size c ≤ most_size → Sound A.places L E → AllThings (Stands A) (found_in_command E at c s) → along.command_fault W E at c s ≡ None
       → command_fits A (jumps_of W L) (translation.core_command E at c s) s ≡ true
   command_fit A W L E at (tree.Assign xs es) s z so h n =
       let ss = side_levels E xs s in
@@ -457,7 +458,7 @@ mutual
       let ny = (small E ba y).1 in
       let la : nodes (forms E at a).content + 1 ≤ most_nodes = omega arith in
       let ly : nodes (forms E ba y).content + 1 ≤ most_nodes = omega arith in
-      let hb = block_fit A (faults.in_a_loop W) L (in_for E x s) by b s1 (omega arith) (sound_more x (Variable s) tt so) (second (Stands A) of_limit of_body rest) (none_right (or_else (faults.fault true E by k 0) (faults.not_constant E k)) _ (none_right (faults.fault false E ba y s1) _ (none_right (faults.fault false E at a s1) _ n))) in
+      let hb = block_fit A (faults.in_a_loop W) L (in_for E x s) by b s1 (omega arith) (sound_more x (Variable s) tt so) (second (Stands A) of_limit of_body rest) (none_right (or_else (along.fault true E by k 0) (faults.not_constant E k)) _ (none_right (along.fault false E ba y s1) _ (none_right (along.fault false E at a s1) _ n))) in
       λ i. (few (nodes (forms E at a).content + 1) la i && ha.1 i && true) && (few (nodes (forms E ba y).content + 1) ly i && hy.1 i && true) && hb i
   command_fit A W L E at (tree.SwitchOn e is) s z so h n =
       let be = behind at e in

@@ -9,9 +9,10 @@ use Rattle.bc_core.specs.Layout.{frame_size, cells_of_valofs}
 use Rattle.bc_core.specs.WellFormed.{Around, stands_at, body_fits, places_fit, valofs_fit}
 use Rattle.bc_scoping.specs.Scope.{Env}
 use Rattle.bc_scoping.specs.Found.{RoutineBody, Gives, Does, Thing, AValof, ARoutine, Data, AStatic, ATable, AText, found_in_section, section_start}
-use Rattle.bc_scoping.specs.Frames.{frame_of}
+use Rattle.bc_scoping.specs.FramesAlong.{frame_of}
 use Rattle.bc_scoping.specs.Translation.{forms, core_body, core_routine, places_of, valofs_of}
-use Rattle.bc_scoping.specs.Faults.{Fault, AFrameTooLarge, or_else, unless, declarations_fault, frames_fault, places_fault, section_fault, allowed_in_routine, allowed_in_valof}
+use Rattle.bc_scoping.specs.Faults.{Fault, AFrameTooLarge, or_else, unless, places_fault, section_fault, allowed_in_routine, allowed_in_valof}
+use Rattle.bc_scoping.specs.FaultsAlong.{declarations_fault, frames_fault}
 use Rattle.bc_translation.specs.Laws.{SectionsFit}
 use Rattle.bc_translation.proofs.Small.{small}
 use Rattle.bc_translation.proofs.Table.{same_number}
@@ -19,6 +20,7 @@ use Rattle.bc_translation.proofs.Numbered.{Nested, body_of, routine_body, found_
 use Rattle.bc_translation.proofs.Widths.{AllWide, table_wide, wide_in_routine, first_wide}
 use Rattle.bc_translation.proofs.Fits.{AllThings, first, Stands, IsLabel, Sound, none_left, none_right, no_fault, exp_fit}
 use Rattle.bc_translation.proofs.FitsCommands.{most_size, root_fit, block_fit}
+use Rattle.bc_translation.proofs.AlikeFaults.{same_section_fault}
 use Rattle.bc_translation.proofs.Cleanness.{Clean, body_fault, body_size, clean_declarations}
 
 abbrev among : (places first : ℕ) → List ℕ → Around
@@ -99,7 +101,7 @@ section_clean ds z n =
     let fs = found_in_section ds in
     let empty : Sound (length (places_of fs)) [] [] = record { from = λ q. tt } in
     clean_declarations false (among (length (places_of fs)) 0 (levels_of fs)) [] [] section_start ds 0 z empty (section_stands ds)
-    (none_left (declarations_fault false [] section_start ds 0) (or_else (frames_fault fs) (places_fault fs)) n)
+    (none_left (declarations_fault false [] section_start ds 0) (or_else (frames_fault fs) (places_fault fs)) (same_section_fault ds ∙ n))
 
 pub sections_fit : SectionsFit
 sections_fit ds z n =
@@ -108,7 +110,7 @@ sections_fit ds z n =
     let A : Around = among places 0 (levels_of fs) in
     let nested = all_nested ds in
     let behind = or_else (frames_fault fs) (places_fault fs) in
-    let n1 = none_left (frames_fault fs) (places_fault fs) (none_right (declarations_fault false [] section_start ds 0) behind n) in
+    let n1 = none_left (frames_fault fs) (places_fault fs) (none_right (declarations_fault false [] section_start ds 0) behind (same_section_fault ds ∙ n)) in
     let o : 1 ≤ 1 = omega arith in
     let w : 1 + length (places_of fs) ≤ places + 1 = omega arith in
     let g : (i : ℕ) → slice_get (levels_of fs) i ≡ slice_get (levels_of fs) (0 + i) = λ i. let m : i ≡ 0 + i = omega arith in ap (slice_get (levels_of fs)) m in

@@ -4,13 +4,13 @@ use Rattle.bc_core.specs.Level.{side_level}
 use Rattle.bc_core.specs.Layout.{cells_of_valofs}
 use Rattle.bc_scoping.specs.Translation.{Forms, forms_of_all, places_of, valofs_of}
 use Rattle.bc_scoping.specs.Found.{Thing, AValof, ARoutine, Data, AStatic, ATable, AText, found_in_section}
-use Rattle.bc_scoping.specs.Frames.{frames_found}
-use Rattle.bc_translation.specs.Laws.{LevelsAreTheSections, FramesAreTheSections, NumbersRise, frames_of_places, labels_found, numbers_found, counted}
+use Rattle.bc_translation.specs.Laws.{LevelsAreTheSections, FramesAreTheSections, NumbersRise, frames_of_places, frames_found, labels_found, numbers_found, counted}
 use Rattle.bc_translation.proofs.Forms.{count_kept}
 use Rattle.bc_translation.proofs.Items.{levels}
 use Rattle.bc_translation.proofs.Declared as declared
 use Rattle.bc_translation.proofs.SideLevels.{levels_kept}
 use Rattle.bc_translation.proofs.Numbered.{Nested, routine_body, all_nested}
+use Rattle.bc_translation.proofs.AlikeWidths.{same_frame}
 use Rattle.bc_translation.proofs.Widths.{AllWide, table_wide, wide_in_routine, first_wide}
 
 levels_are : (fs : List Forms) (s : ℕ) → levels fs s ≡ map (λ (f : Forms). side_level f.address s) fs
@@ -33,7 +33,7 @@ frames_kept all n q (Data label (AText bytes) ∷ things) w k = frames_kept all 
 frames_kept all n q (ARoutine r ∷ things) w k =
     let V = cells_of_valofs 0 (valofs_of all) in
     let wide = wide_in_routine all r (first_wide V (routine_body r) k.0.0 (subst (λ gs. AllWide V gs) k.0.1 w)) in
-    λ i. sym wide i ∷ frames_kept all n (q + 1) things w k.1 i
+    λ i. (sym wide ∙ same_frame r) i ∷ frames_kept all n (q + 1) things w k.1 i
 
 pub frames_are_the_sections : FramesAreTheSections
 frames_are_the_sections ds =

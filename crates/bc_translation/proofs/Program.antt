@@ -1,5 +1,5 @@
 -- A program of sections means what the program of their translations means.
-use Rattle.std.proofs.Common.{◌≡◌, ◌∙◌, ℕ, ◌+◌, ◌==◌, Bool, true, false, List, [], ◌∷◌, ◌++◌, map, Option, Some, None, refl, ap, subst}
+use Rattle.std.proofs.Common.{◌≡◌, ◌∙◌, ℕ, ◌+◌, ◌==◌, Bool, true, false, List, [], ◌∷◌, ◌++◌, map, Option, Some, None, refl, sym, ap, subst}
 use Rattle.bc_tree.specs.Tree.{Declarations}
 use Rattle.bc_core.specs.Level.{level_behind_parameters}
 use Rattle.bc_core.specs.Layout.{cells_of_valofs}
@@ -20,6 +20,7 @@ use Rattle.bc_translation.proofs.Forms.{in_context}
 use Rattle.bc_translation.proofs.Main.{Bodies, AllRight, first, exp_means, block_means}
 use Rattle.bc_translation.proofs.Numbered.{Nested, found_in_routine, routine_body, all_nested}
 use Rattle.bc_translation.proofs.Table.{table, table_right}
+use Rattle.bc_translation.proofs.AlikeWidths.{same_frame}
 use Rattle.bc_translation.proofs.Widths.{AllWide, table_wide, wide_in_routine, first_wide}
 
 -- both find the same
@@ -54,7 +55,7 @@ among_kept address ds n q (ARoutine r ∷ things) a h w k =
     ∙ tested (address q == a) (OfSection section (core_routine r)) (routine_entered address r) _ _
     (λ i. Some (record {
       parameters = r.parameters;
-      frame = wide_in_routine (found_in_section ds) r wide i;
+      frame = (sym (same_frame r) ∙ wide_in_routine (found_in_section ds) r wide) i;
       body = λ call f. routine_kept (around address call) (bodies address (found_in_section ds) call) f r r.body (right call f) i;
     }))
     (among_kept address ds n (q + 1) things a h w k.1)

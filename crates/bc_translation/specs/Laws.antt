@@ -1,5 +1,5 @@
 -- Laws: the translation keeps the meaning, and fits.
-use Rattle.std.specs.Prelude.{ℕ, ◌≡◌, ◌+◌, ◌≤◌, true, None, List, [], ◌∷◌, map}
+use Rattle.std.specs.Prelude.{ℕ, ◌≡◌, ◌+◌, ◌≤◌, Bool, true, None, List, [], ◌∷◌, map}
 use Rattle.bc_step.specs.Streams.{Content}
 use Rattle.bc_tree.specs.Tree.{Exp, Exps, Command, Declarations}
 use Rattle.bc_tree.specs.Size.{declarations_size}
@@ -13,14 +13,17 @@ use Rattle.bc_core.specs.WellFormed.{is_core}
 use Rattle.bc_core.specs.Value.{sense}
 use Rattle.bc_core.specs.Command.{perform}
 use Rattle.bc_core.specs.Meaning.{context, valofs_from, meaning}
-use Rattle.bc_scoping.specs.Scope.{Env, Numbers}
+use Rattle.bc_scoping.specs.Scope.{Meant, Static, Global, Routine, Variable, Env, Numbers}
+use Rattle.bc_scoping.specs.Scope as scope
 use Rattle.bc_scoping.specs.Scoping.{count, level_behind}
 use Rattle.bc_scoping.specs.Sides.{side_levels}
 use Rattle.bc_scoping.specs.Source.{Around, worth, run_command}
 use Rattle.bc_scoping.specs.Translation.{Forms, forms, forms_of_all, core_arguments, core_declarations, core_command, valofs_of, core_of}
-use Rattle.bc_scoping.specs.Found.{Thing, AValof, ARoutine, Data, found, found_in_command, found_in_section}
-use Rattle.bc_scoping.specs.Frames.{frames_found}
-use Rattle.bc_scoping.specs.Faults.{section_fault}
+use Rattle.bc_scoping.specs.Found.{Thing, AValof, ARoutine, Data, FoundRoutine, found, found_in_command, found_in_section}
+use Rattle.bc_scoping.specs.Frames.{width, width_of_declarations, width_of_command, frame_of}
+use Rattle.bc_scoping.specs.FramesAlong as frames_along
+use Rattle.bc_scoping.specs.Faults.{Allowed, fault, declarations_fault, command_fault, section_fault}
+use Rattle.bc_scoping.specs.FaultsAlong as faults_along
 use Rattle.bc_scoping.specs.Words.{DeclarationsHaveWords}
 use Rattle.bc_scoping.specs.Sections.{meaning_of_sections}
 
@@ -54,6 +57,13 @@ frames_of_places valofs [] = []
 frames_of_places valofs (Code r ∷ places) = frame_size valofs r ∷ frames_of_places valofs places
 frames_of_places valofs (place ∷ places) = frames_of_places valofs places
 
+-- of the routines that are found, in text order
+abbrev pub frames_found : List Thing → List ℕ
+frames_found [] = []
+frames_found (ARoutine r ∷ things) = frame_of r ∷ frames_found things
+frames_found (AValof f ∷ things) = frames_found things
+frames_found (Data label d ∷ things) = frames_found things
+
 -- routine by routine
 abbrev pub FramesAreTheSections : Type 0
 FramesAreTheSections =
@@ -84,6 +94,39 @@ NumbersRise =
     let labels = labels_found (found_in_section ds) in
     let numbers = numbers_found (found_in_section ds) in
     (labels ≡ counted 1 labels) × (numbers ≡ counted 0 numbers)
+
+-- Neither widths nor faults depend on numbers, and faults not on levels: with whatever numbers the known names mean something, and whatever comes next
+
+abbrev pub without_number : Meant → Meant
+without_number (Static m) = Static 0
+without_number (Global n) = Global 0
+without_number (Routine m) = Routine 0
+without_number (Variable k) = Variable 0
+without_number (scope.Label l) = scope.Label 0
+without_number m = m
+
+abbrev pub without_numbers : Env → Env
+without_numbers [] = []
+without_numbers (e ∷ E) = (e.0, without_number e.1) ∷ without_numbers E
+
+-- the same names in the same order, which mean the same but for its number
+abbrev pub AreAlike : Env → Env → Type 0
+AreAlike E F = without_numbers E ≡ without_numbers F
+
+pub record WidthsAskNoNumbers : Type 0 where
+  pub of_expressions : (E F : Env) → AreAlike E F → (at : Numbers) (e : Exp) (s : ℕ) → frames_along.width E at e s ≡ width F e s
+  pub of_commands : (E F : Env) → AreAlike E F → (at : Numbers) (c : Command) (s : ℕ) → frames_along.width_of_command E at c s ≡ width_of_command F c s
+  pub of_declarations :
+      (E F : Env) → AreAlike E F → (at : Numbers) (ds : Declarations) (s : ℕ) → frames_along.width_of_declarations E at ds s ≡ width_of_declarations F ds s
+  pub of_routines : (r : FoundRoutine) → frames_along.frame_of r ≡ frame_of r
+
+pub record FaultsAskNoNumbers : Type 0 where
+  pub of_expressions : (c : Bool) (E F : Env) → AreAlike E F → (at : Numbers) (e : Exp) (s : ℕ) → faults_along.fault c E at e s ≡ fault c F e
+  pub of_commands : (W : Allowed) (E F : Env) → AreAlike E F → (at : Numbers) (c : Command) (s : ℕ) → faults_along.command_fault W E at c s ≡ command_fault W F c
+  pub of_declarations :
+      (inside : Bool) (E F : Env) → AreAlike E F → (at : Numbers) (ds : Declarations) (s : ℕ)
+      → faults_along.declarations_fault inside E at ds s ≡ declarations_fault inside F ds
+  pub of_sections : (ds : Declarations) → faults_along.section_fault ds ≡ section_fault ds
 
 -- a section without fault, with at most 524,288 definitions, commands and expressions, gives a `Core`
 abbrev pub SectionsFit : Type 0

@@ -1,6 +1,6 @@
 //! Laws of the translation. Each is the contract of a function that does nothing.
 
-ghost use Rattle.bc_translation.specs.Laws.{SectionsKeepTheirMeaning, ExpressionsKeepTheirMeaning, CommandsKeepTheirMeaning, LevelsAreTheSections, FramesAreTheSections, NumbersRise, SectionsFit, WordsAreKept};
+ghost use Rattle.bc_translation.specs.Laws.{SectionsKeepTheirMeaning, ExpressionsKeepTheirMeaning, CommandsKeepTheirMeaning, LevelsAreTheSections, FramesAreTheSections, NumbersRise, WidthsAskNoNumbers, FaultsAskNoNumbers, SectionsFit, WordsAreKept};
 
 /// A list of sections means what the list of their translations means: for every map of addresses, all
 /// inputs and every number of turns.
@@ -33,6 +33,17 @@ pub fn frames_are_the_sections()
 /// text order.
 pub fn numbers_rise()
     ensures { NumbersRise }
+{}
+
+/// Widths depend on no numbers: a walk that counts places, VALOFs and labels finds those of the definition,
+/// with whatever numbers the known names mean something.
+pub fn widths_ask_no_numbers()
+    ensures { WidthsAskNoNumbers }
+{}
+
+/// Faults depend on no numbers, and on no levels either: so does a walk that counts them.
+pub fn faults_ask_no_numbers()
+    ensures { FaultsAskNoNumbers }
 {}
 
 /// A section without fault is translated to one that fits `Core`.

@@ -4,7 +4,7 @@ use Rattle.bc_tree.specs.View.{exp_view, exps_view, item_view, items_view}
 use Rattle.bc_names.proofs.Extends.{extends_on}
 use Rattle.bc_names.specs.View.{scope_view, numbers_view}
 use Rattle.bc_scoping.specs.Numbering.{behind}
-use Rattle.bc_scoping.specs.Frames.{width, widths}
+use Rattle.bc_scoping.specs.FramesAlong.{width, widths}
 use Rattle.bc_faults.specs.Parts.{head_level, side_width}
 use Rattle.bc_faults.specs.Seen.{allowed_view, met_view}
 use Rattle.bc_faults.proofs.Frames.{frames_along, max_along}

@@ -5,8 +5,9 @@ use Rattle.bc_tree.specs.View.{block_view, command_view, declaration_view, decla
 use Rattle.bc_scoping.specs.Numbering.{behind_entries, behind_all, behind_declarations, behind_definitions, behind_items}
 use Rattle.bc_scoping.specs.Scoping.{in_entries, in_declarations, level_behind}
 use Rattle.bc_scoping.specs.Found.{found_in_arguments, found_in_sides, found_in_initials, found_in_entries, found_in_definitions, found_in_declarations, found_in_items}
-use Rattle.bc_scoping.specs.Frames.{widths, width_of_arguments, width_of_initials, width_of_definitions, width_of_declarations, width_of_items}
-use Rattle.bc_scoping.specs.Faults.{none_met, met_labels, arguments_fault, constants_fault, sides_fault, initials_fault, entries_fault, declarations_fault, labels_fault, items_fault}
+use Rattle.bc_scoping.specs.FramesAlong.{widths, width_of_arguments, width_of_initials, width_of_definitions, width_of_declarations, width_of_items}
+use Rattle.bc_scoping.specs.Faults.{none_met, met_labels}
+use Rattle.bc_scoping.specs.FaultsAlong.{arguments_fault, constants_fault, sides_fault, initials_fault, entries_fault, declarations_fault, labels_fault, items_fault}
 use Rattle.bc_names.specs.View.{Extends, scope_view, numbers_view}
 use Rattle.bc_faults.specs.Vectors.{fault_view, vector_faults, definitions_fault_by}
 use Rattle.bc_faults.specs.Seen.{allowed_view, names_view, met_view, frames_fit}
