@@ -1,8 +1,8 @@
 #!/usr/bin/env python3
 """make_names.py KIND TOKENS: a BCPL section of about so many tokens that asks much of scopes. Kinds: constants (many names of one scope, each
 used once), routines (many routines, each with a block), blocks (many blocks with a VALOF behind many names), nested (190 routines one
-within another with the same number of parameters each), one (the same number of parameters of one routine), tiny (routines of one parameter
-each, below thousands of globals)."""
+within another with the same number of parameters each), one (the same parameters of one routine), scopes (190 blocks one within another
+with a LET each), let (the same variables of one LET), tiny (routines of one parameter each, below thousands of globals)."""
 import sys
 
 DEPTH = 190
@@ -31,16 +31,20 @@ def blocks(tokens):
     yield "$)"
 
 
+def parameters_of_routines(tokens):
+    return [[f"N{k}X{i}" for i in range(tokens // (2 * DEPTH) - 3)] for k in range(DEPTH)]
+
+
 def nested(tokens):
-    names = tokens // (2 * DEPTH) - 3
-    for k in range(DEPTH):
-        yield f"LET G{k}(" + ",".join(f"N{k}X{i}" for i in range(names)) + ") BE $("
+    for k, names in enumerate(parameters_of_routines(tokens)):
+        yield f"LET G{k}(" + ",".join(names) + ") BE $("
     yield f"N{DEPTH - 1}X0 := N{DEPTH - 1}X1"
     yield "$)" * DEPTH
 
 
 def one(tokens):
-    yield "LET G(" + ",".join(f"N{i}" for i in range(tokens // 2 - 6)) + ") BE N0 := N1"
+    names = [name for names in parameters_of_routines(tokens) for name in names]
+    yield "LET G(" + ",".join(names) + f") BE N{DEPTH - 1}X0 := N{DEPTH - 1}X1"
 
 
 def variables_of_blocks(tokens):
