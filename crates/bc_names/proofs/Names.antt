@@ -179,7 +179,7 @@ valof_now i b (Some k) s = rw (below k.place (i + 1) (omega arith)) (by (ltb k.p
 means : (es : List Entry) (i : ℕ) (E : Env) (q : Name) (b : Borders) (k : Option Bound) → meant_by E q ≡ answered b k → Stands i k → b.routine ≤ i → b.valof ≤ i
     → meant_by (behind_entries es E) q ≡ answered (borders_of i es b) (newest i es q k)
 means [] i E q b k h s r v = h
-means (entry.Name n o ∷ es) i E q b k h s r v = means es (i + 1) ((n.name.now, meant_view n.meant) ∷ E) q b (cond (is_name n.name.now q) (Some (record { meant = n.meant; place = i })) k) (by (is_name n.name.now q)) (on (is_name n.name.now q)) (omega arith) (omega arith)
+means (entry.Name n p o ∷ es) i E q b k h s r v = means es (i + 1) ((n.name.now, meant_view n.meant) ∷ E) q b (cond (is_name n.name.now q) (Some (record { meant = n.meant; place = i })) k) (by (is_name n.name.now q)) (on (is_name n.name.now q)) (omega arith) (omega arith)
   where
     by : (t : Bool) → elim t [ true ↦ meant_view n.meant | false ↦ meant_by E q ] ≡ answered b (cond t (Some (record { meant = n.meant; place = i })) k)
     by true = sym (seen_now b (record { meant = n.meant; place = i }) r v)

@@ -10,7 +10,7 @@ use Rattle.bc_scoping.specs.Scoping.{in_routine, in_valof}
 
 -- what is known behind an entry
 abbrev pub behind_one : Entry → Env → Env
-behind_one (entry.Name n hidden) E = (n.name.now, meant_view n.meant) ∷ E
+behind_one (entry.Name n position hidden) E = (n.name.now, meant_view n.meant) ∷ E
 behind_one (entry.Routine borders) E = in_routine E
 behind_one (entry.Valof borders) E = in_valof E
 

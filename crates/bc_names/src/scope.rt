@@ -59,8 +59,12 @@ struct Borders {
 /// What made known what is known at a place, with what was known of it before.
 #[derive(Clone, Copy, Debug, PartialEq, Eq)]
 enum Entry<'s> {
-    /// A declared name, and what it meant before.
-    Name(Named<'s>, Option<Bound>),
+    /// A declared name, its position in the index, and what it meant before.
+    Name {
+        named: Named<'s>,
+        position: usize,
+        hidden: Option<Bound>,
+    },
     /// A routine begins.
     Routine(Borders),
     /// A VALOF begins.
@@ -81,21 +85,22 @@ pub struct Mark {
 pub struct Scope<'s> {
     alloc: Global,
     entries: Vec<Entry<'s>>,
-    /// What each name means by its newest entry; none where it has no entry any more.
+    /// What each name means by its newest entry; none where it has no entry any more. No name is taken out, so each
+    /// keeps its position.
     index: IndexMap<&'s [u8], Option<Bound>>,
     borders: Borders,
 }
 
 impl<'s> Model for Scope<'s> {
-    ghost use Rattle.std.specs.Prelude.{◌≡◌, List};
+    ghost use Rattle.std.specs.Prelude.{◌≡◌, List, All};
     ghost use Rattle.bc_names.specs.declared.scope.Entry.{Entry};
-    ghost use Rattle.bc_names.specs.Index.{Finds, CanUndo, borders_of, no_borders};
+    ghost use Rattle.bc_names.specs.Index.{Finds, CanUndo, HasPosition, borders_of, names, no_borders};
 
     ghost Value = { List Entry };
 
     ghost view = { λ s. s.entries.items };
 
-    ghost invariant = { λ s. Finds s.index s.entries.items × (s.borders ≡ borders_of 0 s.entries.items no_borders) × CanUndo s.entries.items };
+    ghost invariant = { λ s. Finds s.index s.entries.items × (s.borders ≡ borders_of 0 s.entries.items no_borders) × CanUndo s.entries.items × All (HasPosition (names s.index)) s.entries.items };
 }
 
 impl<'s> Scope<'s> {
@@ -149,9 +154,13 @@ impl<'s> Scope<'s> {
         // Behind this an entry more can't be refused, when the index has changed already.
         self.entries.reserve(1)?;
         let place = self.entries.len();
-        let hidden = self.index.insert(name, Some(Bound { meant, place }))?;
-        let named = Named { name, meant };
-        match self.entries.push(Entry::Name(named, hidden.flatten())) {
+        let (position, hidden) = self.index.insert_full(name, Some(Bound { meant, place }))?;
+        let entry = Entry::Name {
+            named: Named { name, meant },
+            position,
+            hidden: hidden.flatten(),
+        };
+        match self.entries.push(entry) {
             Ok(()) => Ok(()),
             Err(_) => unreachable!(),
         }
@@ -196,11 +205,14 @@ impl<'s> Scope<'s> {
             return;
         };
         match last {
-            Entry::Name(named, hidden) => match self.index.insert(named.name, hidden) {
-                Ok(_) => {}
-                // A name that has an entry is in the index, and then nothing is allocated.
-                Err(_) => unreachable!(),
-            },
+            Entry::Name {
+                position,
+                hidden,
+                ..
+            } => {
+                let (_, newest) = self.index.pair_mut(position);
+                *newest = hidden;
+            }
             Entry::Routine(borders) => self.borders = borders,
             Entry::Valof(borders) => self.borders = borders,
         }

@@ -1,5 +1,7 @@
 use Rattle.std.proofs.Common.{◌≡◌, ◌∙◌, ap, sym, length, None}
+use Rattle.std.proofs.lemmas.List.Elements.{All-push}
 use Rattle.bc_names.specs.declared.scope.Entry.TheVariants as entry
+use Rattle.bc_names.specs.Index.{names, HasPosition}
 use Rattle.bc_names.proofs.Kept.{declares_push, can_undo_push, routine_border}
 use Rattle.bc_names.proofs.Names.{newest_last}
 use Rattle.bc_names.proofs.scope.Scope.enter_routine.Goals as goal
@@ -13,6 +15,7 @@ invariant_of-self-2 c =
       λ q. rw put (kept.0 q ∙ sym (newest_last es (entry.Routine b) q.now None)),
       rw put (routine_border es b b _ kept.1 (c.len-self-inside.ensures ∙ c.push.new.self.ok.0 ∙ ap (λ l. length l) put)),
       rw put (can_undo_push es (entry.Routine b) kept.2 kept.1),
+      rw put (All-push (HasPosition (names c.self.inside.index)) es (entry.Routine b) kept.3 tt),
     )
 
 pub returns : goal.returns
