@@ -14,3 +14,7 @@ nothing_known s e = ap scope_view e ∙ nothing
 -- behind two parts that made names known
 pub left_both : (a b c d : List Entry) (n : ℕ) → Extends a b → Extends b c → d ≡ c → n ≡ length a → take n d ≡ a
 left_both a b c d n p q e l = ap (λ x. take n x) e ∙ left a c n (extends_on a b c p q) l
+
+-- taken back to where nothing was known
+pub nothing_left : (a b : List Entry) (n : ℕ) → a ≡ [] → Extends a b → n ≡ length a → take n b ≡ []
+nothing_left a b n e p l = left a b n p l ∙ e

@@ -6,7 +6,7 @@
 //!
 //! A scope serves all places in turn. What an inner place makes known is taken back behind it; behind a fault the scope
 //! may know more than before, and the names that were known stand below.
-ghost use Rattle.std.specs.Prelude.{◌≡◌, ◌+◌, true, false, [], ◌∷◌, ◌++◌, max, map, length, IfOk};
+ghost use Rattle.std.specs.Prelude.{◌≡◌, ◌+◌, true, false, [], ◌∷◌, ◌++◌, max, map, length, IfOk, OnOk};
 ghost use Rattle.bc_tree.specs.View.{exp_view, exps_view, command_view, block_view, declaration_view, declarations_view, definition_view, definitions_view, label_view, labels_view, item_view, items_view, entries_view};
 ghost use Rattle.bc_core.specs.Level.{operand_level, argument_level, routine_level, level_in_for, level_behind_parameters};
 ghost use Rattle.bc_scoping.specs.Scope.{Env, behind_place, behind_valof, behind_labels};
@@ -41,7 +41,6 @@ use bc_names::{
 use bc_tree::{Block, Command, Constant, Declaration, Definition, Exp, Item, Label, Storage};
 use bc_word::Memory;
 use indexmap::IndexSet;
-use std::alloc::Global;
 
 /// What a definition of a LET is judged by beside the names: whether it stands in a block, and the fault of its
 /// constant, which the names of the LET hide.
@@ -947,17 +946,21 @@ fn command<'s>(
 
 /// The first fault of a section: of its declarations, in text order, and then that a frame is too large.
 ///
-/// `Memory` comes where an allocation was refused or a number would pass 64 bits.
-#[tactic(auto, using(crate::proofs::Frames::frames_judged, crate::proofs::Scopes::nothing_known))]
-pub fn judge<'s>(alloc: Global, list: &[Declaration<'s>]) -> Result<(), ScopeError<'s>>
-    ensures { Passes result (or_else (declarations_fault false [] section_start (declarations_view list.now) 0) (frames_fault (found_in_section (declarations_view list.now)))) }
+/// The scope is one in which nothing is known, and is so again where no fault was found. `Memory` comes where an
+/// allocation was refused or a number would pass 64 bits.
+#[tactic(auto, using(crate::proofs::Frames::frames_judged, crate::proofs::Scopes::nothing_known, crate::proofs::Scopes::nothing_left))]
+pub fn judge<'s>(scope: &mut Scope<'s>, list: &[Declaration<'s>]) -> Result<(), ScopeError<'s>>
+    requires { scope.old ≡ [] }
+    ensures answer { Passes result (or_else (declarations_fault false [] section_start (declarations_view list.now) 0) (frames_fault (found_in_section (declarations_view list.now)))) }
+    ensures emptied { OnOk result (scope.new ≡ []) }
 {
-    let mut scope = Scope::new(alloc);
+    let mark = scope.mark();
     let mut progress = Progress {
         at: Numbers::start(),
         fits: true,
     };
-    let _extent = declarations(&mut scope, false, &mut progress, list, 0)?;
+    let _extent = declarations(scope, false, &mut progress, list, 0)?;
+    scope.leave(mark);
     if progress.fits {
         Ok(())
     } else {
