@@ -5,7 +5,7 @@ ghost use Rattle.bc_scope.specs.Resolving.{Resolves};
 
 use bc_core::Core;
 use bc_faults::judge;
-use bc_names::ScopeError;
+use bc_names::{Scope, ScopeError};
 use bc_resolving::translate;
 use bc_tree::Section;
 use std::alloc::Global;
@@ -19,8 +19,9 @@ pub fn resolve<'s>(alloc: Global, section: &Section<'s>) -> Result<Core, ScopeEr
     requires { declarations_size (section_view section.now) ≤ 60000 }
     ensures { Resolves result (section_view section.now) }
 {
-    judge(alloc, &section.declarations)?;
-    let found = translate(alloc, &section.declarations)?;
+    let mut scope = Scope::new(alloc);
+    judge(&mut scope, &section.declarations)?;
+    let found = translate(&mut scope, &section.declarations)?;
     if found.places.len() > 8000 {
         return Err(ScopeError::TooManyPlaces);
     }
