@@ -4,3 +4,4 @@ pub mod Finding
 pub mod Lists
 pub mod Pairs
 pub mod Views
+pub mod Unlabelled

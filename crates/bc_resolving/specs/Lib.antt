@@ -1,3 +1,4 @@
 pub mod Seen
 pub mod Definitions
 pub mod Finding
+pub mod Next

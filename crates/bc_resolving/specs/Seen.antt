@@ -13,9 +13,9 @@ use Rattle.bc_scoping.specs.Translation.{Forms, cell, plain, core_command}
 use Rattle.bc_scoping.specs.Scope as scoping
 use Rattle.bc_scoping.specs.Scoping.{constant}
 use Rattle.bc_scoping.specs.Numbering.{labels_named, labels_of, behind_item}
-use Rattle.bc_names.specs.declared.numbers.Numbers.{Numbers}
 use Rattle.bc_names.specs.declared.scope.Entry as names
-use Rattle.bc_names.specs.View.{numbers_view}
+use Rattle.bc_resolving.specs.declared.numbering.NextNumbers.{NextNumbers}
+use Rattle.bc_resolving.specs.Next.{next_numbers}
 use Rattle.bc_tree.specs.Tree as tree
 
 abbrev pub formed_view : code_formed.Formed → Forms
@@ -75,13 +75,13 @@ items_entries E k at (tree.item i is) s =
     label_entries E k (labels_before i) ++ (command_entry E at i s ++ items_entries E (k + labels_of (labels_before i)) (behind_item at i) is s)
 
 -- the answer of a part's translation, and the numbers behind it
-abbrev pub Translates : {X Y E : Type 0} → (X → Y) → Result X E → Y → (after : Numbers) → (behind : scoping.Numbers) → Type 0
-Translates view result y after behind = IfOk result (λ x. (view x ≡ y) × (numbers_view after ≡ behind))
+abbrev pub Translates : {X Y E : Type 0} → (X → Y) → Result X E → Y → (after : NextNumbers) → (behind : scoping.Numbers) → Type 0
+Translates view result y after behind = IfOk result (λ x. (view x ≡ y) × (next_numbers after ≡ behind))
 
 -- the same, and the names that are known are then those that were known before
-abbrev pub TranslatesWithin : {X Y E : Type 0} → (X → Y) → Result X E → Y → (after : Numbers) → (behind : scoping.Numbers) → (known_before known_after : List names.Entry) → Type 0
+abbrev pub TranslatesWithin : {X Y E : Type 0} → (X → Y) → Result X E → Y → (after : NextNumbers) → (behind : scoping.Numbers) → (known_before known_after : List names.Entry) → Type 0
 TranslatesWithin view result y after behind known_before known_after =
-    IfOk result (λ x. (view x ≡ y) × (numbers_view after ≡ behind) × (known_after ≡ known_before))
+    IfOk result (λ x. (view x ≡ y) × (next_numbers after ≡ behind) × (known_after ≡ known_before))
 
 -- the sense and the test of a condition
 abbrev pub condition_view : Condition → Bool × Exp

@@ -5,21 +5,27 @@ ghost use Rattle.bc_core.specs.View.{command as command_of, items as items_of};
 ghost use Rattle.bc_tree.specs.View.{exp_view, exps_view};
 ghost use Rattle.bc_scoping.specs.Numbering.{behind, behind_all};
 ghost use Rattle.bc_scoping.specs.Translation.{forms, forms_of_all, assignment, assignments};
-ghost use Rattle.bc_names.specs.View.{scope_view, numbers_view};
+ghost use Rattle.bc_names.specs.View.{scope_view};
+ghost use Rattle.bc_resolving.specs.Next.{next_numbers};
 ghost use Rattle.bc_resolving.specs.Seen.{Translates, formed_list};
 
 use crate::commands::nested;
 use crate::expressions::{expression, value};
 use crate::forms::Formed;
+use crate::numbering::NextNumbers;
 use bc_core::{Block as CoreBlock, Command as CoreCommand, ListItem};
-use bc_names::{Numbers, Scope};
+use bc_names::Scope;
 use bc_tree::Exp;
 use bc_word::Memory;
 use std::alloc::Global;
 
 /// One side of an assignment.
-fn side<'s>(scope: &Scope<'s>, at: &mut Numbers, list: &[Exp<'s>]) -> Result<Vec<Formed>, Memory>
-    ensures { Translates (λ fs. formed_list fs.items) result (forms_of_all (scope_view scope.now) (numbers_view at.old) (exps_view list.now)) at.new (behind_all (numbers_view at.old) (exps_view list.now)) }
+fn side<'t, 's>(
+    scope: &Scope<'s>,
+    at: &mut NextNumbers<'t, 's>,
+    list: &'t [Exp<'s>],
+) -> Result<Vec<Formed>, Memory>
+    ensures { Translates (λ fs. formed_list fs.items) result (forms_of_all (scope_view scope.now) (next_numbers at.old) (exps_view list.now)) at.new (behind_all (next_numbers at.old) (exps_view list.now)) }
 {
     let mut formed = Vec::with_capacity(scope.alloc(), list.len())?;
     for e in list {
@@ -43,13 +49,13 @@ fn pairs(alloc: Global, places: Vec<Formed>, values: Vec<Formed>) -> Result<Vec<
 }
 
 /// An assignment of one value to one place.
-fn single<'s>(
+fn single<'t, 's>(
     scope: &Scope<'s>,
-    at: &mut Numbers,
-    place: &Exp<'s>,
-    assigned: &Exp<'s>,
+    at: &mut NextNumbers<'t, 's>,
+    place: &'t Exp<'s>,
+    assigned: &'t Exp<'s>,
 ) -> Result<CoreCommand, Memory>
-    ensures { Translates command_of result (Assign (forms (scope_view scope.now) (behind (numbers_view at.old) (exp_view place.now)) (exp_view assigned.now)).content (forms (scope_view scope.now) (numbers_view at.old) (exp_view place.now)).address) at.new (behind (behind (numbers_view at.old) (exp_view place.now)) (exp_view assigned.now)) }
+    ensures { Translates command_of result (Assign (forms (scope_view scope.now) (behind (next_numbers at.old) (exp_view place.now)) (exp_view assigned.now)).content (forms (scope_view scope.now) (next_numbers at.old) (exp_view place.now)).address) at.new (behind (behind (next_numbers at.old) (exp_view place.now)) (exp_view assigned.now)) }
 {
     let place = expression(scope, at, place)?;
     Ok(CoreCommand::Assign {
@@ -59,13 +65,13 @@ fn single<'s>(
 }
 
 /// Several assignments, as a block.
-fn several<'s>(
+fn several<'t, 's>(
     scope: &Scope<'s>,
-    at: &mut Numbers,
-    places: &[Exp<'s>],
-    values: &[Exp<'s>],
+    at: &mut NextNumbers<'t, 's>,
+    places: &'t [Exp<'s>],
+    values: &'t [Exp<'s>],
 ) -> Result<CoreCommand, Memory>
-    ensures { Translates command_of result (Nested (block [] (assignments (forms_of_all (scope_view scope.now) (numbers_view at.old) (exps_view places.now)) (forms_of_all (scope_view scope.now) (behind_all (numbers_view at.old) (exps_view places.now)) (exps_view values.now))))) at.new (behind_all (behind_all (numbers_view at.old) (exps_view places.now)) (exps_view values.now)) }
+    ensures { Translates command_of result (Nested (block [] (assignments (forms_of_all (scope_view scope.now) (next_numbers at.old) (exps_view places.now)) (forms_of_all (scope_view scope.now) (behind_all (next_numbers at.old) (exps_view places.now)) (exps_view values.now))))) at.new (behind_all (behind_all (next_numbers at.old) (exps_view places.now)) (exps_view values.now)) }
 {
     let places = side(scope, at, places)?;
     let values = side(scope, at, values)?;
@@ -78,13 +84,13 @@ fn several<'s>(
 
 /// An assignment: one pair is a command, several are a block of assignments.
 #[tactic(auto, using(crate::proofs::Pairs::single_is, crate::proofs::Pairs::several_addresses, crate::proofs::Pairs::several_values))]
-pub fn assigned<'s>(
+pub fn assigned<'t, 's>(
     scope: &Scope<'s>,
-    at: &mut Numbers,
-    places: &[Exp<'s>],
-    values: &[Exp<'s>],
+    at: &mut NextNumbers<'t, 's>,
+    places: &'t [Exp<'s>],
+    values: &'t [Exp<'s>],
 ) -> Result<CoreCommand, Memory>
-    ensures { Translates command_of result (assignment (forms_of_all (scope_view scope.now) (numbers_view at.old) (exps_view places.now)) (forms_of_all (scope_view scope.now) (behind_all (numbers_view at.old) (exps_view places.now)) (exps_view values.now))) at.new (behind_all (behind_all (numbers_view at.old) (exps_view places.now)) (exps_view values.now)) }
+    ensures { Translates command_of result (assignment (forms_of_all (scope_view scope.now) (next_numbers at.old) (exps_view places.now)) (forms_of_all (scope_view scope.now) (behind_all (next_numbers at.old) (exps_view places.now)) (exps_view values.now))) at.new (behind_all (behind_all (next_numbers at.old) (exps_view places.now)) (exps_view values.now)) }
 {
     if places.len() != 1 {
         return several(scope, at, places, values);

@@ -8,7 +8,8 @@ ghost use Rattle.bc_scoping.specs.Scope.{behind_labels};
 ghost use Rattle.bc_scoping.specs.Numbering.{labels_of, labels_in as labels_in_of, behind_entries, behind, behind_all, behind_block, behind_declarations, behind_definitions, behind_declaration, behind_definition as behind_definition_of, behind_items, behind_item, behind_command};
 ghost use Rattle.bc_scoping.specs.Translation.{forms, forms_of_all, initials as initials_of, core_declaration, core_declarations, core_block, core_items, core_command, block_of as block_of_one};
 ghost use Rattle.bc_core.specs.Level.{level_in_for};
-ghost use Rattle.bc_names.specs.View.{meant_view, scope_view, numbers_view, Declares};
+ghost use Rattle.bc_names.specs.View.{meant_view, scope_view, Declares};
+ghost use Rattle.bc_resolving.specs.Next.{next_numbers};
 ghost use Rattle.bc_resolving.specs.Seen.{Translates, TranslatesWithin, entry_view, label_entries, labels_before, command_entry, ACommand, condition_view};
 ghost use Rattle.bc_resolving.specs.Definitions.{core_definition_by, core_definitions_by};
 
@@ -16,25 +17,26 @@ use crate::assignments::assigned;
 use crate::commands::{chosen, conditional, counting, forever, looped, nested, repeated, switch};
 use crate::expressions::{call, value};
 use crate::forms::block_of;
+use crate::numbering::NextNumbers;
 use bc_core::{
     Block as CoreBlock, Command as CoreCommand, Condition, Declaration as CoreDeclaration,
     ListItem, Variable,
 };
 use bc_names::{
-    Meant, Numbers, Priors, Scope, behind_definition, behind_entry, constant, declare_entry,
-    declare_let, declare_list, declare_pending, labels_in, priors_of_let, short, sum,
+    Meant, Priors, Scope, behind_entry, constant, declare_entry, declare_let, declare_list,
+    declare_pending, labels_in, priors_of_let, short, sum,
 };
 use bc_tree::{Block, Command, Constant, Declaration, Definition, Exp, Item, Label, Storage};
 use bc_word::{Memory, Word};
 
 /// Initialisers.
-fn initials<'s>(
+fn initials<'t, 's>(
     scope: &Scope<'s>,
-    at: &mut Numbers,
+    at: &mut NextNumbers<'t, 's>,
     variables: &mut Vec<Variable>,
-    list: &[Exp<'s>],
+    list: &'t [Exp<'s>],
 ) -> Result<(), Memory>
-    ensures { Translates (λ _. map variable variables.new.items) result (map variable variables.old.items ++ initials_of (forms_of_all (scope_view scope.now) (numbers_view at.old) (exps_view list.now))) at.new (behind_all (numbers_view at.old) (exps_view list.now)) }
+    ensures { Translates (λ _. map variable variables.new.items) result (map variable variables.old.items ++ initials_of (forms_of_all (scope_view scope.now) (next_numbers at.old) (exps_view list.now))) at.new (behind_all (next_numbers at.old) (exps_view list.now)) }
 {
     for e in list {
         variables.push(Variable::Value(value(scope, at, e)?))?;
@@ -43,30 +45,30 @@ fn initials<'s>(
 }
 
 /// The variables of a definition; a vector's constant is given.
-fn definition<'s>(
+fn definition<'t, 's>(
     scope: &Scope<'s>,
     greatest: u16,
-    at: &mut Numbers,
+    at: &mut NextNumbers<'t, 's>,
     variables: &mut Vec<Variable>,
-    tree: &Definition<'s>,
+    tree: &'t Definition<'s>,
 ) -> Result<(), Memory>
-    ensures { Translates (λ _. map variable variables.new.items) result (map variable variables.old.items ++ core_definition_by greatest (scope_view scope.now) (numbers_view at.old) (definition_view tree.now)) at.new (behind_definition_of (numbers_view at.old) (definition_view tree.now)) }
+    ensures { Translates (λ _. map variable variables.new.items) result (map variable variables.old.items ++ core_definition_by greatest (scope_view scope.now) (next_numbers at.old) (definition_view tree.now)) at.new (behind_definition_of (next_numbers at.old) (definition_view tree.now)) }
 {
     match tree {
         Definition::Variables(_, values) => initials(scope, at, variables, values),
         Definition::Vector(_, _) => Ok(variables.push(Variable::Vector(Word::new(greatest)))?),
-        Definition::Function(_, _, _) | Definition::Routine(_, _, _) => behind_definition(at, tree),
+        Definition::Function(_, _, _) | Definition::Routine(_, _, _) => at.pass(tree),
     }
 }
 
 /// The variables of a LET, whose names are known, with what the names before it say of its definitions.
-fn definitions<'s>(
+fn definitions<'t, 's>(
     scope: &Scope<'s>,
     priors: &Priors,
-    at: &mut Numbers,
-    list: &[Definition<'s>],
+    at: &mut NextNumbers<'t, 's>,
+    list: &'t [Definition<'s>],
 ) -> Result<Vec<Variable>, Memory>
-    ensures { Translates (λ vs. map variable vs.items) result (core_definitions_by priors.now.greatest.items (scope_view scope.now) (numbers_view at.old) (definitions_view list.now)) at.new (behind_definitions (numbers_view at.old) (definitions_view list.now)) }
+    ensures { Translates (λ vs. map variable vs.items) result (core_definitions_by priors.now.greatest.items (scope_view scope.now) (next_numbers at.old) (definitions_view list.now)) at.new (behind_definitions (next_numbers at.old) (definitions_view list.now)) }
 {
     let mut variables = Vec::new(scope.alloc());
     let mut i = 0u64;
@@ -78,30 +80,31 @@ fn definitions<'s>(
 }
 
 /// The names of a declaration of constants.
-fn entries<'s>(
+fn entries<'t, 's>(
     scope: &mut Scope<'s>,
-    at: &mut Numbers,
+    at: &mut NextNumbers<'t, 's>,
     storage: Storage,
     list: &[Constant<'s>],
 ) -> Result<(), Memory>
-    ensures { IfOk result (λ _. Declares scope.old scope.new (in_entries storage (numbers_view at.old) (entries_view list.now) (scope_view scope.old)) × (numbers_view at.new ≡ behind_entries storage (numbers_view at.old) (entries_view list.now))) }
+    ensures { IfOk result (λ _. Declares scope.old scope.new (in_entries storage (next_numbers at.old) (entries_view list.now) (scope_view scope.old)) × (next_numbers at.new ≡ behind_entries storage (next_numbers at.old) (entries_view list.now))) }
 {
     for entry in list {
-        declare_entry(scope, storage, *at, entry)?;
-        *at = behind_entry(storage, *at)?;
+        let numbers = at.count()?;
+        declare_entry(scope, storage, numbers, entry)?;
+        *at = NextNumbers::new(behind_entry(storage, numbers)?);
     }
     Ok(())
 }
 
 /// A declaration at this next free offset, whose names are then known; given is the next free offset behind it.
-fn declaration<'s>(
+fn declaration<'t, 's>(
     scope: &mut Scope<'s>,
-    at: &mut Numbers,
+    at: &mut NextNumbers<'t, 's>,
     declarations: &mut Vec<CoreDeclaration>,
-    tree: &Declaration<'s>,
+    tree: &'t Declaration<'s>,
     level: u64,
 ) -> Result<u64, Memory>
-    ensures { IfOk result (λ s. (s ≡ level + cells_in (scope_view scope.old) (declaration_view tree.now)) × Declares scope.old scope.new (in_declaration (scope_view scope.old) (numbers_view at.old) level (declaration_view tree.now)) × (numbers_view at.new ≡ behind_declaration (numbers_view at.old) (declaration_view tree.now)) × (declarations_of declarations.new.items ≡ declarations_of declarations.old.items ++ core_declaration (scope_view scope.old) (numbers_view at.old) level (declaration_view tree.now))) }
+    ensures { IfOk result (λ s. (s ≡ level + cells_in (scope_view scope.old) (declaration_view tree.now)) × Declares scope.old scope.new (in_declaration (scope_view scope.old) (next_numbers at.old) level (declaration_view tree.now)) × (next_numbers at.new ≡ behind_declaration (next_numbers at.old) (declaration_view tree.now)) × (declarations_of declarations.new.items ≡ declarations_of declarations.old.items ++ core_declaration (scope_view scope.old) (next_numbers at.old) level (declaration_view tree.now))) }
 {
     match tree {
         Declaration::Constants(storage, list) => {
@@ -111,7 +114,8 @@ fn declaration<'s>(
         }
         Declaration::Let(list) => {
             let priors = priors_of_let(scope, list)?;
-            let behind = declare_let(scope, &priors, *at, level, list)?;
+            let numbers = at.settle()?;
+            let behind = declare_let(scope, &priors, numbers, level, list)?;
             let variables = definitions(scope, &priors, at, list)?;
             declarations.push(CoreDeclaration { variables })?;
             Ok(behind)
@@ -120,14 +124,14 @@ fn declaration<'s>(
 }
 
 /// Declarations from this next free offset on, whose names are then known; given is the next free offset behind them.
-fn declarations<'s>(
+fn declarations<'t, 's>(
     scope: &mut Scope<'s>,
-    at: &mut Numbers,
+    at: &mut NextNumbers<'t, 's>,
     declarations: &mut Vec<CoreDeclaration>,
-    list: &[Declaration<'s>],
+    list: &'t [Declaration<'s>],
     level: u64,
 ) -> Result<u64, Memory>
-    ensures { IfOk result (λ s. (s ≡ level_behind (scope_view scope.old) (numbers_view at.old) level (declarations_view list.now)) × Declares scope.old scope.new (in_declarations (scope_view scope.old) (numbers_view at.old) level (declarations_view list.now)) × (numbers_view at.new ≡ behind_declarations (numbers_view at.old) (declarations_view list.now)) × (declarations_of declarations.new.items ≡ declarations_of declarations.old.items ++ core_declarations (scope_view scope.old) (numbers_view at.old) level (declarations_view list.now))) }
+    ensures { IfOk result (λ s. (s ≡ level_behind (scope_view scope.old) (next_numbers at.old) level (declarations_view list.now)) × Declares scope.old scope.new (in_declarations (scope_view scope.old) (next_numbers at.old) level (declarations_view list.now)) × (next_numbers at.new ≡ behind_declarations (next_numbers at.old) (declarations_view list.now)) × (declarations_of declarations.new.items ≡ declarations_of declarations.old.items ++ core_declarations (scope_view scope.old) (next_numbers at.old) level (declarations_view list.now))) }
 {
     let mut behind = level;
     for tree in list {
@@ -159,13 +163,13 @@ fn labels<'s>(
     Ok(number)
 }
 
-fn condition<'s>(
+fn condition<'t, 's>(
     scope: &Scope<'s>,
-    at: &mut Numbers,
+    at: &mut NextNumbers<'t, 's>,
     sense: bool,
-    test: &Exp<'s>,
+    test: &'t Exp<'s>,
 ) -> Result<Condition, Memory>
-    ensures { Translates condition_view result (sense, (forms (scope_view scope.now) (numbers_view at.old) (exp_view test.now)).content) at.new (behind (numbers_view at.old) (exp_view test.now)) }
+    ensures { Translates condition_view result (sense, (forms (scope_view scope.now) (next_numbers at.old) (exp_view test.now)).content) at.new (behind (next_numbers at.old) (exp_view test.now)) }
 {
     let test = value(scope, at, test)?;
     Ok(Condition { sense, test })
@@ -188,13 +192,13 @@ fn entry(labelled: CoreCommand) -> ListItem
 
 /// A block at this level.
 #[cycle(blocks)]
-pub fn block<'s>(
+pub fn block<'t, 's>(
     scope: &mut Scope<'s>,
-    at: &mut Numbers,
-    tree: &Block<'s>,
+    at: &mut NextNumbers<'t, 's>,
+    tree: &'t Block<'s>,
     level: u64,
 ) -> Result<CoreBlock, Memory>
-    ensures { TranslatesWithin core_block_of result (core_block (scope_view scope.old) (numbers_view at.old) (block_view tree.now) level) at.new (behind_block (numbers_view at.old) (block_view tree.now)) scope.old scope.new }
+    ensures { TranslatesWithin core_block_of result (core_block (scope_view scope.old) (next_numbers at.old) (block_view tree.now) level) at.new (behind_block (next_numbers at.old) (block_view tree.now)) scope.old scope.new }
 {
     let outside = scope.mark();
     let mut opened = Vec::new(scope.alloc());
@@ -208,20 +212,40 @@ pub fn block<'s>(
 }
 
 /// A command list, whose labels are known in it.
-#[tactic(auto, using(bc_names::proofs::Extends::left))]
+#[tactic(auto, using(crate::proofs::Unlabelled::unlabelled, crate::proofs::Unlabelled::behind_unlabelled))]
 #[cycle(blocks)]
-fn command_list<'s>(
+fn command_list<'t, 's>(
     scope: &mut Scope<'s>,
-    at: &mut Numbers,
-    trees: &[Item<'s>],
+    at: &mut NextNumbers<'t, 's>,
+    trees: &'t [Item<'s>],
     level: u64,
 ) -> Result<Vec<ListItem>, Memory>
-    ensures { TranslatesWithin (λ is. items_of is.items) result (core_items (in_list at.old.label (items_view trees.now) (scope_view scope.old)) at.old.label (behind_labels (numbers_view at.old) (labels_in_of (items_view trees.now))) (items_view trees.now) level) at.new (behind_items (behind_labels (numbers_view at.old) (labels_in_of (items_view trees.now))) (items_view trees.now)) scope.old scope.new }
+    ensures { TranslatesWithin (λ is. items_of is.items) result (core_items (in_list (next_numbers at.old).label (items_view trees.now) (scope_view scope.old)) (next_numbers at.old).label (behind_labels (next_numbers at.old) (labels_in_of (items_view trees.now))) (items_view trees.now) level) at.new (behind_items (behind_labels (next_numbers at.old) (labels_in_of (items_view trees.now))) (items_view trees.now)) scope.old scope.new }
+{
+    let labels = labels_in(trees)?;
+    if labels == 0 {
+        // Nothing asks for the numbers.
+        return items(scope, at, 0, trees, level);
+    }
+    let numbers = at.count()?;
+    *at = NextNumbers::new(numbers.behind_labels(labels)?);
+    labelled_list(scope, at, numbers.label, trees, level)
+}
+
+/// A list whose labels, the first of which has this number, are known in it.
+#[tactic(auto, using(bc_names::proofs::Extends::left))]
+#[cycle(blocks)]
+fn labelled_list<'t, 's>(
+    scope: &mut Scope<'s>,
+    at: &mut NextNumbers<'t, 's>,
+    number: u64,
+    trees: &'t [Item<'s>],
+    level: u64,
+) -> Result<Vec<ListItem>, Memory>
+    ensures { TranslatesWithin (λ is. items_of is.items) result (core_items (in_list number (items_view trees.now) (scope_view scope.old)) number (next_numbers at.old) (items_view trees.now) level) at.new (behind_items (next_numbers at.old) (items_view trees.now)) scope.old scope.new }
 {
     let before_labels = scope.mark();
-    let number = at.label;
     declare_list(scope, number, trees)?;
-    *at = at.behind_labels(labels_in(trees)?)?;
     let list = items(scope, at, number, trees, level)?;
     scope.leave(before_labels);
     Ok(list)
@@ -229,14 +253,14 @@ fn command_list<'s>(
 
 /// The items of a list, the first label of which has this number.
 #[cycle(blocks)]
-fn items<'s>(
+fn items<'t, 's>(
     scope: &mut Scope<'s>,
-    at: &mut Numbers,
+    at: &mut NextNumbers<'t, 's>,
     number: u64,
-    trees: &[Item<'s>],
+    trees: &'t [Item<'s>],
     level: u64,
 ) -> Result<Vec<ListItem>, Memory>
-    ensures { TranslatesWithin (λ is. items_of is.items) result (core_items (scope_view scope.old) number (numbers_view at.old) (items_view trees.now) level) at.new (behind_items (numbers_view at.old) (items_view trees.now)) scope.old scope.new }
+    ensures { TranslatesWithin (λ is. items_of is.items) result (core_items (scope_view scope.old) number (next_numbers at.old) (items_view trees.now) level) at.new (behind_items (next_numbers at.old) (items_view trees.now)) scope.old scope.new }
 {
     let mut list = Vec::new(scope.alloc());
     let mut number = number;
@@ -249,14 +273,14 @@ fn items<'s>(
 
 /// An item, the first label of which has this number, which is then that behind it.
 #[cycle(blocks)]
-fn item<'s>(
+fn item<'t, 's>(
     scope: &mut Scope<'s>,
-    at: &mut Numbers,
+    at: &mut NextNumbers<'t, 's>,
     number: &mut u64,
-    tree: &Item<'s>,
+    tree: &'t Item<'s>,
     level: u64,
 ) -> Result<Vec<ListItem>, Memory>
-    ensures { IfOk result (λ is. (map entry_view is.items ≡ label_entries (scope_view scope.old) number.old (labels_before (item_view tree.now)) ++ command_entry (scope_view scope.old) (numbers_view at.old) (item_view tree.now) level) × (numbers_view at.new ≡ behind_item (numbers_view at.old) (item_view tree.now)) × (number.new ≡ number.old + labels_of (labels_before (item_view tree.now))) × (scope.new ≡ scope.old)) }
+    ensures { IfOk result (λ is. (map entry_view is.items ≡ label_entries (scope_view scope.old) number.old (labels_before (item_view tree.now)) ++ command_entry (scope_view scope.old) (next_numbers at.old) (item_view tree.now) level) × (next_numbers at.new ≡ behind_item (next_numbers at.old) (item_view tree.now)) × (number.new ≡ number.old + labels_of (labels_before (item_view tree.now))) × (scope.new ≡ scope.old)) }
 {
     let mut list = Vec::new(scope.alloc());
     *number = labels(scope, &mut list, *number, &tree.labels)?;
@@ -272,13 +296,13 @@ fn item<'s>(
 
 /// The body of a REPEAT word.
 #[cycle(blocks)]
-fn body<'s>(
+fn body<'t, 's>(
     scope: &mut Scope<'s>,
-    at: &mut Numbers,
-    tree: &Command<'s>,
+    at: &mut NextNumbers<'t, 's>,
+    tree: &'t Command<'s>,
     level: u64,
 ) -> Result<CoreBlock, Memory>
-    ensures { TranslatesWithin core_block_of result (block_of_one (core_command (scope_view scope.old) (numbers_view at.old) (command_view tree.now) level)) at.new (behind_command (numbers_view at.old) (command_view tree.now)) scope.old scope.new }
+    ensures { TranslatesWithin core_block_of result (block_of_one (core_command (scope_view scope.old) (next_numbers at.old) (command_view tree.now) level)) at.new (behind_command (next_numbers at.old) (command_view tree.now)) scope.old scope.new }
 {
     let repeated = command(scope, at, tree, level)?;
     block_of(scope.alloc(), repeated)
@@ -287,14 +311,14 @@ fn body<'s>(
 /// The body of a FOR over this variable.
 #[tactic(auto, using(bc_names::proofs::Extends::left))]
 #[cycle(blocks)]
-fn counted<'s>(
+fn counted<'t, 's>(
     scope: &mut Scope<'s>,
-    at: &mut Numbers,
+    at: &mut NextNumbers<'t, 's>,
     variable: &'s [u8],
-    tree: &Block<'s>,
+    tree: &'t Block<'s>,
     level: u64,
 ) -> Result<CoreBlock, Memory>
-    ensures { TranslatesWithin core_block_of result (core_block (in_for (scope_view scope.old) variable.entry.now level) (numbers_view at.old) (block_view tree.now) (level_in_for level)) at.new (behind_block (numbers_view at.old) (block_view tree.now)) scope.old scope.new }
+    ensures { TranslatesWithin core_block_of result (core_block (in_for (scope_view scope.old) variable.entry.now level) (next_numbers at.old) (block_view tree.now) (level_in_for level)) at.new (behind_block (next_numbers at.old) (block_view tree.now)) scope.old scope.new }
 {
     let before_variable = scope.mark();
     scope.declare(variable, Meant::Variable(level))?;
@@ -304,13 +328,13 @@ fn counted<'s>(
 }
 
 #[cycle(blocks)]
-fn command<'s>(
+fn command<'t, 's>(
     scope: &mut Scope<'s>,
-    at: &mut Numbers,
-    tree: &Command<'s>,
+    at: &mut NextNumbers<'t, 's>,
+    tree: &'t Command<'s>,
     level: u64,
 ) -> Result<CoreCommand, Memory>
-    ensures { TranslatesWithin command_of result (core_command (scope_view scope.old) (numbers_view at.old) (command_view tree.now) level) at.new (behind_command (numbers_view at.old) (command_view tree.now)) scope.old scope.new }
+    ensures { TranslatesWithin command_of result (core_command (scope_view scope.old) (next_numbers at.old) (command_view tree.now) level) at.new (behind_command (next_numbers at.old) (command_view tree.now)) scope.old scope.new }
 {
     match tree {
         Command::Assign(places, values) => assigned(scope, at, places, values),

@@ -5,12 +5,14 @@ ghost use Rattle.bc_core.specs.View.{exp, args};
 ghost use Rattle.bc_tree.specs.View.{exp_view, exps_view};
 ghost use Rattle.bc_scoping.specs.Numbering.{behind, behind_all};
 ghost use Rattle.bc_scoping.specs.Translation.{forms, core_arguments};
-ghost use Rattle.bc_names.specs.View.{scope_view, numbers_view};
+ghost use Rattle.bc_names.specs.View.{scope_view};
+ghost use Rattle.bc_resolving.specs.Next.{next_numbers};
 ghost use Rattle.bc_resolving.specs.Seen.{Translates, formed_view};
 
 use crate::forms::{Formed, of_dyadic, of_monadic, of_name};
+use crate::numbering::NextNumbers;
 use bc_core::CoreExp;
-use bc_names::{Numbers, Scope, behind_block, operator, short};
+use bc_names::{Scope, operator, short};
 use bc_tree::Exp;
 use bc_word::{Memory, Word};
 
@@ -23,8 +25,12 @@ fn called(values: Vec<CoreExp>, routine: Box<CoreExp>) -> CoreExp
 
 /// An expression at these numbers, which are then those behind it.
 #[cycle(expressions)]
-pub fn expression<'s>(scope: &Scope<'s>, at: &mut Numbers, e: &Exp<'s>) -> Result<Formed, Memory>
-    ensures { Translates formed_view result (forms (scope_view scope.now) (numbers_view at.old) (exp_view e.now)) at.new (behind (numbers_view at.old) (exp_view e.now)) }
+pub fn expression<'t, 's>(
+    scope: &Scope<'s>,
+    at: &mut NextNumbers<'t, 's>,
+    e: &'t Exp<'s>,
+) -> Result<Formed, Memory>
+    ensures { Translates formed_view result (forms (scope_view scope.now) (next_numbers at.old) (exp_view e.now)) at.new (behind (next_numbers at.old) (exp_view e.now)) }
 {
     match e {
         Exp::Name(name) => of_name(scope.meant_by(name)),
@@ -32,15 +38,14 @@ pub fn expression<'s>(scope: &Scope<'s>, at: &mut Numbers, e: &Exp<'s>) -> Resul
         Exp::True => Ok(Formed::Plain(CoreExp::Num(Word::new(65535)))),
         Exp::False => Ok(Formed::Plain(CoreExp::Num(Word::new(0)))),
         Exp::String(_) | Exp::Table(_) => {
-            let label = short(at.place)?;
-            *at = at.behind_place()?;
-            Ok(Formed::Plain(CoreExp::Place(label)))
+            let numbers = at.count()?;
+            *at = NextNumbers::new(numbers.behind_place()?);
+            Ok(Formed::Plain(CoreExp::Place(short(numbers.place)?)))
         }
         Exp::Valof(body) => {
-            let number = short(at.valof)?;
-            *at = at.behind_valof()?;
-            behind_block(at, body)?;
-            Ok(Formed::Plain(CoreExp::Valof(number)))
+            let numbers = at.count()?;
+            *at = NextNumbers::behind_body(numbers.behind_valof()?, body);
+            Ok(Formed::Plain(CoreExp::Valof(short(numbers.valof)?)))
         }
         Exp::Monadic(sign, operand) => {
             let operand = expression(scope, at, operand)?;
@@ -67,28 +72,36 @@ pub fn expression<'s>(scope: &Scope<'s>, at: &mut Numbers, e: &Exp<'s>) -> Resul
 
 /// The value of an expression.
 #[cycle(expressions)]
-pub fn value<'s>(scope: &Scope<'s>, at: &mut Numbers, e: &Exp<'s>) -> Result<CoreExp, Memory>
-    ensures { Translates exp result (forms (scope_view scope.now) (numbers_view at.old) (exp_view e.now)).content at.new (behind (numbers_view at.old) (exp_view e.now)) }
+pub fn value<'t, 's>(
+    scope: &Scope<'s>,
+    at: &mut NextNumbers<'t, 's>,
+    e: &'t Exp<'s>,
+) -> Result<CoreExp, Memory>
+    ensures { Translates exp result (forms (scope_view scope.now) (next_numbers at.old) (exp_view e.now)).content at.new (behind (next_numbers at.old) (exp_view e.now)) }
 {
     let formed = expression(scope, at, e)?;
     formed.content(scope.alloc())
 }
 
 #[cycle(expressions)]
-fn boxed<'s>(scope: &Scope<'s>, at: &mut Numbers, e: &Exp<'s>) -> Result<Box<CoreExp>, Memory>
-    ensures { Translates (λ b. exp b.value) result (forms (scope_view scope.now) (numbers_view at.old) (exp_view e.now)).content at.new (behind (numbers_view at.old) (exp_view e.now)) }
+fn boxed<'t, 's>(
+    scope: &Scope<'s>,
+    at: &mut NextNumbers<'t, 's>,
+    e: &'t Exp<'s>,
+) -> Result<Box<CoreExp>, Memory>
+    ensures { Translates (λ b. exp b.value) result (forms (scope_view scope.now) (next_numbers at.old) (exp_view e.now)).content at.new (behind (next_numbers at.old) (exp_view e.now)) }
 {
     let value = value(scope, at, e)?;
     Ok(Box::new(scope.alloc(), value)?)
 }
 
 #[cycle(expressions)]
-fn arguments<'s>(
+fn arguments<'t, 's>(
     scope: &Scope<'s>,
-    at: &mut Numbers,
-    list: &[Exp<'s>],
+    at: &mut NextNumbers<'t, 's>,
+    list: &'t [Exp<'s>],
 ) -> Result<Vec<CoreExp>, Memory>
-    ensures { Translates (λ es. args es.items) result (core_arguments (scope_view scope.now) (numbers_view at.old) (exps_view list.now)) at.new (behind_all (numbers_view at.old) (exps_view list.now)) }
+    ensures { Translates (λ es. args es.items) result (core_arguments (scope_view scope.now) (next_numbers at.old) (exps_view list.now)) at.new (behind_all (next_numbers at.old) (exps_view list.now)) }
 {
     let mut values = Vec::with_capacity(scope.alloc(), list.len())?;
     for e in list {
@@ -98,13 +111,13 @@ fn arguments<'s>(
 }
 
 /// A call of a routine with arguments.
-pub fn call<'s>(
+pub fn call<'t, 's>(
     scope: &Scope<'s>,
-    at: &mut Numbers,
-    routine: &Exp<'s>,
-    values: &[Exp<'s>],
+    at: &mut NextNumbers<'t, 's>,
+    routine: &'t Exp<'s>,
+    values: &'t [Exp<'s>],
 ) -> Result<CoreExp, Memory>
-    ensures { Translates exp result (Call (core_arguments (scope_view scope.now) (behind (numbers_view at.old) (exp_view routine.now)) (exps_view values.now)) (forms (scope_view scope.now) (numbers_view at.old) (exp_view routine.now)).content) at.new (behind_all (behind (numbers_view at.old) (exp_view routine.now)) (exps_view values.now)) }
+    ensures { Translates exp result (Call (core_arguments (scope_view scope.now) (behind (next_numbers at.old) (exp_view routine.now)) (exps_view values.now)) (forms (scope_view scope.now) (next_numbers at.old) (exp_view routine.now)).content) at.new (behind_all (behind (next_numbers at.old) (exp_view routine.now)) (exps_view values.now)) }
 {
     let routine = boxed(scope, at, routine)?;
     let values = arguments(scope, at, values)?;

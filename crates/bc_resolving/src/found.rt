@@ -18,6 +18,7 @@ use crate::blocks;
 use crate::characters::decoded;
 use crate::expressions::value;
 use crate::gathering::Gathered;
+use crate::numbering::NextNumbers;
 use bc_core::{Body, Place, Routine, Valof};
 use bc_names::{
     Meant, Priors, Scope, constant, count, declare_entry, declare_let, declare_list,
@@ -135,8 +136,9 @@ fn valof<'s>(
 {
     let outside = scope.mark();
     scope.enter_valof()?;
-    let mut at = found.at.behind_valof()?;
-    found.go_on_at(at);
+    let inside = found.at.behind_valof()?;
+    found.go_on_at(inside);
+    let mut at = NextNumbers::new(inside);
     let translated = blocks::block(scope, &mut at, body, level)?;
     found.valof(Valof {
         level: short(level)?,
@@ -236,7 +238,7 @@ fn function<'s>(
     let outside = scope.mark();
     declare_parameters(scope, parameters)?;
     let count = parameters.len() as u64;
-    let mut at = found.at.behind_place()?;
+    let mut at = NextNumbers::new(found.at.behind_place()?);
     let given_value = value(scope, &mut at, given)?;
     found.place(Place::Routine(Routine {
         global,
@@ -263,7 +265,7 @@ fn routine<'s>(
     declare_parameters(scope, parameters)?;
     let count = parameters.len() as u64;
     let level = sum(2, count)?;
-    let mut at = found.at.behind_place()?;
+    let mut at = NextNumbers::new(found.at.behind_place()?);
     let commands = blocks::block(scope, &mut at, body, level)?;
     found.place(Place::Routine(Routine {
         global,
@@ -497,15 +499,15 @@ pub struct Translated {
 
 /// The translation of a section's declarations.
 ///
-/// `Memory` comes where an allocation was refused, or where a number is larger than 65,535. In a section without
-/// fault none is.
+/// The scope is one in which nothing is known. `Memory` comes where an allocation was refused, or where a number is
+/// larger than 65,535. In a section without fault none is.
 #[tactic(auto, using(crate::proofs::Finding::found_whole), unfolding(crate::specs::Finding::core_view, bc_names::specs::View::scope_view))]
-pub fn translate<'s>(alloc: Global, list: &[Declaration<'s>]) -> Result<Translated, Memory>
+pub fn translate<'s>(scope: &mut Scope<'s>, list: &[Declaration<'s>]) -> Result<Translated, Memory>
+    requires { scope.old ≡ [] }
     ensures { IfOk result (λ t. section (t.places.items, t.valofs.items) ≡ core_of (declarations_view list.now)) }
 {
-    let mut scope = Scope::new(alloc);
-    let mut found = Gathered::new(alloc);
-    declarations(&mut scope, &mut found, list, 0)?;
+    let mut found = Gathered::new(scope.alloc());
+    declarations(scope, &mut found, list, 0)?;
     let Gathered { places, valofs, .. } = found;
     Ok(Translated { places, valofs })
 }

@@ -9,5 +9,6 @@ mod expressions;
 mod forms;
 mod found;
 mod gathering;
+mod numbering;
 
 pub use found::{Translated, translate};

@@ -2,11 +2,12 @@ use Rattle.std.proofs.Common.{◌≡◌, ◌++◌, drop}
 use Rattle.bc_tree.specs.View.{exps_view}
 use Rattle.bc_scoping.specs.Numbering.{behind_all}
 use Rattle.bc_scoping.specs.Translation.{forms_of_all}
-use Rattle.bc_names.specs.View.{scope_view, numbers_view}
+use Rattle.bc_names.specs.View.{scope_view}
+use Rattle.bc_resolving.specs.Next.{next_numbers}
 use Rattle.bc_resolving.specs.Seen.{formed_list}
 use Rattle.bc_resolving.proofs.assignments.side.Given as goal
 
 abbrev pub invariant-loop-e : goal.invariant-loop-e
 invariant-loop-e l =
-    (formed_list l.formed.items ++ forms_of_all (scope_view l.scope) (numbers_view l.at) (exps_view (drop l.e-index l.list)) ≡ forms_of_all (scope_view l.scope) (numbers_view l.fn.at) (exps_view l.list))
-    × (behind_all (numbers_view l.at) (exps_view (drop l.e-index l.list)) ≡ behind_all (numbers_view l.fn.at) (exps_view l.list))
+    (formed_list l.formed.items ++ forms_of_all (scope_view l.scope) (next_numbers l.at) (exps_view (drop l.e-index l.list)) ≡ forms_of_all (scope_view l.scope) (next_numbers l.fn.at) (exps_view l.list))
+    × (behind_all (next_numbers l.at) (exps_view (drop l.e-index l.list)) ≡ behind_all (next_numbers l.fn.at) (exps_view l.list))

@@ -5,7 +5,8 @@ use Rattle.bc_tree.specs.declared.tree.Block.{out-Block}
 use Rattle.bc_tree.specs.View.{declarations_view, items_view}
 use Rattle.bc_scoping.specs.Numbering.{labels_in, behind_items}
 use Rattle.bc_scoping.specs.Scope.{behind_labels}
-use Rattle.bc_names.specs.View.{scope_view, numbers_view}
+use Rattle.bc_names.specs.View.{scope_view}
+use Rattle.bc_resolving.specs.Next.{next_numbers}
 use Rattle.bc_scoping.specs.Translation.{core_declarations}
 use Rattle.bc_resolving.specs.Seen.{items_entries}
 use Rattle.bc_resolving.proofs.Finding.{taken_back}
@@ -16,8 +17,8 @@ use Rattle.bc_resolving.proofs.blocks.+blocks.Goals as goal
 pub items-returns : goal.items-returns
 items-returns t c =
     let E = scope_view c.args.scope.now in
-    let at = numbers_view c.loop-tree.at in (
-      items_done c.loop-tree.list.items c.args.trees.now c.loop-tree.tree-index (λ is. items_entries (scope_view c.loop-tree.scope) c.loop-tree.number at (items_view is) c.args.level) E c.args.number (numbers_view c.args.at.now) (items_view c.args.trees.now) c.args.level c.loop-tree-test.false refl c.loop-tree.invariant.0,
+    let at = next_numbers c.loop-tree.at in (
+      items_done c.loop-tree.list.items c.args.trees.now c.loop-tree.tree-index (λ is. items_entries (scope_view c.loop-tree.scope) c.loop-tree.number at (items_view is) c.args.level) E c.args.number (next_numbers c.args.at.now) (items_view c.args.trees.now) c.args.level c.loop-tree-test.false refl c.loop-tree.invariant.0,
       sym (at_drop_all (λ is. behind_items at (items_view is)) c.args.trees.now c.loop-tree.tree-index c.loop-tree-test.false) ∙ c.loop-tree.invariant.1,
       c.loop-tree.invariant.2,
     )
@@ -25,8 +26,8 @@ items-returns t c =
 pub block-returns : goal.block-returns
 block-returns t c =
     let E = scope_view c.args.scope.now in
-    let at0 = numbers_view c.args.at.now in
-    let at1 = numbers_view c.declarations.new.at in
+    let at0 = next_numbers c.args.at.now in
+    let at1 = next_numbers c.declarations.new.at in
     let ds = declarations_view (out-Block c.args.tree.now).declarations.items in
     let is = items_view (out-Block c.args.tree.now).items.items in
     let w = rw c.deref.ensures.value at c.in_ok-level.ensures in

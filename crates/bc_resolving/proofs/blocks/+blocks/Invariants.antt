@@ -1,12 +1,13 @@
 use Rattle.std.proofs.Common.{◌≡◌, ◌++◌, map, drop}
 use Rattle.bc_tree.specs.View.{items_view}
 use Rattle.bc_scoping.specs.Numbering.{behind_items}
-use Rattle.bc_names.specs.View.{scope_view, numbers_view}
+use Rattle.bc_names.specs.View.{scope_view}
+use Rattle.bc_resolving.specs.Next.{next_numbers}
 use Rattle.bc_resolving.specs.Seen.{entry_view, items_entries}
 use Rattle.bc_resolving.proofs.blocks.+blocks.Given as goal
 
 abbrev pub invariant-items-loop-tree : goal.invariant-items-loop-tree
 invariant-items-loop-tree l =
-    (map entry_view l.list.items ++ items_entries (scope_view l.scope) l.number (numbers_view l.at) (items_view (drop l.tree-index l.trees)) l.level ≡ items_entries (scope_view l.fn.scope) l.fn.number (numbers_view l.fn.at) (items_view l.trees) l.level)
-    × (behind_items (numbers_view l.at) (items_view (drop l.tree-index l.trees)) ≡ behind_items (numbers_view l.fn.at) (items_view l.trees))
+    (map entry_view l.list.items ++ items_entries (scope_view l.scope) l.number (next_numbers l.at) (items_view (drop l.tree-index l.trees)) l.level ≡ items_entries (scope_view l.fn.scope) l.fn.number (next_numbers l.fn.at) (items_view l.trees) l.level)
+    × (behind_items (next_numbers l.at) (items_view (drop l.tree-index l.trees)) ≡ behind_items (next_numbers l.fn.at) (items_view l.trees))
     × (l.scope ≡ l.fn.scope)

@@ -5,7 +5,8 @@ use Rattle.bc_core.specs.View.{variable}
 use Rattle.bc_tree.specs.declared.tree.Declaration.TheVariants as declarations
 use Rattle.bc_tree.specs.View.{declaration_view, definitions_view}
 use Rattle.bc_names.proofs.Extends.{extends_on}
-use Rattle.bc_names.specs.View.{scope_view, numbers_view}
+use Rattle.bc_names.specs.View.{scope_view}
+use Rattle.bc_resolving.specs.Next.{next_numbers}
 use Rattle.bc_scoping.specs.Scoping.{before_let, in_let}
 use Rattle.bc_scoping.specs.Translation.{core_definitions}
 use Rattle.bc_resolving.proofs.Definitions.{core_definitions_are}
@@ -24,13 +25,14 @@ returns-in_ok-entries-in-Constants c =
 pub returns-in_ok-push-in-Let : goal.returns-in_ok-push-in-Let
 returns-in_ok-push-in-Let c =
     let E = scope_view c.args.scope.now in
-    let at0 = numbers_view c.args.at.now in
+    let at0 = next_numbers c.args.at.now in
     let i : c.args.tree.now ≡ declarations.Let c.in-Let.list = c.in-Let.is in
     let v = ap declaration_view i ∙ let_view c.in-Let.list in
     let ds = definitions_view c.in-Let.list.items in
     let p = rw c.deref-in-Let.ensures.value at c.in_ok-priors-in-Let.ensures in
-    let b = rw (p.1, c.deref-in-Let-2.ensures.value) at c.in_ok-behind-in-Let.ensures in
-    let d = rw (p.0.1, b.1.0, c.deref-in-Let-3.ensures.value) at c.in_ok-variables-in-Let.ensures in
+    let n = c.in_ok-numbers-in-Let.ensures in
+    let b = rw (p.1, n.0, c.deref-in-Let-2.ensures.value) at c.in_ok-behind-in-Let.ensures in
+    let d = rw (p.0.1, b.1.0, n.1, c.deref-in-Let-3.ensures.value) at c.in_ok-variables-in-Let.ensures in
     let f = core_definitions_are (in_let E at0 c.args.level ds) (before_let ds E) at0 ds in
     let h : map variable c.in_ok-variables-in-Let.variables.items ≡ core_definitions (in_let E at0 c.args.level ds) (before_let ds E) at0 ds = d.0 ∙ f in
     rw v (b.0, b.1, d.1, first_of (search rules, grind (arith, common_steps)))

@@ -4,13 +4,14 @@ use Rattle.bc_tree.specs.View.{declarations_view}
 use Rattle.bc_scoping.specs.Numbering.{behind_declarations}
 use Rattle.bc_scoping.specs.Scoping.{in_declarations, level_behind}
 use Rattle.bc_scoping.specs.Translation.{core_declarations}
-use Rattle.bc_names.specs.View.{scope_view, numbers_view, Extends}
+use Rattle.bc_names.specs.View.{scope_view, Extends}
+use Rattle.bc_resolving.specs.Next.{next_numbers}
 use Rattle.bc_resolving.proofs.blocks.declarations.Given as goal
 
 abbrev pub invariant-loop-tree : goal.invariant-loop-tree
 invariant-loop-tree l =
-    (level_behind (scope_view l.scope) (numbers_view l.at) l.behind (declarations_view (drop l.tree-index l.list)) ≡ level_behind (scope_view l.fn.scope) (numbers_view l.fn.at) l.level (declarations_view l.list))
-    × (in_declarations (scope_view l.scope) (numbers_view l.at) l.behind (declarations_view (drop l.tree-index l.list)) ≡ in_declarations (scope_view l.fn.scope) (numbers_view l.fn.at) l.level (declarations_view l.list))
-    × (behind_declarations (numbers_view l.at) (declarations_view (drop l.tree-index l.list)) ≡ behind_declarations (numbers_view l.fn.at) (declarations_view l.list))
-    × (declarations l.declarations.items ++ core_declarations (scope_view l.scope) (numbers_view l.at) l.behind (declarations_view (drop l.tree-index l.list)) ≡ declarations l.fn.declarations.items ++ core_declarations (scope_view l.fn.scope) (numbers_view l.fn.at) l.level (declarations_view l.list))
+    (level_behind (scope_view l.scope) (next_numbers l.at) l.behind (declarations_view (drop l.tree-index l.list)) ≡ level_behind (scope_view l.fn.scope) (next_numbers l.fn.at) l.level (declarations_view l.list))
+    × (in_declarations (scope_view l.scope) (next_numbers l.at) l.behind (declarations_view (drop l.tree-index l.list)) ≡ in_declarations (scope_view l.fn.scope) (next_numbers l.fn.at) l.level (declarations_view l.list))
+    × (behind_declarations (next_numbers l.at) (declarations_view (drop l.tree-index l.list)) ≡ behind_declarations (next_numbers l.fn.at) (declarations_view l.list))
+    × (declarations l.declarations.items ++ core_declarations (scope_view l.scope) (next_numbers l.at) l.behind (declarations_view (drop l.tree-index l.list)) ≡ declarations l.fn.declarations.items ++ core_declarations (scope_view l.fn.scope) (next_numbers l.fn.at) l.level (declarations_view l.list))
     × Extends l.fn.scope l.scope

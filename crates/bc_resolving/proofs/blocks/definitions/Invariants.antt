@@ -2,11 +2,12 @@ use Rattle.std.proofs.Common.{◌≡◌, ◌++◌, map, drop}
 use Rattle.bc_core.specs.View.{variable}
 use Rattle.bc_tree.specs.View.{definitions_view}
 use Rattle.bc_scoping.specs.Numbering.{behind_definitions}
-use Rattle.bc_names.specs.View.{scope_view, numbers_view}
+use Rattle.bc_names.specs.View.{scope_view}
+use Rattle.bc_resolving.specs.Next.{next_numbers}
 use Rattle.bc_resolving.specs.Definitions.{core_definitions_by}
 use Rattle.bc_resolving.proofs.blocks.definitions.Given as goal
 
 abbrev pub invariant-loop-tree : goal.invariant-loop-tree
 invariant-loop-tree l =
-    (map variable l.variables.items ++ core_definitions_by (drop l.i l.priors.greatest.items) (scope_view l.scope) (numbers_view l.at) (definitions_view (drop l.tree-index l.list)) ≡ core_definitions_by l.priors.greatest.items (scope_view l.scope) (numbers_view l.fn.at) (definitions_view l.list))
-    × (behind_definitions (numbers_view l.at) (definitions_view (drop l.tree-index l.list)) ≡ behind_definitions (numbers_view l.fn.at) (definitions_view l.list))
+    (map variable l.variables.items ++ core_definitions_by (drop l.i l.priors.greatest.items) (scope_view l.scope) (next_numbers l.at) (definitions_view (drop l.tree-index l.list)) ≡ core_definitions_by l.priors.greatest.items (scope_view l.scope) (next_numbers l.fn.at) (definitions_view l.list))
+    × (behind_definitions (next_numbers l.at) (definitions_view (drop l.tree-index l.list)) ≡ behind_definitions (next_numbers l.fn.at) (definitions_view l.list))

@@ -2,11 +2,12 @@ use Rattle.std.proofs.Common.{◌≡◌, drop}
 use Rattle.bc_tree.specs.View.{entries_view}
 use Rattle.bc_scoping.specs.Numbering.{behind_entries}
 use Rattle.bc_scoping.specs.Scoping.{in_entries}
-use Rattle.bc_names.specs.View.{scope_view, numbers_view, Extends}
+use Rattle.bc_names.specs.View.{scope_view, Extends}
+use Rattle.bc_resolving.specs.Next.{next_numbers}
 use Rattle.bc_resolving.proofs.blocks.entries.Given as goal
 
 abbrev pub invariant-loop-entry : goal.invariant-loop-entry
 invariant-loop-entry l =
-    (in_entries l.storage (numbers_view l.at) (entries_view (drop l.entry-index l.list)) (scope_view l.scope) ≡ in_entries l.storage (numbers_view l.fn.at) (entries_view l.list) (scope_view l.fn.scope))
-    × (behind_entries l.storage (numbers_view l.at) (entries_view (drop l.entry-index l.list)) ≡ behind_entries l.storage (numbers_view l.fn.at) (entries_view l.list))
+    (in_entries l.storage (next_numbers l.at) (entries_view (drop l.entry-index l.list)) (scope_view l.scope) ≡ in_entries l.storage (next_numbers l.fn.at) (entries_view l.list) (scope_view l.fn.scope))
+    × (behind_entries l.storage (next_numbers l.at) (entries_view (drop l.entry-index l.list)) ≡ behind_entries l.storage (next_numbers l.fn.at) (entries_view l.list))
     × Extends l.fn.scope l.scope

@@ -3,11 +3,12 @@ use Rattle.bc_core.specs.View.{exp}
 use Rattle.bc_tree.specs.View.{exps_view}
 use Rattle.bc_scoping.specs.Numbering.{behind_all}
 use Rattle.bc_scoping.specs.Translation.{core_arguments}
-use Rattle.bc_names.specs.View.{scope_view, numbers_view}
+use Rattle.bc_names.specs.View.{scope_view}
+use Rattle.bc_resolving.specs.Next.{next_numbers}
 use Rattle.bc_resolving.specs.Seen.{args_list}
 use Rattle.bc_resolving.proofs.expressions.+expressions.Given as goal
 
 abbrev pub invariant-arguments-loop-e : goal.invariant-arguments-loop-e
 invariant-arguments-loop-e l =
-    (map exp l.values.items ++ args_list (core_arguments (scope_view l.scope) (numbers_view l.at) (exps_view (drop l.e-index l.list))) ≡ args_list (core_arguments (scope_view l.scope) (numbers_view l.fn.at) (exps_view l.list)))
-    × (behind_all (numbers_view l.at) (exps_view (drop l.e-index l.list)) ≡ behind_all (numbers_view l.fn.at) (exps_view l.list))
+    (map exp l.values.items ++ args_list (core_arguments (scope_view l.scope) (next_numbers l.at) (exps_view (drop l.e-index l.list))) ≡ args_list (core_arguments (scope_view l.scope) (next_numbers l.fn.at) (exps_view l.list)))
+    × (behind_all (next_numbers l.at) (exps_view (drop l.e-index l.list)) ≡ behind_all (next_numbers l.fn.at) (exps_view l.list))
