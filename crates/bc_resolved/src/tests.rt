@@ -1,4 +1,5 @@
 use bc_core::{Body, Place, Valof};
+use bc_names::Scope;
 use bc_resolving::{Translated, translate};
 use bc_tree::{Block, Command, Declaration, Definition, Dyadic, Exp, Item};
 use bc_word::Memory;
@@ -51,7 +52,7 @@ fn is_right(found: &Translated) -> bool {
 fn growth_is_given(rt: HostRuntime) -> Result<(), Fail> {
     let alloc = rt.alloc();
     let declarations = section(alloc)?;
-    assert!(rt; is_right(&translate(alloc, &declarations)?));
+    assert!(rt; is_right(&translate(&mut Scope::new(alloc), &declarations)?));
     Ok(())
 }
 
@@ -61,7 +62,7 @@ fn refused_growth_is_memory(rt: HostRuntime) -> Result<(), Fail> {
     let Ok(declarations) = section(alloc) else {
         return Ok(());
     };
-    match translate(alloc, &declarations) {
+    match translate(&mut Scope::new(alloc), &declarations) {
         Ok(found) => assert!(rt; is_right(&found)),
         Err(Memory) => (),
     }
