@@ -1,7 +1,7 @@
 #!/usr/bin/env bash
 # bench/resolve/run.sh: the time of `resolve` alone, on a generated program of almost 60,000 tokens and on one of half as many, and on programs that
 # ask much of scopes (bench/build/make_names.py): the best of twenty runs of each, taken in turn, each of which resolves its program five times. All of it
-# twice: as the C library asks the system for memory, and with memory that was used before.
+# three times: as the C library asks the system for memory, with memory that was used before, and with such memory in pages of 2 MB.
 set -eu
 cd "$(dirname "$0")"
 . ../workspace.sh
@@ -30,4 +30,7 @@ measure() {
 echo "As the C library asks the system for memory:"
 measure
 echo "With memory that the C library keeps from call to call:"
-GLIBC_TUNABLES=glibc.malloc.mmap_max=0:glibc.malloc.trim_threshold=17179869184 measure
+kept=glibc.malloc.mmap_max=0:glibc.malloc.trim_threshold=17179869184
+GLIBC_TUNABLES=$kept measure
+echo "The same, in pages of 2 MB:"
+GLIBC_TUNABLES=$kept:glibc.malloc.hugetlb=1 measure

@@ -1,8 +1,9 @@
 #!/usr/bin/env bash
 # The time of `select`, `rows`, `is_derivation` and `code_of` on roots of a thousand to a million nodes: sums to the left, quotients to the
 # right, balanced products, and calls in calls: the best of a number of rounds. Prints millions of nodes a second for each, and how many
-# times as long twice the nodes take, which is the largest of the ratios from one size to the next. All of it twice: with memory as a first
-# call finds it, and with memory that was used before, so that what the system takes to hand out and zero its pages can be told apart.
+# times as long twice the nodes take, which is the largest of the ratios from one size to the next. All of it three times: with memory as a
+# first call finds it, with memory that was used before, so that what the system takes to hand out and zero its pages can be told apart, and
+# with such memory in pages of 2 MB, so that it does not count how many pages the processor knows the addresses of.
 set -eu
 cd "$(dirname "$0")"
 . ../workspace.sh
@@ -18,4 +19,7 @@ ulimit -s unlimited
 echo "As a first call finds memory: what is large comes new from the system each time, zeroed."
 python3 against_sizes.py "$program"
 echo "With memory that the C library keeps from call to call:"
-GLIBC_TUNABLES=glibc.malloc.mmap_max=0:glibc.malloc.trim_threshold=17179869184 python3 against_sizes.py "$program"
+kept=glibc.malloc.mmap_max=0:glibc.malloc.trim_threshold=17179869184
+GLIBC_TUNABLES=$kept python3 against_sizes.py "$program"
+echo "The same, in pages of 2 MB:"
+GLIBC_TUNABLES=$kept:glibc.malloc.hugetlb=1 python3 against_sizes.py "$program"
