@@ -2,7 +2,7 @@
 """make_names.py KIND TOKENS: a BCPL section of about so many tokens that asks much of scopes. Kinds: constants (many names of one scope, each
 used once), routines (many routines, each with a block), blocks (many blocks with a VALOF behind many names), nested (190 routines one
 within another with the same number of parameters each), one (the same parameters of one routine), scopes (190 blocks one within another
-with a LET each), let (the same variables of one LET), tiny (routines of one parameter each, below thousands of globals)."""
+with a LET each), lets (the same LETs in one block), let (the same variables of one LET), tiny (routines of one parameter each, below thousands of globals)."""
 import sys
 
 DEPTH = 190
@@ -63,6 +63,14 @@ def scopes(tokens):
     yield "$)" * DEPTH + " $)"
 
 
+def lets(tokens):
+    yield "LET G(A) BE $("
+    for names in variables_of_blocks(tokens):
+        yield variables(names)
+    yield f"N{DEPTH - 1}X0 := N{DEPTH - 1}X1"
+    yield "$)"
+
+
 def let(tokens):
     yield "LET G(A) BE $("
     yield variables([name for names in variables_of_blocks(tokens) for name in names])
@@ -78,7 +86,7 @@ def tiny(tokens):
 
 
 def main():
-    kinds = (constants, routines, blocks, nested, one, scopes, let, tiny)
+    kinds = (constants, routines, blocks, nested, one, scopes, lets, let, tiny)
     kind = next(kind for kind in kinds if kind.__name__ == sys.argv[1])
     for line in kind(int(sys.argv[2])):
         print(line)

@@ -8,7 +8,7 @@ cd "$(dirname "$0")"
 make_workspace resolve_bench resolve.rt.in anyhow bc_lex bc_library bc_parse bc_scope bc_tree
 python3 ../build/make_program.py 59950 >"$work/program-whole"
 python3 ../build/make_program.py 29950 >"$work/program-half"
-for kind in constants routines blocks nested one scopes let tiny; do
+for kind in constants routines blocks nested one scopes lets let tiny; do
     python3 ../build/make_names.py "$kind" 59000 >"$work/$kind-whole"
     python3 ../build/make_names.py "$kind" 29500 >"$work/$kind-half"
 done
@@ -16,7 +16,7 @@ build_program <"$work/program-half"
 
 measure() {
     local kind
-    for kind in program constants routines blocks nested one scopes let tiny; do
+    for kind in program constants routines blocks nested one scopes lets let tiny; do
         for _ in $(seq 20); do
             echo "$("$program" <"$work/$kind-whole") $("$program" <"$work/$kind-half")"
         done | awk -v kind="$kind" '
