@@ -29,8 +29,8 @@ ghost use Rattle.bc_faults.specs.Parts.{item_fault, item_found, item_width};
 
 use crate::judging::{
     Allowed, Met, address_fault, all_have_cells, all_held, declare_all_once, declare_once,
-    entry_fault, fault_at, jump_fault, level_at, level_of, name_fault, no_faults, parameters_fault,
-    push_width, unless_found, unless_misplaced, widest,
+    entry_fault, fault_at, jump_fault, level_at, level_of, name_fault, names_in, no_faults,
+    parameters_fault, push_width, unless_found, unless_misplaced, widest,
 };
 use crate::progress::{Extent, Progress, also_fits};
 use bc_names::{
@@ -212,6 +212,7 @@ fn constant_fault<'s>(
 }
 
 /// The constants of a TABLE.
+#[inline(never)]
 #[cycle(faults)]
 #[tactic(auto, using(crate::proofs::Frames::frames_along, crate::proofs::Frames::max_along, crate::proofs::Kept::keeping))]
 fn constants<'s>(
@@ -270,6 +271,7 @@ fn initials<'s>(
 }
 
 /// Declarations of constants.
+#[inline(never)]
 #[cycle(faults)]
 #[tactic(auto, using(crate::proofs::Frames::frames_along, crate::proofs::Frames::max_along, bc_names::proofs::Extends::left, crate::proofs::Kept::keeping))]
 fn entries<'s>(
@@ -333,6 +335,7 @@ fn definition<'s>(
 }
 
 /// A routine that gives a value, behind its name.
+#[inline(never)]
 #[cycle(faults)]
 #[tactic(auto, using(crate::proofs::Frames::frames_last, bc_names::proofs::Extends::left, crate::proofs::Kept::keeping))]
 fn function<'s>(
@@ -437,6 +440,7 @@ fn vector_faults<'s>(
 }
 
 /// The faults of the constants of a LET, which see its names as pending.
+#[inline(never)]
 #[cycle(faults)]
 #[tactic(auto, using(bc_names::proofs::Extends::left, crate::proofs::Kept::keeping, crate::proofs::Lets::none_found))]
 fn pending_faults<'s>(
@@ -470,7 +474,7 @@ fn definitions<'s>(
     ensures answer { Walks result (definitions_fault_by inside [] faults.now (scope_view scope.old) (numbers_view progress.old.at) (definitions_view list.now) level) progress.old progress.new (behind_definitions (numbers_view progress.old.at) (definitions_view list.now)) (found_in_definitions (scope_view scope.old) (scope_view scope.old) (numbers_view progress.old.at) (definitions_view list.now) level) (width_of_definitions (scope_view scope.old) (numbers_view progress.old.at) (definitions_view list.now) level) }
     ensures kept { Keeps result scope.old scope.new }
 {
-    let mut before = IndexSet::new(scope.alloc());
+    let mut before = IndexSet::with_capacity(scope.alloc(), names_in(list))?;
     let mut width = 0u64;
     let mut i = 0u64;
     for tree in list {
@@ -530,6 +534,7 @@ fn declaration<'s>(
 }
 
 /// Declarations, each behind those before it.
+#[inline(never)]
 #[cycle(faults)]
 #[tactic(auto, using(crate::proofs::Frames::frames_along, crate::proofs::Frames::max_along, bc_names::proofs::Extends::left, crate::proofs::Kept::keeping))]
 fn declarations<'s>(
@@ -606,6 +611,7 @@ fn declared_then_done<'s>(
 }
 
 /// A label, behind those of its list that were met.
+#[inline(never)]
 #[cycle(faults)]
 #[tactic(auto, using(crate::proofs::Frames::frames_along, crate::proofs::Frames::max_along, crate::proofs::Kept::keeping))]
 fn label<'s>(
@@ -733,6 +739,7 @@ fn repeated<'s>(
 }
 
 /// An assignment: its addresses, its values, and that each address has a cell.
+#[inline(never)]
 #[cycle(faults)]
 #[tactic(auto, using(crate::proofs::Frames::frames_along, crate::proofs::Frames::max_along, crate::proofs::Kept::keeping))]
 fn assignment<'s>(
@@ -757,6 +764,7 @@ fn assignment<'s>(
 }
 
 /// TEST.
+#[inline(never)]
 #[cycle(faults)]
 #[tactic(auto, using(crate::proofs::Frames::frames_along, crate::proofs::Kept::keeping))]
 fn tested<'s>(
@@ -778,6 +786,7 @@ fn tested<'s>(
 }
 
 /// FOR without BY.
+#[inline(never)]
 #[cycle(faults)]
 #[tactic(auto, using(crate::proofs::Frames::frames_along, crate::proofs::Kept::keeping))]
 fn plain_for<'s>(
@@ -801,6 +810,7 @@ fn plain_for<'s>(
 }
 
 /// FOR with BY.
+#[inline(never)]
 #[cycle(faults)]
 #[tactic(auto, using(crate::proofs::Frames::frames_along, crate::proofs::Kept::keeping))]
 fn stepped_for<'s>(
@@ -848,6 +858,7 @@ fn counted<'s>(
 }
 
 /// SWITCHON.
+#[inline(never)]
 #[cycle(faults)]
 #[tactic(auto, using(crate::proofs::Frames::frames_along, crate::proofs::Frames::max_along, crate::proofs::Numberless::items_found, crate::proofs::Numberless::items_width, bc_names::proofs::Extends::left, crate::proofs::Kept::keeping))]
 fn switch<'s>(

@@ -223,6 +223,20 @@ pub fn declare_all_once<'s>(
     Ok(())
 }
 
+/// How many names a LET declares, or the greatest `usize` where there are more. Room is asked for by it.
+pub fn names_in(list: &[Definition<'_>]) -> usize {
+    let mut names = 0usize;
+    for tree in list {
+        names = names.saturating_add(match tree {
+            Definition::Variables(declared, _) => declared.len(),
+            Definition::Vector(_, _)
+            | Definition::Function(_, _, _)
+            | Definition::Routine(_, _, _) => 1,
+        });
+    }
+    names
+}
+
 /// The parameters of a routine.
 pub fn parameters_fault<'s>(alloc: Global, names: &[&'s [u8]]) -> Result<(), ScopeError<'s>>
     ensures { Passes result (all_twice_fault [] (names_view names.now)) }
