@@ -1,9 +1,9 @@
 -- A list without labels, for which no number matters.
 use Rattle.std.proofs.Common.{◌≡◌, ◌+◌, ℕ, refl, ap, ◌∙◌, arith}
 use Rattle.bc_core.specs.Commands as core
-use Rattle.bc_tree.specs.Tree.{Item, Items, no_items, item, Labelled, Labels_alone, Label, Case, Default, Named, Labels, no_labels, label}
+use Rattle.bc_tree.specs.Tree.{Item, Items, no_items, item, Labelled, Labels_alone, Case, Default, Named, Labels, no_labels, label}
 use Rattle.bc_scoping.specs.Scope.{Env, Numbers, behind_labels}
-use Rattle.bc_scoping.specs.Numbering.{labels_named, labels_of, labels_of_item, labels_in, behind_command, behind_items}
+use Rattle.bc_scoping.specs.Numbering.{labels_of, labels_of_item, labels_in, behind_command, behind_items}
 use Rattle.bc_scoping.specs.Scoping.{constant, in_labels, in_item, in_list}
 use Rattle.bc_scoping.specs.Translation.{core_labels, core_items, core_command}
 

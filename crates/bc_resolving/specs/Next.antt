@@ -1,5 +1,4 @@
 -- For proofs: the next numbers, counted or not.
-use Rattle.std.specs.Borrow.{Bor}
 use Rattle.bc_tree.specs.View.{block_view, definition_view}
 use Rattle.bc_resolving.specs.declared.numbering.NextNumbers.{NextNumbers}
 use Rattle.bc_resolving.specs.declared.numbering.Passed.{Passed}

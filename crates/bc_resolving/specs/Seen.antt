@@ -7,6 +7,7 @@ use Rattle.bc_core.specs.Commands as core
 use Rattle.bc_core.specs.Tree.{Exp, Args, no_argument, argument}
 use Rattle.bc_core.specs.View.{exp}
 use Rattle.bc_core.specs.View as view
+use Rattle.bc_resolving.specs.declared.blocks.Branch.{Branch}
 use Rattle.bc_resolving.specs.declared.forms.Formed as code_formed
 use Rattle.bc_resolving.specs.declared.forms.Formed.TheVariants as formed
 use Rattle.bc_scoping.specs.Translation.{Forms, cell, plain, core_command}
@@ -86,3 +87,7 @@ TranslatesWithin view result y after behind known_before known_after =
 -- the sense and the test of a condition
 abbrev pub condition_view : Condition → Bool × Exp
 condition_view c = (c.sense, exp c.test)
+
+-- the test and the block of a branch
+abbrev pub branch_view : Branch → Exp × core.Block
+branch_view b = (exp b.test, view.block_of b.this)

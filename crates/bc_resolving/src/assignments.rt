@@ -65,6 +65,7 @@ fn single<'t, 's>(
 }
 
 /// Several assignments, as a block.
+#[inline(never)]
 fn several<'t, 's>(
     scope: &Scope<'s>,
     at: &mut NextNumbers<'t, 's>,
@@ -83,6 +84,7 @@ fn several<'t, 's>(
 }
 
 /// An assignment: one pair is a command, several are a block of assignments.
+#[inline(never)]
 #[tactic(auto, using(crate::proofs::Pairs::single_is, crate::proofs::Pairs::several_addresses, crate::proofs::Pairs::several_values))]
 pub fn assigned<'t, 's>(
     scope: &Scope<'s>,

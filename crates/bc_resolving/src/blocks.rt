@@ -1,5 +1,6 @@
 //! The translation of blocks and commands.
 ghost use Rattle.std.specs.Prelude.{◌≡◌, ◌+◌, ◌++◌, ◌∷◌, [], map, IfOk};
+ghost use Rattle.bc_core.specs.Commands.{If, Test, While, Repeat, RepeatWhile, For, SwitchOn};
 ghost use Rattle.bc_core.specs.View.{variable, declarations as declarations_of, command as command_of, items as items_of, block_of as core_block_of};
 ghost use Rattle.bc_tree.specs.View.{exp_view, exps_view, command_view, block_view, declaration_view, declarations_view, definition_view, definitions_view, entries_view, label_view, labels_view, item_view, items_view};
 ghost use Rattle.bc_scoping.specs.Source.{label_number as label_number_of};
@@ -10,7 +11,7 @@ ghost use Rattle.bc_scoping.specs.Translation.{forms, forms_of_all, initials as 
 ghost use Rattle.bc_core.specs.Level.{level_in_for};
 ghost use Rattle.bc_names.specs.View.{meant_view, scope_view, Declares};
 ghost use Rattle.bc_resolving.specs.Next.{next_numbers};
-ghost use Rattle.bc_resolving.specs.Seen.{Translates, TranslatesWithin, entry_view, label_entries, labels_before, command_entry, ACommand, condition_view};
+ghost use Rattle.bc_resolving.specs.Seen.{Translates, TranslatesWithin, entry_view, label_entries, labels_before, command_entry, ACommand, condition_view, branch_view};
 ghost use Rattle.bc_resolving.specs.Definitions.{core_definition_by, core_definitions_by};
 
 use crate::assignments::assigned;
@@ -19,7 +20,7 @@ use crate::expressions::{call, value};
 use crate::forms::block_of;
 use crate::numbering::NextNumbers;
 use bc_core::{
-    Block as CoreBlock, Command as CoreCommand, Condition, Declaration as CoreDeclaration,
+    Block as CoreBlock, Command as CoreCommand, Condition, CoreExp, Declaration as CoreDeclaration,
     ListItem, Variable,
 };
 use bc_names::{
@@ -28,6 +29,13 @@ use bc_names::{
 };
 use bc_tree::{Block, Command, Constant, Declaration, Definition, Exp, Item, Label, Storage};
 use bc_word::{Memory, Word};
+
+/// The test of a TEST, and the branch that is taken where it holds.
+#[derive(Drop)]
+struct Branch {
+    test: CoreExp,
+    this: CoreBlock,
+}
 
 /// Initialisers.
 fn initials<'t, 's>(
@@ -61,6 +69,19 @@ fn definition<'t, 's>(
     }
 }
 
+/// How many variables a LET declares, or the greatest `usize` where there are more. Room is asked for by it.
+fn variables_in(list: &[Definition<'_>]) -> usize {
+    let mut variables = 0usize;
+    for tree in list {
+        variables = variables.saturating_add(match tree {
+            Definition::Variables(_, values) => values.len(),
+            Definition::Vector(_, _) => 1,
+            Definition::Function(_, _, _) | Definition::Routine(_, _, _) => 0,
+        });
+    }
+    variables
+}
+
 /// The variables of a LET, whose names are known, with what the names before it say of its definitions.
 fn definitions<'t, 's>(
     scope: &Scope<'s>,
@@ -70,7 +91,7 @@ fn definitions<'t, 's>(
 ) -> Result<Vec<Variable>, Memory>
     ensures { Translates (λ vs. map variable vs.items) result (core_definitions_by priors.now.greatest.items (scope_view scope.now) (next_numbers at.old) (definitions_view list.now)) at.new (behind_definitions (next_numbers at.old) (definitions_view list.now)) }
 {
-    let mut variables = Vec::new(scope.alloc());
+    let mut variables = Vec::with_capacity(scope.alloc(), variables_in(list))?;
     let mut i = 0u64;
     for tree in list {
         definition(scope, priors.at(i).greatest, at, &mut variables, tree)?;
@@ -80,6 +101,7 @@ fn definitions<'t, 's>(
 }
 
 /// The names of a declaration of constants.
+#[inline(never)]
 fn entries<'t, 's>(
     scope: &mut Scope<'s>,
     at: &mut NextNumbers<'t, 's>,
@@ -124,6 +146,7 @@ fn declaration<'t, 's>(
 }
 
 /// Declarations from this next free offset on, whose names are then known; given is the next free offset behind them.
+#[inline(never)]
 fn declarations<'t, 's>(
     scope: &mut Scope<'s>,
     at: &mut NextNumbers<'t, 's>,
@@ -141,6 +164,7 @@ fn declarations<'t, 's>(
 }
 
 /// The labels before a command, the first of which has this number; given is the number behind them.
+#[inline(never)]
 fn labels<'s>(
     scope: &Scope<'s>,
     list: &mut Vec<ListItem>,
@@ -188,6 +212,13 @@ fn entry(labelled: CoreCommand) -> ListItem
     ensures { entry_view result ≡ ACommand (command_of labelled) }
 {
     ListItem::Command(labelled)
+}
+
+#[inline(never)]
+fn push_command(list: &mut Vec<ListItem>, labelled: CoreCommand) -> Result<(), Memory>
+    ensures { IfOk result (λ _. map entry_view list.new.items ≡ map entry_view list.old.items ++ ACommand (command_of labelled) ∷ []) }
+{
+    Ok(list.push(entry(labelled))?)
 }
 
 /// A block at this level.
@@ -262,39 +293,38 @@ fn items<'t, 's>(
 ) -> Result<Vec<ListItem>, Memory>
     ensures { TranslatesWithin (λ is. items_of is.items) result (core_items (scope_view scope.old) number (next_numbers at.old) (items_view trees.now) level) at.new (behind_items (next_numbers at.old) (items_view trees.now)) scope.old scope.new }
 {
-    let mut list = Vec::new(scope.alloc());
+    let mut list = Vec::with_capacity(scope.alloc(), trees.len())?;
     let mut number = number;
     for tree in trees {
-        let mut placed = item(scope, at, &mut number, tree, level)?;
-        list.append(&mut placed)?;
+        number = item(scope, at, number, tree, level, &mut list)?;
     }
     Ok(list)
 }
 
-/// An item, the first label of which has this number, which is then that behind it.
+/// An item behind those of this list, the first label of which has this number; given is the number behind its labels.
 #[cycle(blocks)]
 fn item<'t, 's>(
     scope: &mut Scope<'s>,
     at: &mut NextNumbers<'t, 's>,
-    number: &mut u64,
+    number: u64,
     tree: &'t Item<'s>,
     level: u64,
-) -> Result<Vec<ListItem>, Memory>
-    ensures { IfOk result (λ is. (map entry_view is.items ≡ label_entries (scope_view scope.old) number.old (labels_before (item_view tree.now)) ++ command_entry (scope_view scope.old) (next_numbers at.old) (item_view tree.now) level) × (next_numbers at.new ≡ behind_item (next_numbers at.old) (item_view tree.now)) × (number.new ≡ number.old + labels_of (labels_before (item_view tree.now))) × (scope.new ≡ scope.old)) }
+    list: &mut Vec<ListItem>,
+) -> Result<u64, Memory>
+    ensures { IfOk result (λ n. (map entry_view list.new.items ≡ map entry_view list.old.items ++ (label_entries (scope_view scope.old) number (labels_before (item_view tree.now)) ++ command_entry (scope_view scope.old) (next_numbers at.old) (item_view tree.now) level)) × (next_numbers at.new ≡ behind_item (next_numbers at.old) (item_view tree.now)) × (n ≡ number + labels_of (labels_before (item_view tree.now))) × (scope.new ≡ scope.old)) }
 {
-    let mut list = Vec::new(scope.alloc());
-    *number = labels(scope, &mut list, *number, &tree.labels)?;
+    let behind = labels(scope, list, number, &tree.labels)?;
     match &tree.command {
         Some(labelled) => {
-            let labelled = command(scope, at, labelled, level)?;
-            list.push(entry(labelled))?;
-            Ok(list)
+            push_command(list, command(scope, at, labelled, level)?)?;
+            Ok(behind)
         }
-        None => Ok(list),
+        None => Ok(behind),
     }
 }
 
 /// The body of a REPEAT word.
+#[inline(never)]
 #[cycle(blocks)]
 fn body<'t, 's>(
     scope: &mut Scope<'s>,
@@ -309,6 +339,7 @@ fn body<'t, 's>(
 }
 
 /// The body of a FOR over this variable.
+#[inline(never)]
 #[tactic(auto, using(bc_names::proofs::Extends::left))]
 #[cycle(blocks)]
 fn counted<'t, 's>(
@@ -327,6 +358,144 @@ fn counted<'t, 's>(
     Ok(body)
 }
 
+/// IF or UNLESS.
+#[inline(never)]
+#[cycle(blocks)]
+fn guarded<'t, 's>(
+    scope: &mut Scope<'s>,
+    at: &mut NextNumbers<'t, 's>,
+    tree: &'t Block<'s>,
+    sense: bool,
+    test: &'t Exp<'s>,
+    level: u64,
+) -> Result<CoreCommand, Memory>
+    ensures { TranslatesWithin command_of result (If sense (forms (scope_view scope.old) (next_numbers at.old) (exp_view test.now)).content (core_block (scope_view scope.old) (behind (next_numbers at.old) (exp_view test.now)) (block_view tree.now) level)) at.new (behind_block (behind (next_numbers at.old) (exp_view test.now)) (block_view tree.now)) scope.old scope.new }
+{
+    let test = condition(scope, at, sense, test)?;
+    Ok(conditional(test, block(scope, at, tree, level)?))
+}
+
+/// WHILE or UNTIL.
+#[inline(never)]
+#[cycle(blocks)]
+fn guarded_loop<'t, 's>(
+    scope: &mut Scope<'s>,
+    at: &mut NextNumbers<'t, 's>,
+    tree: &'t Block<'s>,
+    sense: bool,
+    test: &'t Exp<'s>,
+    level: u64,
+) -> Result<CoreCommand, Memory>
+    ensures { TranslatesWithin command_of result (While sense (forms (scope_view scope.old) (next_numbers at.old) (exp_view test.now)).content (core_block (scope_view scope.old) (behind (next_numbers at.old) (exp_view test.now)) (block_view tree.now) level)) at.new (behind_block (behind (next_numbers at.old) (exp_view test.now)) (block_view tree.now)) scope.old scope.new }
+{
+    let test = condition(scope, at, sense, test)?;
+    Ok(looped(test, block(scope, at, tree, level)?))
+}
+
+/// REPEAT.
+#[inline(never)]
+#[cycle(blocks)]
+fn endless_loop<'t, 's>(
+    scope: &mut Scope<'s>,
+    at: &mut NextNumbers<'t, 's>,
+    tree: &'t Command<'s>,
+    level: u64,
+) -> Result<CoreCommand, Memory>
+    ensures { TranslatesWithin command_of result (Repeat (block_of_one (core_command (scope_view scope.old) (next_numbers at.old) (command_view tree.now) level))) at.new (behind_command (next_numbers at.old) (command_view tree.now)) scope.old scope.new }
+{
+    Ok(forever(body(scope, at, tree, level)?))
+}
+
+/// REPEATWHILE or REPEATUNTIL.
+#[inline(never)]
+#[cycle(blocks)]
+fn tested_loop<'t, 's>(
+    scope: &mut Scope<'s>,
+    at: &mut NextNumbers<'t, 's>,
+    tree: &'t Command<'s>,
+    sense: bool,
+    test: &'t Exp<'s>,
+    level: u64,
+) -> Result<CoreCommand, Memory>
+    ensures { TranslatesWithin command_of result (RepeatWhile (block_of_one (core_command (scope_view scope.old) (next_numbers at.old) (command_view tree.now) level)) sense (forms (scope_view scope.old) (behind_command (next_numbers at.old) (command_view tree.now)) (exp_view test.now)).content) at.new (behind (behind_command (next_numbers at.old) (command_view tree.now)) (exp_view test.now)) scope.old scope.new }
+{
+    let body = body(scope, at, tree, level)?;
+    Ok(repeated(body, condition(scope, at, sense, test)?))
+}
+
+/// SWITCHON.
+#[inline(never)]
+#[cycle(blocks)]
+fn switched<'t, 's>(
+    scope: &mut Scope<'s>,
+    at: &mut NextNumbers<'t, 's>,
+    trees: &'t [Item<'s>],
+    of: &'t Exp<'s>,
+    level: u64,
+) -> Result<CoreCommand, Memory>
+    ensures { TranslatesWithin command_of result (SwitchOn (forms (scope_view scope.old) (next_numbers at.old) (exp_view of.now)).content (core_items (in_list (behind (next_numbers at.old) (exp_view of.now)).label (items_view trees.now) (scope_view scope.old)) (behind (next_numbers at.old) (exp_view of.now)).label (behind_labels (behind (next_numbers at.old) (exp_view of.now)) (labels_in_of (items_view trees.now))) (items_view trees.now) level)) at.new (behind_items (behind_labels (behind (next_numbers at.old) (exp_view of.now)) (labels_in_of (items_view trees.now))) (items_view trees.now)) scope.old scope.new }
+{
+    let of = value(scope, at, of)?;
+    let list = command_list(scope, at, trees, level)?;
+    Ok(switch(of, list))
+}
+
+/// The test of a TEST, and its first branch.
+#[inline(never)]
+#[cycle(blocks)]
+fn first_branch<'t, 's>(
+    scope: &mut Scope<'s>,
+    at: &mut NextNumbers<'t, 's>,
+    tree: &'t Block<'s>,
+    test: &'t Exp<'s>,
+    level: u64,
+) -> Result<Branch, Memory>
+    ensures { TranslatesWithin branch_view result ((forms (scope_view scope.old) (next_numbers at.old) (exp_view test.now)).content, core_block (scope_view scope.old) (behind (next_numbers at.old) (exp_view test.now)) (block_view tree.now) level) at.new (behind_block (behind (next_numbers at.old) (exp_view test.now)) (block_view tree.now)) scope.old scope.new }
+{
+    let test = value(scope, at, test)?;
+    let this = block(scope, at, tree, level)?;
+    Ok(Branch { test, this })
+}
+
+/// The second branch of a TEST.
+#[inline(never)]
+#[cycle(blocks)]
+fn second_branch<'t, 's>(
+    scope: &mut Scope<'s>,
+    at: &mut NextNumbers<'t, 's>,
+    tree: &'t Block<'s>,
+    first: Branch,
+    level: u64,
+) -> Result<CoreCommand, Memory>
+    ensures { TranslatesWithin command_of result (Test (branch_view first).0 (branch_view first).1 (core_block (scope_view scope.old) (next_numbers at.old) (block_view tree.now) level)) at.new (behind_block (next_numbers at.old) (block_view tree.now)) scope.old scope.new }
+{
+    let that = block(scope, at, tree, level)?;
+    let Branch { test, this } = first;
+    Ok(chosen(test, this, that))
+}
+
+/// FOR.
+#[inline(never)]
+#[cycle(blocks)]
+fn counted_loop<'t, 's>(
+    scope: &mut Scope<'s>,
+    at: &mut NextNumbers<'t, 's>,
+    tree: &'t Block<'s>,
+    variable: &'s [u8],
+    start: &'t Exp<'s>,
+    limit: &'t Exp<'s>,
+    by: Word,
+    level: u64,
+) -> Result<CoreCommand, Memory>
+    ensures { TranslatesWithin command_of result (For (forms (scope_view scope.old) (next_numbers at.old) (exp_view start.now)).content (forms (scope_view scope.old) (behind (next_numbers at.old) (exp_view start.now)) (exp_view limit.now)).content by (core_block (in_for (scope_view scope.old) variable.entry.now level) (behind (behind (next_numbers at.old) (exp_view start.now)) (exp_view limit.now)) (block_view tree.now) (level_in_for level))) at.new (behind_block (behind (behind (next_numbers at.old) (exp_view start.now)) (exp_view limit.now)) (block_view tree.now)) scope.old scope.new }
+{
+    let start = value(scope, at, start)?;
+    let limit = value(scope, at, limit)?;
+    let body = counted(scope, at, variable, tree, level)?;
+    Ok(counting(start, limit, by, body))
+}
+
+/// A command.
 #[cycle(blocks)]
 fn command<'t, 's>(
     scope: &mut Scope<'s>,
@@ -352,57 +521,30 @@ fn command<'t, 's>(
             let number = short(label_number(scope.meant_by(name)))?;
             Ok(CoreCommand::Goto(number))
         }
-        Command::Repeat(tree) => Ok(forever(body(scope, at, tree, level)?)),
-        Command::RepeatWhile(tree, test) => {
-            let body = body(scope, at, tree, level)?;
-            Ok(repeated(body, condition(scope, at, true, test)?))
-        }
-        Command::RepeatUntil(tree, test) => {
-            let body = body(scope, at, tree, level)?;
-            Ok(repeated(body, condition(scope, at, false, test)?))
-        }
-        Command::If(test, tree) => {
-            let test = condition(scope, at, true, test)?;
-            Ok(conditional(test, block(scope, at, tree, level)?))
-        }
-        Command::Unless(test, tree) => {
-            let test = condition(scope, at, false, test)?;
-            Ok(conditional(test, block(scope, at, tree, level)?))
-        }
-        Command::While(test, tree) => {
-            let test = condition(scope, at, true, test)?;
-            Ok(looped(test, block(scope, at, tree, level)?))
-        }
-        Command::Until(test, tree) => {
-            let test = condition(scope, at, false, test)?;
-            Ok(looped(test, block(scope, at, tree, level)?))
-        }
+        Command::Repeat(tree) => endless_loop(scope, at, tree, level),
+        Command::RepeatWhile(tree, test) => tested_loop(scope, at, tree, true, test, level),
+        Command::RepeatUntil(tree, test) => tested_loop(scope, at, tree, false, test, level),
+        Command::If(test, tree) => guarded(scope, at, tree, true, test, level),
+        Command::Unless(test, tree) => guarded(scope, at, tree, false, test, level),
+        Command::While(test, tree) => guarded_loop(scope, at, tree, true, test, level),
+        Command::Until(test, tree) => guarded_loop(scope, at, tree, false, test, level),
         Command::Test { test, this, that } => {
-            let test = value(scope, at, test)?;
-            let this = block(scope, at, this, level)?;
-            let that = block(scope, at, that, level)?;
-            Ok(chosen(test, this, that))
+            let first = first_branch(scope, at, this, test, level)?;
+            second_branch(scope, at, that, first, level)
         }
         Command::For {
             variable,
             start,
             limit,
             step,
-            body: tree,
+            body,
         } => {
-            let start = value(scope, at, start)?;
-            let limit = value(scope, at, limit)?;
             let by = match step {
                 Some(by) => constant(scope, by),
                 None => Word::new(1),
             };
-            let body = counted(scope, at, variable, tree, level)?;
-            Ok(counting(start, limit, by, body))
+            counted_loop(scope, at, body, variable, start, limit, by, level)
         }
-        Command::SwitchOn(of, list) => {
-            let of = value(scope, at, of)?;
-            let list = command_list(scope, at, list, level)?;
-            Ok(switch(of, list))
-        }
+        Command::SwitchOn(of, list) => switched(scope, at, list, of, level),
     }
 }

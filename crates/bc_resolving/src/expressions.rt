@@ -111,6 +111,7 @@ fn arguments<'t, 's>(
 }
 
 /// A call of a routine with arguments.
+#[inline(never)]
 pub fn call<'t, 's>(
     scope: &Scope<'s>,
     at: &mut NextNumbers<'t, 's>,

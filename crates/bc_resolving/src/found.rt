@@ -49,6 +49,7 @@ fn entry(found: &mut Gathered, storage: Storage, value: Word) -> Result<(), Memo
 }
 
 /// A string.
+#[inline(never)]
 fn text(alloc: Global, found: &mut Gathered, spelling: &[u8]) -> Result<(), Memory>
     ensures { Gathers result found.old found.new (behind_place (numbers_view found.old.at)) (Data found.old.at.place (AText (decoded_of spelling.now)) ∷ []) }
 {
@@ -57,6 +58,7 @@ fn text(alloc: Global, found: &mut Gathered, spelling: &[u8]) -> Result<(), Memo
 }
 
 /// A TABLE.
+#[inline(never)]
 fn table<'s>(scope: &Scope<'s>, found: &mut Gathered, values: &[Exp<'s>]) -> Result<(), Memory>
     ensures { Gathers result found.old found.new (behind_place (numbers_view found.old.at)) (Data found.old.at.place (ATable (words_of (scope_view scope.now) (exps_view values.now))) ∷ []) }
 {
@@ -74,6 +76,7 @@ fn level_at(levels: &[u64], i: u64) -> u64
 }
 
 /// Declarations of constants, whose names are then known.
+#[inline(never)]
 fn entries<'s>(
     scope: &mut Scope<'s>,
     found: &mut Gathered,
@@ -124,6 +127,7 @@ fn expression<'s>(
 }
 
 /// A VALOF, and what is found in it.
+#[inline(never)]
 #[tactic(auto, using(bc_names::proofs::Extends::left))]
 #[cycle(finding)]
 fn valof<'s>(
@@ -225,6 +229,7 @@ fn definition<'s>(
 }
 
 /// A function that sets this global, and what is found in it.
+#[inline(never)]
 #[cycle(finding)]
 fn function<'s>(
     scope: &mut Scope<'s>,
@@ -322,6 +327,7 @@ fn declaration<'s>(
 }
 
 /// Declarations from this next free offset on, whose names are then known; given is the next free offset behind them.
+#[inline(never)]
 #[cycle(finding)]
 fn declarations<'s>(
     scope: &mut Scope<'s>,
@@ -406,6 +412,7 @@ fn one_item<'s>(
 }
 
 /// The body of a FOR over this variable, at the level behind its two cells.
+#[inline(never)]
 #[tactic(auto, using(bc_names::proofs::Extends::left))]
 #[cycle(finding)]
 fn counted<'s>(
