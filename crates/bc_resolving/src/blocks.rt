@@ -1,4 +1,7 @@
 //! The translation of blocks and commands.
+//!
+//! What puts a command together is a function apart that is never inlined, so that what it needs does not lie on the stack
+//! while the blocks within are translated.
 ghost use Rattle.std.specs.Prelude.{◌≡◌, ◌+◌, ◌++◌, ◌∷◌, [], map, IfOk};
 ghost use Rattle.bc_core.specs.Commands.{If, Test, While, Repeat, RepeatWhile, For, SwitchOn};
 ghost use Rattle.bc_core.specs.View.{variable, declarations as declarations_of, command as command_of, items as items_of, block_of as core_block_of};
@@ -214,6 +217,7 @@ fn entry(labelled: CoreCommand) -> ListItem
     ListItem::Command(labelled)
 }
 
+/// Puts a command behind the items of a list.
 #[inline(never)]
 fn push_command(list: &mut Vec<ListItem>, labelled: CoreCommand) -> Result<(), Memory>
     ensures { IfOk result (λ _. map entry_view list.new.items ≡ map entry_view list.old.items ++ ACommand (command_of labelled) ∷ []) }
