@@ -9,5 +9,6 @@ pub mod Marked
 pub mod Cuts
 pub mod Readings
 pub mod Vectors
+pub mod Order
 pub mod Laid
 pub mod Tables

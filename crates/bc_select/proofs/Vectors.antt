@@ -16,16 +16,13 @@ use Rattle.bc_least.specs.Chosen.{chosen, chosen_words, root_choice}
 use Rattle.bc_least.proofs.Words.{choices_are_least}
 use Rattle.bc_select.specs.declared.part.Part.{Part}
 use Rattle.bc_select.specs.declared.row.Row.{Row}
-use Rattle.bc_select.specs.Vector.{node, before_all, vector}
+use Rattle.bc_select.specs.Order.{node_at, parts_in_order}
+use Rattle.bc_select.specs.Vector.{node, before, before_all, vector}
 use Rattle.bc_select.specs.Selection.{root_vector, words_or_none}
 use Rattle.bc_select.specs.Row.{row_of_part}
 use Rattle.bc_select.specs.Rows.{IsRowOf}
 
-row_at : Exp × ℕ → Row
-row_at at = row_of_part (node at.0 at.1)
-
-row_right : (at : Exp × ℕ) → IsRowOf at (row_at at)
-unfolding row_at
+row_right : (at : Exp × ℕ) → IsRowOf at (row_of_part (node_at at))
 row_right at =
     let any = choices_are_least Two at.0 (Gets Any) at.1 in
     let push = choices_are_least Two at.0 (Gets Push) at.1 in
@@ -33,47 +30,57 @@ row_right at =
     let on_true = choices_are_least Two at.0 (Jumps true) at.1 in
     record { costs = (any.0, push.0, on_false.0, on_true.0); rules = (any.1, push.1, on_false.1, on_true.1) }
 
-all_right : (ats : List (Exp × ℕ)) → AllZip IsRowOf ats (map row_at ats)
+all_right : (ats : List (Exp × ℕ)) → AllZip IsRowOf ats (map row_of_part (map node_at ats))
 all_right [] = tt
 all_right (at ∷ ats) = (row_right at, all_right ats)
 
-both : (xs ys : List Part) (ats bts : List (Exp × ℕ)) → map row_of_part xs ≡ map row_at ats → map row_of_part ys ≡ map row_at bts → map row_of_part (xs ++ ys) ≡ map row_at (ats ++ bts)
-both xs ys ats bts h i = map-append row_of_part xs ys ∙ ap (λ zs. zs ++ map row_of_part ys) h ∙ ap (λ zs. map row_at ats ++ zs) i ∙ sym (map-append row_at ats bts)
+both : (xs ys : List Part) (ats bts : List (Exp × ℕ)) → xs ≡ map node_at ats → ys ≡ map node_at bts → xs ++ ys ≡ map node_at (ats ++ bts)
+both xs ys ats bts h i = ap (λ zs. zs ++ ys) h ∙ ap (λ zs. map node_at ats ++ zs) i ∙ sym (map-append node_at ats bts)
 
-own : (e : Exp) (s : ℕ) → map row_of_part (node e s ∷ []) ≡ map row_at ((e, s) ∷ [])
-unfolding row_at
-own e s = refl
+behind : (xs : List Part) (e : Exp) (s : ℕ) (ats : List (Exp × ℕ)) → xs ≡ map node_at ats → xs ++ (node e s ∷ []) ≡ map node_at (ats ++ ((e, s) ∷ []))
+behind xs e s ats h = both xs (node e s ∷ []) ats ((e, s) ∷ []) h refl
 
+-- the nodes are those of the expressions in their order
 mutual
-  vector_rows : (e : Exp) (s : ℕ) → map row_of_part (vector e s) ≡ map row_at (in_order e s)
-  vector_rows (Num n) s = own (Num n) s
-  vector_rows (Frame k) s = own (Frame k) s
-  vector_rows (Glob n) s = own (Glob n) s
-  vector_rows (Place m) s = own (Place m) s
-  vector_rows (Load e) s = both (vector e s) _ (in_order e s) _ (vector_rows e s) (own (Load e) s)
-  vector_rows (Neg e) s = both (vector e s) _ (in_order e s) _ (vector_rows e s) (own (Neg e) s)
-  vector_rows (Not e) s = both (vector e s) _ (in_order e s) _ (vector_rows e s) (own (Not e) s)
-  vector_rows (Bin op a b) s = both _ _ _ _ (both (vector a (s + 1)) (vector b (s + 1)) (in_order a (s + 1)) (in_order b (s + 1)) (vector_rows a (s + 1)) (vector_rows b (s + 1))) (own (Bin op a b) s)
-  vector_rows (Cond c x y) s = both _ _ _ _ (both _ _ _ _ (both (vector c s) (vector x s) (in_order c s) (in_order x s) (vector_rows c s) (vector_rows x s)) (vector_rows y s)) (own (Cond c x y) s)
-  vector_rows (Call es f) s = both _ _ _ _ (both (before_all es (s + 2)) (vector f (s + 2 + count es)) (all_in_order es (s + 2)) (in_order f (s + 2 + count es)) (all_rows es (s + 2)) (vector_rows f (s + 2 + count es))) (own (Call es f) s)
-  vector_rows (Valof n) s = own (Valof n) s
+  pub before_is : (e : Exp) (s : ℕ) → before e s ≡ map node_at (parts_in_order e s)
+  before_is (Num n) s = refl
+  before_is (Frame k) s = refl
+  before_is (Glob n) s = refl
+  before_is (Place m) s = refl
+  before_is (Load e) s = vector_is e s
+  before_is (Neg e) s = vector_is e s
+  before_is (Not e) s = vector_is e s
+  before_is (Bin op a b) s = both (vector a (s + 1)) (vector b (s + 1)) (in_order a (s + 1)) (in_order b (s + 1)) (vector_is a (s + 1)) (vector_is b (s + 1))
+  before_is (Cond c x y) s = both _ _ _ _ (both (vector c s) (vector x s) (in_order c s) (in_order x s) (vector_is c s) (vector_is x s)) (vector_is y s)
+  before_is (Call es f) s = both (before_all es (s + 2)) (vector f (s + 2 + count es)) (all_in_order es (s + 2)) (in_order f (s + 2 + count es)) (before_all_is es (s + 2)) (vector_is f (s + 2 + count es))
+  before_is (Valof n) s = refl
 
-  all_rows : (es : Args) (s : ℕ) → map row_of_part (before_all es s) ≡ map row_at (all_in_order es s)
-  all_rows no_argument s = refl
-  all_rows (argument e es) s = both (vector e s) (before_all es (s + 1)) (in_order e s) (all_in_order es (s + 1)) (vector_rows e s) (all_rows es (s + 1))
+  pub vector_is : (e : Exp) (s : ℕ) → vector e s ≡ map node_at (in_order e s)
+  vector_is (Num n) s = refl
+  vector_is (Frame k) s = refl
+  vector_is (Glob n) s = refl
+  vector_is (Place m) s = refl
+  vector_is (Load e) s = behind (vector e s) (Load e) s (in_order e s) (vector_is e s)
+  vector_is (Neg e) s = behind (vector e s) (Neg e) s (in_order e s) (vector_is e s)
+  vector_is (Not e) s = behind (vector e s) (Not e) s (in_order e s) (vector_is e s)
+  vector_is (Bin op a b) s = behind _ (Bin op a b) s _ (both (vector a (s + 1)) (vector b (s + 1)) (in_order a (s + 1)) (in_order b (s + 1)) (vector_is a (s + 1)) (vector_is b (s + 1)))
+  vector_is (Cond c x y) s = behind _ (Cond c x y) s _ (both _ _ _ _ (both (vector c s) (vector x s) (in_order c s) (in_order x s) (vector_is c s) (vector_is x s)) (vector_is y s))
+  vector_is (Call es f) s = behind _ (Call es f) s _ (both (before_all es (s + 2)) (vector f (s + 2 + count es)) (all_in_order es (s + 2)) (in_order f (s + 2 + count es)) (before_all_is es (s + 2)) (vector_is f (s + 2 + count es)))
+  vector_is (Valof n) s = refl
 
-root_rows : (r : Root) → map row_of_part (root_vector r) ≡ map row_at (root_in_order r)
-root_rows (Value s e) = vector_rows e s
-root_rows (Test s sense e) = vector_rows e s
-root_rows (Assign s v a) = both (vector v (side_level a s)) (vector a (side_level a s)) (in_order v (side_level a s)) (in_order a (side_level a s)) (vector_rows v (side_level a s)) (vector_rows a (side_level a s))
+  before_all_is : (es : Args) (s : ℕ) → before_all es s ≡ map node_at (all_in_order es s)
+  before_all_is no_argument s = refl
+  before_all_is (argument e es) s = both (vector e s) (before_all es (s + 1)) (in_order e s) (all_in_order es (s + 1)) (vector_is e s) (before_all_is es (s + 1))
 
-rows_right : (r : Root) → AllZip IsRowOf (root_in_order r) (map row_of_part (root_vector r))
-rows_right r = let P : List Row → Type 0 = λ rows. AllZip IsRowOf (root_in_order r) rows in subst P (sym (root_rows r)) (all_right (root_in_order r))
+pub root_vector_is : (r : Root) → root_vector r ≡ map node_at (root_in_order r)
+root_vector_is (Value s e) = vector_is e s
+root_vector_is (Test s sense e) = vector_is e s
+root_vector_is (Assign s v a) = both (vector v (side_level a s)) (vector a (side_level a s)) (in_order v (side_level a s)) (in_order a (side_level a s)) (vector_is v (side_level a s)) (vector_is a (side_level a s))
 
-pub rows_of_root : (r : Root) (rows : List Row) (nodes front : List Part) → rows ≡ map row_of_part nodes → nodes ≡ front ++ root_vector r → front ≡ [] → AllZip IsRowOf (root_in_order r) rows
-rows_of_root r rows nodes front h i j =
+pub rows_of_root : (r : Root) (rows : List Row) (nodes : List Part) → rows ≡ map row_of_part nodes → nodes ≡ root_vector r → AllZip IsRowOf (root_in_order r) rows
+rows_of_root r rows nodes h i =
     let P : List Row → Type 0 = λ x. AllZip IsRowOf (root_in_order r) x in
-    subst P (sym (h ∙ ap (map row_of_part) (i ∙ ap (λ x. x ++ root_vector r) j))) (rows_right r)
+    subst P (sym (h ∙ ap (map row_of_part) (i ∙ root_vector_is r))) (all_right (root_in_order r))
 
 counted : (x : Option Choice) (n : ℕ) → words_of x ≡ Some n → words_or_none x ≡ n
 counted None n h = cc

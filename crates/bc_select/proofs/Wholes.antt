@@ -1,5 +1,5 @@
 -- Wholes from their parts.
-use Rattle.std.proofs.Common.{◌≡◌, ℕ, ◌+◌, ◌≤◌, ◌^◌, List, [], ◌∷◌, ◌++◌, length, true, Option, None, refl, ap, sym, ◌∙◌, arith, append_assoc}
+use Rattle.std.proofs.Common.{◌≡◌, ℕ, ◌+◌, ◌≤◌, ◌^◌, List, [], ◌∷◌, length, true, Option, None, refl, ap, sym, ◌∙◌, arith}
 use Rattle.bc_word.specs.declared.operator.Op.{Op}
 use Rattle.bc_core.specs.declared.expression.CoreExp.{CoreExp}
 use Rattle.bc_core.specs.declared.operands.Operand.{Operand}
@@ -17,7 +17,7 @@ use Rattle.bc_derive.specs.Piece.{w}
 use Rattle.bc_least.specs.Choices.{leaf_choices, number_choices, number_tests, by_value, unary_choices, cond_choices, call_choices, pair_choices, words_of_all, choices, node_of}
 use Rattle.bc_select.specs.declared.part.Part.{Part}
 use Rattle.bc_select.specs.declared.pair.Pair.{Pair}
-use Rattle.bc_select.specs.Vector.{node, pair_of, part_of_pair, before, before_all, vector}
+use Rattle.bc_select.specs.Vector.{node, pair_of, part_of_pair}
 use Rattle.bc_select.specs.Small.{Small}
 use Rattle.bc_select.proofs.Bounds.{value_small, line_bound, by_value_bound, number_tests_bound, under_small}
 
@@ -67,10 +67,6 @@ pub call_whole : (es : List CoreExp) (f : Exp) (s : ℕ) (w : Option ℕ) (n : �
 unfolding whole
 call_whole es f s w n r c h i j k =
     ap (λ x. whole x n r.nodes) (k ∙ call_same es f s w r h j) ∙ ap (λ x. whole (choices Two (tree.Call (args es) f) s) x r.nodes) i ∙ ap (λ q. whole (choices Two (tree.Call (args es) f) s) (nodes_of_args (args es)) q.nodes) j
-
-pub call_nodes : (old mid new : List Part) (es : List CoreExp) (f : Exp) (s : ℕ) → mid ≡ old ++ before_all (args es) (s + 2) → new ≡ mid ++ vector f (s + 2 + length es) → new ≡ old ++ before (tree.Call (args es) f) s
-call_nodes old mid new es f s h i =
-    i ∙ ap (λ n. mid ++ vector f (s + 2 + n)) (sym (args_count es)) ∙ ap (λ x. x ++ vector f (s + 2 + count (args es))) h ∙ append_assoc old (before_all (args es) (s + 2)) (vector f (s + 2 + count (args es)))
 
 operand_at : Exp → Part → Node
 operand_at e q = record { choices = q.choices; operand = operand_of e; number = constant_of e; calls = q.calls; nodes = q.nodes }

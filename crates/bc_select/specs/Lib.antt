@@ -10,3 +10,4 @@ pub mod Marks
 pub mod Row
 pub mod Selection
 pub mod Rows
+pub mod Order

@@ -1,81 +1,133 @@
-// The nodes of an expression in one table, parts before wholes.
+// The nodes of expressions in one table, parts before wholes, laid out by two loops: first the expressions are listed, wholes before parts
+// and the last part first, and then their nodes are made from the end of that list. So neither takes stack for the depth of the tree.
 
-ghost use Rattle.std.specs.Prelude.{◌≡◌, ◌≤◌, ◌+◌, ◌*◌, ◌^◌, ◌++◌, ◌∷◌, [], OnOk};
+ghost use Rattle.std.specs.Prelude.{◌≡◌, ◌≤◌, ◌+◌, ◌*◌, ◌^◌, ◌++◌, [], None, map, IfOk, OnOk};
 ghost use Rattle.bc_core.specs.View.{exp, args};
-ghost use Rattle.bc_core.specs.WellFormed.{nodes as nodes_in, nodes_of_args};
-ghost use Rattle.bc_select.specs.Laid.{EndsInParts};
-ghost use Rattle.bc_select.specs.Vector.{node as node_of, before, before_all, vector};
+ghost use Rattle.bc_core.specs.WellFormed.{nodes_of_args};
+ghost use Rattle.bc_select.specs.Order.{Fits, AllFit, ArgumentsPut, PartsPut, listed, in_order_of, from_the_end, node_at, CanFollow};
 
 use crate::table::Table;
 use crate::whole::node;
 use bc_core::CoreExp;
 use bc_word::Memory;
+use std::alloc::Global;
 
-/// Puts the node of an expression behind those of its parts. It stands apart so that the recursion over the tree takes little stack.
-#[inline(never)]
-fn push_node(e: &CoreExp, level: u64, nodes: &mut Table) -> Result<(), Memory>
-    requires fits { level + 2 * nodes_in (exp e.now) ≤ 2 ^ 40 }
-    requires laid { EndsInParts nodes.old (exp e.now) level }
-    ensures { OnOk result (nodes.new ≡ nodes.old ++ (node_of (exp e.now) level ∷ [])) }
-{
-    let node = node(e, level, &nodes.nodes());
-    nodes.push(&node)
+/// An expression at its level.
+#[derive(Clone, Copy)]
+pub struct AtLevel<'a> {
+    pub e: &'a CoreExp,
+    pub level: u64,
 }
 
-/// Puts the nodes of an expression's parts behind the others.
-#[cycle(laying)]
-#[tactic(auto, using(bc_core::proofs::Rows::call_view))]
-fn lay_out_parts(e: &CoreExp, level: u64, nodes: &mut Table) -> Result<(), Memory>
-    requires { level + 2 * nodes_in (exp e.now) ≤ 2 ^ 40 }
-    ensures { OnOk result (nodes.new ≡ nodes.old ++ before (exp e.now) level) }
+/// An expression at a level.
+#[inline(always)]
+pub fn at_level<'a>(e: &'a CoreExp, level: u64) -> AtLevel<'a>
+    ensures e { exp result.e.now ≡ exp e.now }
+    ensures level { result.level ≡ level }
 {
-    match e {
-        CoreExp::Num(_)
-        | CoreExp::Frame(_)
-        | CoreExp::Glob(_)
-        | CoreExp::Place(_)
-        | CoreExp::Valof(_) => Ok(()),
-        CoreExp::Load(part) | CoreExp::Neg(part) | CoreExp::Not(part) => {
-            lay_out(part, level, nodes)
-        }
-        CoreExp::Bin(_, left, right) => {
-            lay_out(left, level + 1, nodes)?;
-            lay_out(right, level + 1, nodes)
-        }
-        CoreExp::Cond(condition, this, that) => {
-            lay_out(condition, level, nodes)?;
-            lay_out(this, level, nodes)?;
-            lay_out(that, level, nodes)
-        }
-        CoreExp::Call(arguments, routine) => {
-            let count = arguments.len() as u64;
-            lay_out_all(arguments, level + 2, nodes)?;
-            lay_out(routine, level + 2 + count, nodes)
-        }
-    }
+    AtLevel { e, level }
 }
 
-/// Puts the nodes of the arguments of a call behind the others.
-#[cycle(laying)]
-fn lay_out_all(arguments: &[CoreExp], level: u64, nodes: &mut Table) -> Result<(), Memory>
+/// Puts the arguments of a call, the first of which stands at this level, behind those that wait.
+fn put_arguments<'a>(
+    arguments: &'a [CoreExp],
+    level: u64,
+    waiting: &mut Vec<AtLevel<'a>>,
+) -> Result<(), Memory>
     requires { level + 2 * nodes_of_args (args arguments.now) ≤ 2 ^ 40 }
-    ensures { OnOk result (nodes.new ≡ nodes.old ++ before_all (args arguments.now) level) }
+    ensures { OnOk result (ArgumentsPut waiting.old.items waiting.new.items (args arguments.now) level) }
 {
     let Some((first, others)) = arguments.split_first() else {
         return Ok(());
     };
-    lay_out(first, level, nodes)?;
-    lay_out_all(others, level + 1, nodes)
+    waiting.push(at_level(first, level))?;
+    put_arguments(others, level + 1, waiting)
 }
 
-/// Puts the nodes of an expression behind the others.
-///
-/// `Memory` comes where the table could not grow.
-#[cycle(laying)]
-pub fn lay_out(e: &CoreExp, level: u64, nodes: &mut Table) -> Result<(), Memory>
-    requires { level + 2 * nodes_in (exp e.now) ≤ 2 ^ 40 }
-    ensures { OnOk result (nodes.new ≡ nodes.old ++ vector (exp e.now) level) }
+/// Puts the parts of an expression but the last behind those that wait, and gives the last.
+#[inline(always)]
+#[tactic(auto, using(bc_core::proofs::Rows::call_view))]
+fn put_parts<'a>(
+    whole: AtLevel<'a>,
+    waiting: &mut Vec<AtLevel<'a>>,
+) -> Result<Option<AtLevel<'a>>, Memory>
+    requires { Fits whole }
+    ensures { IfOk result (λ last. PartsPut waiting.old.items waiting.new.items last whole.entry) }
 {
-    lay_out_parts(e, level, nodes)?;
-    push_node(e, level, nodes)
+    let level = whole.level;
+    match whole.e {
+        CoreExp::Num(_)
+        | CoreExp::Frame(_)
+        | CoreExp::Glob(_)
+        | CoreExp::Place(_)
+        | CoreExp::Valof(_) => Ok(None),
+        CoreExp::Load(part) => Ok(Some(at_level(part, level))),
+        CoreExp::Neg(part) => Ok(Some(at_level(part, level))),
+        CoreExp::Not(part) => Ok(Some(at_level(part, level))),
+        CoreExp::Bin(_, left, right) => {
+            waiting.push(at_level(left, level + 1))?;
+            Ok(Some(at_level(right, level + 1)))
+        }
+        CoreExp::Cond(condition, this, that) => {
+            waiting.push(at_level(condition, level))?;
+            waiting.push(at_level(this, level))?;
+            Ok(Some(at_level(that, level)))
+        }
+        CoreExp::Call(arguments, routine) => {
+            let behind = level + 2 + arguments.len() as u64;
+            put_arguments(arguments, level + 2, waiting)?;
+            Ok(Some(at_level(routine, behind)))
+        }
+    }
+}
+
+/// This expression, or where there is none the last that waits.
+#[inline(always)]
+fn take_next<'a>(last: Option<AtLevel<'a>>, waiting: &mut Vec<AtLevel<'a>>) -> Option<AtLevel<'a>>
+    ensures same { waiting.old.items ++ listed last.entry ≡ waiting.new.items ++ listed result }
+    ensures over { result ≡ None → waiting.new.items ≡ [] }
+{
+    match last {
+        Some(at) => Some(at),
+        None => waiting.pop(),
+    }
+}
+
+/// What waits with all that stands below it, wholes before parts and the last first.
+fn ordered<'a>(alloc: Global, mut waiting: Vec<AtLevel<'a>>) -> Result<Vec<AtLevel<'a>>, Memory>
+    requires { AllFit waiting.items }
+    ensures { IfOk result (λ order. from_the_end order.items ≡ in_order_of waiting.entry.items) }
+{
+    let mut order = Vec::new(alloc);
+    let mut next = take_next(None, &mut waiting);
+    while let Some(whole) = next {
+        order.push(whole)?;
+        let last = put_parts(whole, &mut waiting)?;
+        next = take_next(last, &mut waiting);
+    }
+    Ok(order)
+}
+
+/// The nodes of these expressions, from the last to the first.
+fn filled(alloc: Global, mut order: Vec<AtLevel>) -> Result<Table, Memory>
+    requires { CanFollow [] (from_the_end order.items) }
+    ensures { IfOk result (λ nodes. nodes ≡ map node_at (from_the_end order.entry.items)) }
+{
+    let mut nodes = Table::with_capacity(alloc, order.len())?;
+    while let Some(whole) = order.pop() {
+        let node = node(whole.e, whole.level, &nodes.nodes());
+        nodes.push(&node)?;
+    }
+    Ok(nodes)
+}
+
+/// The nodes of what waits, parts before wholes.
+///
+/// `Memory` comes where an allocation was refused.
+pub fn lay_out(alloc: Global, waiting: Vec<AtLevel>) -> Result<Table, Memory>
+    requires { AllFit waiting.items }
+    ensures { IfOk result (λ nodes. nodes ≡ map node_at (in_order_of waiting.entry.items)) }
+{
+    let order = ordered(alloc, waiting)?;
+    filled(alloc, order)
 }

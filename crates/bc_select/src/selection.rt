@@ -12,11 +12,12 @@ ghost use Rattle.bc_least.specs.Chosen.{chosen, root_choice, root_reading};
 ghost use Rattle.bc_least.specs.Nodes.{root_nodes, root_in_order};
 ghost use Rattle.bc_select.specs.Rows.{IsRowOf};
 ghost use Rattle.bc_select.specs.Selection.{root_vector, words_or_none};
+ghost use Rattle.bc_select.specs.Order.{AreOf};
 ghost use Rattle.bc_select.specs.Vector.{vector};
 ghost use Rattle.bc_least.specs.Readings.{tree_for, readings};
 ghost use Rattle.bc_least.specs.Choices.{choice_for as choice_of, choices};
 
-use crate::layout::lay_out;
+use crate::layout::{AtLevel, at_level, lay_out};
 use crate::mark::read;
 use crate::pair::assign_choice;
 use crate::part::own_operand;
@@ -50,11 +51,12 @@ struct Reading {
     words: u64,
 }
 
-/// Puts the nodes of a root behind the others.
-fn lay_out_root(root: &Root, nodes: &mut Table) -> Result<(), Memory>
+/// The expression of a root, or the value and the address of an assignment, at their level.
+fn expressions(alloc: Global, root: &Root) -> Result<Vec<AtLevel<'_>>, Memory>
     requires { root_nodes (root_of root.now) ≤ 2 ^ 32 }
-    ensures { OnOk result (nodes.new ≡ nodes.old ++ root_vector (root_of root.now)) }
+    ensures { IfOk result (λ found. AreOf found.items (root_of root.now)) }
 {
+    let mut found = Vec::new(alloc);
     match root {
         Root::Value {
             level,
@@ -64,17 +66,27 @@ fn lay_out_root(root: &Root, nodes: &mut Table) -> Result<(), Memory>
             level,
             expression: e,
             ..
-        } => lay_out(e, u64::from(*level), nodes),
+        } => found.push(at_level(e, u64::from(*level)))?,
         Root::Assign {
             level,
             value,
             address,
         } => {
             let side = side_level(address, u64::from(*level));
-            lay_out(value, side, nodes)?;
-            lay_out(address, side, nodes)
+            found.push(at_level(value, side))?;
+            found.push(at_level(address, side))?;
         }
     }
+    Ok(found)
+}
+
+/// The nodes of a root.
+fn lay_out_root(alloc: Global, root: &Root) -> Result<Table, Memory>
+    requires { root_nodes (root_of root.now) ≤ 2 ^ 32 }
+    ensures { IfOk result (λ nodes. nodes ≡ root_vector (root_of root.now)) }
+{
+    let found = expressions(alloc, root)?;
+    lay_out(alloc, found)
 }
 
 /// An expression, with what its code is for.
@@ -200,8 +212,7 @@ pub fn select(alloc: Global, root: &Root) -> Result<Selected, Memory>
     ensures words { IfOk result (λ s. s.words ≡ root_cost (chosen Two (root_of root.now))) }
     ensures table { IfOk result (λ s. AllZip IsRowOf (root_in_order (root_of root.now)) s.table.items) }
 {
-    let mut table = Table::new(alloc);
-    lay_out_root(root, &mut table)?;
+    let table = lay_out_root(alloc, root)?;
     let Reading { derivation, words } = read_root(alloc, root, &table.nodes())?;
     Ok(Selected {
         derivation,
@@ -217,7 +228,6 @@ pub fn rows(alloc: Global, root: &Root) -> Result<Vec<Row>, Memory>
     requires { root_nodes (root_of root.now) ≤ 2 ^ 32 }
     ensures { IfOk result (λ v. AllZip IsRowOf (root_in_order (root_of root.now)) v.items) }
 {
-    let mut table = Table::new(alloc);
-    lay_out_root(root, &mut table)?;
+    let table = lay_out_root(alloc, root)?;
     Ok(table.into_rows())
 }

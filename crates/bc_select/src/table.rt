@@ -1,6 +1,6 @@
 // The nodes of expressions in two vectors: their rows, and what their wholes ask besides.
 
-ghost use Rattle.std.specs.Prelude.{◌≡◌, ◌≤◌, ◌+◌, ◌++◌, ◌∷◌, [], List, OnOk, length, map, take, drop};
+ghost use Rattle.std.specs.Prelude.{◌≡◌, ◌≤◌, ◌+◌, ◌++◌, ◌∷◌, [], List, IfOk, OnOk, length, map, take, drop};
 ghost use Rattle.bc_least.specs.Choices.{choice_for as choice_of};
 ghost use Rattle.bc_select.specs.Reads.{rule_or_v1};
 ghost use Rattle.bc_select.specs.Row.{row_of_part};
@@ -95,14 +95,15 @@ impl<'a> Model for Nodes<'a> {
 }
 
 impl Table {
-    /// No nodes.
-    pub fn new(alloc: Global) -> Table
-        ensures { result ≡ [] }
+    /// No nodes, with room for so many.
+    ///
+    /// `Memory` comes where an allocation was refused.
+    pub fn with_capacity(alloc: Global, count: usize) -> Result<Table, Memory>
+        ensures { IfOk result (λ nodes. nodes ≡ []) }
     {
-        Table {
-            rows: Vec::new(alloc),
-            spans: Vec::new(alloc),
-        }
+        let rows = Vec::with_capacity(alloc, count)?;
+        let spans = Vec::with_capacity(alloc, count)?;
+        Ok(Table { rows, spans })
     }
 
     /// The nodes.

@@ -3,4 +3,4 @@ use Rattle.bc_select.proofs.Vectors.{rows_of_root}
 use Rattle.bc_select.proofs.selection.rows.Goals as goal
 
 pub returns : goal.returns
-returns c = rows_of_root (root c.args.root.now) _ _ _ c.into_rows.ensures c.in_ok-lay_out_root.ensures c.new-table.ensures
+returns c = rows_of_root (root c.args.root.now) _ _ c.into_rows.ensures c.in_ok-table.ensures

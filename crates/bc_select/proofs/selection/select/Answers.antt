@@ -12,4 +12,4 @@ pub returns-clause-words : goal.returns-clause-words
 returns-clause-words c = c.in_ok-derivation.ensures.words ∙ words_are (root c.args.root.now)
 
 pub returns-clause-table : goal.returns-clause-table
-returns-clause-table c = rows_of_root (root c.args.root.now) _ _ _ c.into_rows.ensures c.in_ok-lay_out_root.ensures c.new-table.ensures
+returns-clause-table c = rows_of_root (root c.args.root.now) _ _ c.into_rows.ensures c.in_ok-table.ensures
