@@ -8,10 +8,6 @@ set -eu
 cd "$(dirname "$0")"
 . ../workspace.sh
 make_workspace select_bench select.rt.in anyhow bc_core bc_rules bc_select bc_word bc_least
-# Counting a root's nodes, which `select` asks for, is proved in a crate that keeps it to itself.
-mkdir -p "$work/crates/select_bench/proofs/nodes/+counting"
-cp ../../crates/bc_entries/src/nodes.rt "$work/crates/select_bench/src/nodes.rt"
-sed 's/bc_entries/select_bench/' ../../crates/bc_entries/proofs/nodes/+counting/Invariants.antt >"$work/crates/select_bench/proofs/nodes/+counting/Invariants.antt"
 echo '0 10' | build_program
 
 # The trees are walked by recursion, to their depth.

@@ -7,14 +7,13 @@ ghost use Rattle.bc_derive.specs.View.{derivation as tree, entry as entry_of};
 ghost use Rattle.bc_entries.specs.Exact.{AddsNodes, IsEntryText};
 
 use crate::lines::{code_line, entry_line, node_lines, root_line};
-use crate::nodes::is_within;
 use crate::text::Text;
 use crate::walk::marks_of;
 use bc_core::Root;
 use bc_derive::{Derivation, Entry, Piece};
 use bc_item::Item;
 use bc_rules::{code_of, words};
-use bc_select::rows;
+use bc_select::{is_selectable, rows};
 use bc_word::Memory;
 use std::alloc::Global;
 
@@ -37,7 +36,7 @@ fn root_nodes(
 ) -> Result<(), Memory>
     ensures { OnOk result (AddsNodes (root_of root.now) (tree derivation.now) text.old.bytes.items text.new.bytes.items) }
 {
-    if !is_within(root) {
+    if !is_selectable(root) {
         return Err(Memory);
     }
     let rows = rows(alloc, root)?;

@@ -5,11 +5,10 @@ ghost use Rattle.bc_derive.specs.View.{derivation as derivation_view};
 ghost use Rattle.bc_gen.specs.Chosen.{coding};
 ghost use Rattle.bc_gen.specs.Writing.{IsNext};
 
-use crate::nodes::is_within;
 use bc_core::Root;
 use bc_derive::{Derivation, Piece};
 use bc_rules::{code_of, next_label};
-use bc_select::select;
+use bc_select::{is_selectable, select};
 use bc_word::Memory;
 use std::alloc::Global;
 
@@ -20,7 +19,7 @@ use std::alloc::Global;
 pub(crate) fn chosen(alloc: Global, root: &Root) -> Result<Derivation, Memory>
     ensures { IfOk result (λ d. derivation_view d ≡ coding.derivation (root_view root.now)) }
 {
-    if !is_within(root) {
+    if !is_selectable(root) {
         return Err(Memory);
     }
     Ok(select(alloc, root)?.derivation)

@@ -8,7 +8,6 @@ mod gen_error;
 mod generation;
 mod items;
 mod lists;
-mod nodes;
 mod parts;
 mod roots;
 mod writer;

@@ -10,4 +10,5 @@ pub mod Marks
 pub mod Row
 pub mod Selection
 pub mod Rows
+pub mod Counted
 pub mod Order

@@ -2,6 +2,7 @@
 #![tactic(auto)]
 
 mod candidates;
+mod counting;
 mod layout;
 mod line;
 mod mark;
@@ -18,5 +19,6 @@ mod waiting;
 mod whole;
 
 pub use bc_derive::{Derivation, Rule};
+pub use counting::is_selectable;
 pub use row::Row;
 pub use selection::{Selected, rows, select};

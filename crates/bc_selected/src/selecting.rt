@@ -1,62 +1,13 @@
-ghost use Rattle.std.specs.Prelude.{◌≡◌, ◌+◌, ◌≤◌, ◌^◌, IfSome, IsTrue};
-ghost use Rattle.bc_core.specs.View.{exp, args, root as root_of};
-ghost use Rattle.bc_core.specs.WellFormed.{nodes as nodes_in, nodes_of_args};
+ghost use Rattle.std.specs.Prelude.{◌≤◌, ◌^◌};
+ghost use Rattle.bc_core.specs.View.{root as root_of};
 ghost use Rattle.bc_least.specs.Nodes.{root_nodes};
 
 use bc_core::{CoreExp, Root};
-use bc_select::{Derivation, Row, Rule, rows, select};
+use bc_select::{Derivation, Row, Rule, is_selectable, rows, select};
 use bc_word::{Memory, Op, Word};
 use std::alloc::Global;
 use std::process::Abort;
 use std::test::Fail;
-
-/// What is left of a number of nodes behind those of an expression.
-#[cycle(counting)]
-#[tactic(auto, using(bc_core::proofs::Rows::call_view))]
-fn left_after(e: &CoreExp, budget: u32) -> Option<u32>
-    ensures { IfSome result (λ left. nodes_in (exp e.now) + left ≤ budget) }
-{
-    let left = budget.checked_sub(1)?;
-    match e {
-        CoreExp::Num(_)
-        | CoreExp::Frame(_)
-        | CoreExp::Glob(_)
-        | CoreExp::Place(_)
-        | CoreExp::Valof(_) => Some(left),
-        CoreExp::Load(part) => left_after(part, left),
-        CoreExp::Neg(part) => left_after(part, left),
-        CoreExp::Not(part) => left_after(part, left),
-        CoreExp::Bin(_, first, second) => left_after(second, left_after(first, left)?),
-        CoreExp::Cond(condition, this, that) => {
-            left_after(that, left_after(this, left_after(condition, left)?)?)
-        }
-        CoreExp::Call(arguments, routine) => left_after(routine, left_after_all(arguments, left)?),
-    }
-}
-
-#[cycle(counting)]
-fn left_after_all(arguments: &[CoreExp], budget: u32) -> Option<u32>
-    ensures { IfSome result (λ left. nodes_of_args (args arguments.now) + left ≤ budget) }
-{
-    let Some((first, others)) = arguments.split_first() else {
-        return Some(budget);
-    };
-    left_after_all(others, left_after(first, budget)?)
-}
-
-/// Whether a root is one of those that may be handed in.
-fn fits(root: &Root) -> bool
-    ensures { IsTrue result → root_nodes (root_of root.now) ≤ 2 ^ 32 }
-{
-    match root {
-        Root::Value { expression, .. } => left_after(expression, u32::MAX).is_some(),
-        Root::Test { expression, .. } => left_after(expression, u32::MAX).is_some(),
-        Root::Assign { value, address, .. } => match left_after(value, u32::MAX) {
-            Some(left) => left_after(address, left).is_some(),
-            None => false,
-        },
-    }
-}
 
 fn number(n: u16) -> CoreExp {
     CoreExp::Num(Word::new(n))
@@ -88,7 +39,7 @@ fn value(level: u16, expression: CoreExp) -> Root {
 
 /// The words of a root.
 fn words(rt: &impl Abort, alloc: Global, root: &Root) -> Result<u64, Memory> {
-    assert!(rt; fits(root));
+    assert!(rt; is_selectable(root));
     Ok(select(alloc, root)?.words)
 }
 
@@ -118,7 +69,7 @@ fn over(alloc: Global, rule: Rule, part: Derivation) -> Result<Derivation, Fail>
 fn a_sum_times_a_difference(rt: HostRuntime) -> Result<(), Fail> {
     let alloc = rt.alloc();
     let root = value(6, of_four(alloc, Op::Multiply, Op::Add, Op::Subtract)?);
-    assert!(rt; fits(&root));
+    assert!(rt; is_selectable(&root));
     let selected = select(alloc, &root)?;
     assert!(rt; selected.words == 6);
     let sum = over(alloc, Rule::V6, leaf(alloc, Rule::V1))?;
@@ -251,7 +202,7 @@ fn both_calls(alloc: Global, root: &Root) -> Result<usize, Memory>
 fn growth_is_given(rt: HostRuntime) -> Result<(), Fail> {
     let alloc = rt.alloc();
     let root = value(6, of_four(alloc, Op::Multiply, Op::Add, Op::Subtract)?);
-    assert!(rt; fits(&root));
+    assert!(rt; is_selectable(&root));
     assert!(rt; both_calls(alloc, &root)? == 22);
     Ok(())
 }
@@ -263,7 +214,7 @@ fn refused_growth_is_memory(rt: HostRuntime) -> Result<(), Fail> {
         return Ok(());
     };
     let root = value(6, expression);
-    assert!(rt; fits(&root));
+    assert!(rt; is_selectable(&root));
     match both_calls(alloc, &root) {
         Ok(count) => assert!(rt; count == 22),
         Err(Memory) => (),
