@@ -1,9 +1,11 @@
 #!/usr/bin/env python3
 """against_sizes.py PROGRAM [ROUNDS]: runs the selector's bench on roots of four kinds that double from a thousand nodes to a million.
 
-Each round runs each root once, small ones four times, and the best time of all rounds counts (10, if nothing is said): so work of others
-on the machine disturbs no one size more than the others.
+Each round (20, if nothing is said; the largest roots have a third of them) runs each root and the one of twice its nodes, one directly
+behind the other, so that what else the machine does disturbs both alike. For how many times as long the second takes the median of all
+rounds counts, and for nodes a second the best time.
 """
+import statistics
 import subprocess
 import sys
 
@@ -21,26 +23,28 @@ def run(program, name, size):
 
 
 def measure(program, rounds):
-    """For each kind and size the nodes, and the least time of each part."""
-    best = {}
-    for _ in range(rounds):
-        for size in SIZES:
+    """For each kind and size the nodes with the least time of each part, and how many times as long twice the nodes took in each round."""
+    best, ratios = {}, {}
+    for turn in range(rounds):
+        for size in SIZES[:-1] if 3 * turn < rounds else [size for size in SIZES if size < 200000]:
             for name in KINDS:
-                for _ in range(4 if size < 100000 else 1):
-                    found = run(program, name, size)
-                    best[name, size] = [min(pair) for pair in zip(found, best.get((name, size), found))]
-    return best
+                found = {}
+                for each in (size, 2 * size) if turn % 2 else (2 * size, size):
+                    found[each] = run(program, name, each)
+                    best[name, each] = [min(pair) for pair in zip(found[each], best.get((name, each), found[each]))]
+                ratios.setdefault((name, size), []).append([new / old if old else 0 for old, new in zip(found[size][1:], found[2 * size][1:])])
+    return best, ratios
 
 
 def main():
-    best = measure(sys.argv[1], int(sys.argv[2]) if len(sys.argv) > 2 else 10)
+    best, ratios = measure(sys.argv[1], int(sys.argv[2]) if len(sys.argv) > 2 else 20)
     for name in KINDS:
         for size in SIZES:
             nodes, *times = best[name, size]
             rates = [f"{part} {nodes * 1000 / time:.1f}" for part, time in zip(PARTS, times) if time]
             print(f"{name}, {nodes} nodes, million nodes/s: {', '.join(rates)}")
-        steps = [[new / old for old, new in zip(best[name, size][1:], best[name, 2 * size][1:]) if old] for size in SIZES[:-1]]
-        told = ", ".join(f"{part} {max(ratios):.2f}" for part, ratios in zip(PARTS, zip(*steps)))
+        steps = [[statistics.median(column) for column in zip(*ratios[name, size])] for size in SIZES[:-1]]
+        told = ", ".join(f"{part} {max(medians):.2f}" for part, medians in zip(PARTS, zip(*steps)))
         print(f"{name}: twice the nodes take at most so many times as long: {told}")
 
 

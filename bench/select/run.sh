@@ -1,9 +1,9 @@
 #!/usr/bin/env bash
 # The time of `select`, `rows`, `is_derivation` and `code_of` on roots of a thousand to a million nodes: sums to the left, quotients to the
-# right, balanced products, and calls in calls: the best of a number of rounds. Prints millions of nodes a second for each, and how many
-# times as long twice the nodes take, which is the largest of the ratios from one size to the next. All of it three times: with memory as a
-# first call finds it, with memory that was used before, so that what the system takes to hand out and zero its pages can be told apart, and
-# with such memory in pages of 2 MB, so that it does not count how many pages the processor knows the addresses of.
+# right, balanced products, and calls in calls. Prints millions of nodes a second for each, and how many times as long twice the nodes take:
+# the largest, over the sizes, of what it mostly is. All of it three times: with memory as a first call finds it, with memory that was used
+# before, so that what the system takes to hand out and zero its pages can be told apart, and with such memory in pages of 2 MB, so that it
+# does not count how many pages the processor knows the addresses of.
 set -eu
 cd "$(dirname "$0")"
 . ../workspace.sh
