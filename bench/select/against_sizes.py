@@ -11,7 +11,8 @@ import sys
 
 # The kinds, with the nodes that one step adds.
 KINDS = {"sums": (0, 3), "quotients": (1, 3), "products": (2, 4), "calls": (3, 2)}
-PARTS = ["select", "rows", "is_derivation", "code_of"]
+# The first `select` of a process gets all its memory new; of the others the best of five calls in one process counts.
+PARTS = ["first select", "select", "rows", "is_derivation", "code_of"]
 SIZES = [1000 << doubling for doubling in range(11)]
 
 

@@ -1,9 +1,9 @@
 #!/usr/bin/env bash
-# The time of `select`, `rows`, `is_derivation` and `code_of` on roots of a thousand to a million nodes: sums to the left, quotients to the
-# right, balanced products, and calls in calls. Prints millions of nodes a second for each, and how many times as long twice the nodes take:
-# the largest, over the sizes, of what it mostly is. All of it three times: with memory as a first call finds it, with memory that was used
-# before, so that what the system takes to hand out and zero its pages can be told apart, and with such memory in pages of 2 MB, so that it
-# does not count how many pages the processor knows the addresses of.
+# The time of the first `select` of a process, and of `select`, `rows`, `is_derivation` and `code_of`, on roots of a thousand to a million
+# nodes: sums to the left, quotients to the right, balanced products, and calls in calls. Prints millions of nodes a second for each, and how
+# many times as long twice the nodes take: the largest, over the sizes, of what it mostly is. All of it three times: as the C library asks for
+# memory, of which a first call gets all new from the system, zeroed, and a further one what is over 32 MB in one piece; with memory that was
+# used before; and with such memory in pages of 2 MB, so that it does not count how many pages the processor knows the addresses of.
 set -eu
 cd "$(dirname "$0")"
 . ../workspace.sh
@@ -12,7 +12,7 @@ echo '0 10' | build_program
 
 # The trees are walked by recursion, to their depth.
 ulimit -s unlimited
-echo "As a first call finds memory: what is large comes new from the system each time, zeroed."
+echo "As the C library asks for memory: in a first call all of it comes new from the system, zeroed; in a further one what is large."
 python3 against_sizes.py "$program"
 echo "With memory that the C library keeps from call to call:"
 kept=glibc.malloc.mmap_max=0:glibc.malloc.trim_threshold=17179869184
