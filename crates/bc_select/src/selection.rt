@@ -203,7 +203,7 @@ fn read_root(alloc: Global, root: &Root, nodes: &Nodes) -> Result<Reading, Memor
 /// The derivation of a root that has the least words, those words, and a row for each node, parts before
 /// wholes: a call's arguments before its routine, an assignment's value before its address. Of derivations
 /// with as few words it is the one that begins with the rule of the least number, at each step. The rules
-/// are those of the second table.
+/// are those of the second table. The root has at most 2^32 nodes; `is_selectable` tells whether one does.
 ///
 /// `Memory` comes where an allocation was refused.
 pub fn select(alloc: Global, root: &Root) -> Result<Selected, Memory>
@@ -221,7 +221,7 @@ pub fn select(alloc: Global, root: &Root) -> Result<Selected, Memory>
     })
 }
 
-/// The rows of a root's nodes, as `select` gives them.
+/// The rows of a root's nodes, as `select` gives them. The root has at most 2^32 nodes.
 ///
 /// `Memory` comes where an allocation was refused.
 pub fn rows(alloc: Global, root: &Root) -> Result<Vec<Row>, Memory>
