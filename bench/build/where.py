@@ -8,9 +8,9 @@ import sys
 # The parts, by the crate that is called from outside of them all.
 PARTS = {
     "lex": ["bc_lex"],
-    "parse": ["bc_parse", "bc_close", "bc_spell"],
-    "scope: faults": ["bc_faults"],
-    "scope: translation": ["bc_resolving"],
+    "parse": ["bc_parse", "bc_parse_close", "bc_parse_spell"],
+    "scope: faults": ["bc_scope_faults"],
+    "scope: translation": ["bc_scope_translate"],
     "generate, without select": ["bc_gen"],
     "select": [],
     "link": ["bc_link", "bc_run"],
@@ -67,7 +67,7 @@ def parts_of(path):
             for part, crates in PARTS.items():
                 if below in crates:
                     found[part] += cost
-        if below == "bc_select" and above in ("bc_gen", "bc_entries", "bcpl", "bc_build"):
+        if below == "bc_select" and above in ("bc_gen", "bc_cert_write", "bcpl", "bc_build"):
             found[selecting[above != "bc_gen"]] += cost
     found["generate, without select"] -= found[selecting[0]]
     found["text and certificate, without select"] = writing - found[selecting[1]]

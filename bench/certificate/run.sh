@@ -12,7 +12,7 @@ else
     bcpl=../../crates/bcpl/out/bcpl
 fi
 . ../workspace.sh
-make_workspace write_bench write.rt.in anyhow bc_entries bc_derive bc_core bc_word
+make_workspace write_bench write.rt.in anyhow bc_cert_write bc_rules_defs bc_core bc_word
 echo 10 | build_program
 
 best="0 0 0"

@@ -3,7 +3,7 @@
 set -eu
 cd "$(dirname "$0")"
 . ../workspace.sh
-make_workspace names_bench names.rt.in anyhow bc_names bc_word
+make_workspace names_bench names.rt.in anyhow bc_scope_names bc_word
 counts="3687 7375 14750 15000 30000"
 for count in $counts; do
     python3 -c "print(''.join(f'N{k * 7919 % 100003:06d}A' for k in range($count)), end='')" >"$work/$count"

@@ -5,7 +5,7 @@
 set -eu
 cd "$(dirname "$0")"
 . ../workspace.sh
-make_workspace resolve_bench resolve.rt.in anyhow bc_lex bc_library bc_parse bc_scope bc_tree
+make_workspace resolve_bench resolve.rt.in anyhow bc_lex bc_library bc_parse bc_scope bc_parse_tree
 python3 ../build/make_program.py 59950 >"$work/program-whole"
 python3 ../build/make_program.py 29950 >"$work/program-half"
 for kind in constants routines blocks nested one scopes lets let tiny; do

@@ -7,7 +7,7 @@
 set -eu
 cd "$(dirname "$0")"
 . ../workspace.sh
-make_workspace select_bench select.rt.in anyhow bc_core bc_rules bc_select bc_word bc_least
+make_workspace select_bench select.rt.in anyhow bc_core bc_rules bc_select bc_word bc_select_defs
 echo '0 10' | build_program
 
 # The trees are walked by recursion, to their depth.

@@ -4,38 +4,38 @@ use Rattle.std.specs.Prelude.{All, None}
 use Rattle.std.specs.List.{AllByRecursion}
 use Rattle.std.proofs.lemmas.List.{length-map}
 use Rattle.std.proofs.lemmas.List.Elements.{recursion_from_All}
-use Rattle.bc_item.specs.declared.item.Item.{Item}
+use Rattle.bc_text_items.specs.declared.item.Item.{Item}
 use Rattle.bc_core.specs.Tree.{Exp, Num, Frame, Glob, Place, Load, Neg, Not, Bin, Cond, Call, Valof, Args, no_argument, argument, count, Root, Value, Test, Assign}
 use Rattle.bc_core.specs.Level.{side_level}
-use Rattle.bc_tree.specs.Tree.{Declarations}
-use Rattle.bc_tree.specs.Size.{declarations_size}
-use Rattle.bc_tree.specs.Height.{declarations_height}
+use Rattle.bc_parse_tree.specs.Tree.{Declarations}
+use Rattle.bc_parse_tree.specs.Size.{declarations_size}
+use Rattle.bc_parse_tree.specs.Height.{declarations_height}
 use Rattle.bc_lex.specs.Files.{File}
-use Rattle.bc_scoping.specs.Faults.{section_fault}
-use Rattle.bc_scoping.specs.Translation.{core_of}
-use Rattle.bc_derive.specs.declared.rule.Table.TheVariants.{Two}
-use Rattle.bc_derive.specs.declared.entry.Entry as code
-use Rattle.bc_derive.specs.View.{entry as entry_view}
-use Rattle.bc_derive.specs.Entry.{Entry}
-use Rattle.bc_derive.specs.Rules.{root_shape}
-use Rattle.bc_derive.specs.Code.{root_labels}
-use Rattle.bc_least.specs.Nodes.{in_order, all_in_order, root_nodes}
-use Rattle.bc_least.specs.Chosen.{chosen, chosen_is_least}
-use Rattle.bc_emit.specs.Section.{labels_suffice, section_items}
-use Rattle.bc_emit.specs.Entries.{section_entries}
-use Rattle.bc_emit.specs.Laws.{AllStandAt}
-use Rattle.bc_emit.proofs.Standing.{entries_stand}
-use Rattle.bc_entries.specs.Certificate.{Derived, entry_of, certificate}
-use Rattle.bc_verdict.specs.Entries.{Says}
-use Rattle.bc_verdict.specs.Written.{judged_of, HasRoom, HasFewest}
-use Rattle.bc_verdict.proofs.Accepted.{certificate_is_said}
-use Rattle.bc_rooms.specs.Laws.{IsShallow, HasLevels, HasSmallForm, HasSmallForms}
-use Rattle.bc_rooms.proofs.Shallow.{roots_are_shallow}
-use Rattle.bc_rooms.proofs.Sections.{roots_have_levels}
-use Rattle.bc_rooms.proofs.Few.{roots_have_few_nodes}
-use Rattle.bc_rooms.proofs.Labels.{labels_have_room}
-use Rattle.bc_rooms.proofs.Numbers.{nodes_have_room}
-use Rattle.bc_rooms.proofs.Words.{root_words_have_room}
+use Rattle.bc_scope_defs.specs.Faults.{section_fault}
+use Rattle.bc_scope_defs.specs.Translation.{core_of}
+use Rattle.bc_rules_defs.specs.declared.rule.Table.TheVariants.{Two}
+use Rattle.bc_rules_defs.specs.declared.entry.Entry as code
+use Rattle.bc_rules_defs.specs.View.{entry as entry_view}
+use Rattle.bc_rules_defs.specs.Entry.{Entry}
+use Rattle.bc_rules_defs.specs.Rules.{root_shape}
+use Rattle.bc_rules_defs.specs.Code.{root_labels}
+use Rattle.bc_select_defs.specs.Nodes.{in_order, all_in_order, root_nodes}
+use Rattle.bc_select_defs.specs.Chosen.{chosen, chosen_is_least}
+use Rattle.bc_gen_defs.specs.Section.{labels_suffice, section_items}
+use Rattle.bc_gen_defs.specs.Entries.{section_entries}
+use Rattle.bc_gen_defs.specs.Laws.{AllStandAt}
+use Rattle.bc_gen_defs.proofs.Standing.{entries_stand}
+use Rattle.bc_cert_write.specs.Certificate.{Derived, entry_of, certificate}
+use Rattle.bc_cert_laws.specs.Entries.{Says}
+use Rattle.bc_cert_laws.specs.Written.{judged_of, HasRoom, HasFewest}
+use Rattle.bc_cert_laws.proofs.Accepted.{certificate_is_said}
+use Rattle.bc_build_laws.specs.Laws.{IsShallow, HasLevels, HasSmallForm, HasSmallForms}
+use Rattle.bc_build_laws.proofs.Shallow.{roots_are_shallow}
+use Rattle.bc_build_laws.proofs.Sections.{roots_have_levels}
+use Rattle.bc_build_laws.proofs.Few.{roots_have_few_nodes}
+use Rattle.bc_build_laws.proofs.Labels.{labels_have_room}
+use Rattle.bc_build_laws.proofs.Numbers.{nodes_have_room}
+use Rattle.bc_build_laws.proofs.Words.{root_words_have_room}
 use Rattle.bc_gen.specs.Chosen.{coding}
 use Rattle.bc_build.specs.Ranges.{AreSmall, AllAreSmall, RootIsSmall, EntryIsSmall, IsSmallEntry}
 use Rattle.bc_build.specs.Compiled.{AreAccepted}

@@ -3,10 +3,10 @@ use Rattle.std.proofs.Common.{◌≡◌, ◌∙◌, ℕ, ◌+◌, List, [], ◌�
 use Rattle.std.specs.Prelude.{None, Result, Ok, Err, IfErr}
 use Rattle.std.specs.Result.{IsErrAnd}
 use Rattle.std.proofs.lemmas.List.{map-append, drop_all}
-use Rattle.bc_item.specs.declared.item.Item.{Item}
-use Rattle.bc_derive.specs.View.{entry as entry_view}
-use Rattle.bc_derive.specs.declared.entry.Entry as code
-use Rattle.bc_tree.specs.Tree.{Declarations}
+use Rattle.bc_text_items.specs.declared.item.Item.{Item}
+use Rattle.bc_rules_defs.specs.View.{entry as entry_view}
+use Rattle.bc_rules_defs.specs.declared.entry.Entry as code
+use Rattle.bc_parse_tree.specs.Tree.{Declarations}
 use Rattle.bc_lex.specs.Files.{File}
 use Rattle.bc_link.specs.Refusals.{refusal_of}
 use Rattle.bc_link.specs.Linked.{image_of, IsRefusal}

@@ -1,22 +1,22 @@
 -- A main that went through all parts.
 use Rattle.std.proofs.Common.{◌≡◌, ◌∙◌, ℕ, ◌≤◌, List, map, length, Ok, refl, sym, ap, subst, arith}
 use Rattle.std.specs.Prelude.{None, Result}
-use Rattle.bc_token.specs.Token.{Lexeme}
-use Rattle.bc_item.specs.declared.item.Item.{Item}
-use Rattle.bc_derive.specs.View.{entry as entry_view}
-use Rattle.bc_derive.specs.declared.entry.Entry as code
-use Rattle.bc_tree.specs.Tree.{Declarations}
-use Rattle.bc_tree.specs.Size.{declarations_size}
-use Rattle.bc_tree.specs.Height.{declarations_height}
+use Rattle.bc_lex_tokens.specs.Token.{Lexeme}
+use Rattle.bc_text_items.specs.declared.item.Item.{Item}
+use Rattle.bc_rules_defs.specs.View.{entry as entry_view}
+use Rattle.bc_rules_defs.specs.declared.entry.Entry as code
+use Rattle.bc_parse_tree.specs.Tree.{Declarations}
+use Rattle.bc_parse_tree.specs.Size.{declarations_size}
+use Rattle.bc_parse_tree.specs.Height.{declarations_height}
 use Rattle.bc_lex.specs.Files.{File}
 use Rattle.bc_lex.specs.Tokens.{HasTokens}
 use Rattle.bc_parse.specs.Parsing.{parsed, TokensSpell}
 use Rattle.bc_parse.specs.declared.error.ParseError.{ParseError}
 use Rattle.bc_core.specs.Commands.{Core}
-use Rattle.bc_scoping.specs.Faults.{section_fault}
-use Rattle.bc_scoping.specs.Translation.{core_of}
-use Rattle.bc_emit.specs.Section.{section_items, labels_suffice}
-use Rattle.bc_emit.specs.Entries.{section_entries}
+use Rattle.bc_scope_defs.specs.Faults.{section_fault}
+use Rattle.bc_scope_defs.specs.Translation.{core_of}
+use Rattle.bc_gen_defs.specs.Section.{section_items, labels_suffice}
+use Rattle.bc_gen_defs.specs.Entries.{section_entries}
 use Rattle.bc_gen.specs.Chosen.{coding}
 use Rattle.bc_gen.specs.declared.gen_error.GenError.{GenError}
 use Rattle.bc_gen.specs.declared.gen_error.GenError.TheVariants.{TooManyLabels, Memory}

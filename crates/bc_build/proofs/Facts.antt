@@ -1,13 +1,13 @@
 -- What is to be said of a program that was built.
 use Rattle.std.proofs.Common.{ℕ, ◌<◌, List, map, sym, subst}
 use Rattle.std.specs.Prelude.{slice_index}
-use Rattle.bc_item.specs.declared.item.Item.{Item}
-use Rattle.bc_derive.specs.View.{entry as entry_view}
-use Rattle.bc_derive.specs.declared.entry.Entry as code
-use Rattle.bc_tree.specs.Tree.{Declarations}
+use Rattle.bc_text_items.specs.declared.item.Item.{Item}
+use Rattle.bc_rules_defs.specs.View.{entry as entry_view}
+use Rattle.bc_rules_defs.specs.declared.entry.Entry as code
+use Rattle.bc_parse_tree.specs.Tree.{Declarations}
 use Rattle.bc_lex.specs.Files.{File}
-use Rattle.bc_linked.specs.Linked.{LinkedMapIsMap}
-use Rattle.bc_whole.specs.Whole.{SectionsRun}
+use Rattle.bc_right_programs.specs.Linked.{LinkedMapIsMap}
+use Rattle.bc_right_sections.specs.Whole.{SectionsRun}
 use Rattle.bc_build.specs.Compiled.{AreAccepted}
 use Rattle.bc_build.specs.Code.{items_of}
 use Rattle.bc_build.specs.Built.{IsBuilt}

@@ -4,27 +4,27 @@ use Rattle.std.specs.Prelude.{All}
 use Rattle.std.proofs.Math.Seq.{get_or-append_seam}
 use Rattle.std.proofs.lemmas.List.{map-append, take-append-drop, length-take-le}
 use Rattle.std.proofs.lemmas.List.Elements.{All-nil, All-cons, All-append}
-use Rattle.bc_item.specs.declared.item.Item.{Item}
-use Rattle.bc_derive.specs.declared.rule.Table.TheVariants.{Two}
-use Rattle.bc_derive.specs.declared.piece.Piece.{Piece}
-use Rattle.bc_derive.specs.declared.piece.Piece.TheVariants as pieces
-use Rattle.bc_derive.specs.Code.{root_code}
-use Rattle.bc_derive.specs.Entry.{Entry}
-use Rattle.bc_tree.specs.Tree.{Declarations}
+use Rattle.bc_text_items.specs.declared.item.Item.{Item}
+use Rattle.bc_rules_defs.specs.declared.rule.Table.TheVariants.{Two}
+use Rattle.bc_rules_defs.specs.declared.piece.Piece.{Piece}
+use Rattle.bc_rules_defs.specs.declared.piece.Piece.TheVariants as pieces
+use Rattle.bc_rules_defs.specs.Code.{root_code}
+use Rattle.bc_rules_defs.specs.Entry.{Entry}
+use Rattle.bc_parse_tree.specs.Tree.{Declarations}
 use Rattle.bc_core.specs.Commands.{Core}
-use Rattle.bc_scoping.specs.Translation.{core_of}
-use Rattle.bc_least.specs.Chosen.{chosen, chosen_is_least, chosen_has_least_parts}
-use Rattle.bc_emit.specs.Bodies.{Coding}
-use Rattle.bc_emit.specs.Section.{routines_code, section_items, data_items, setting_items}
-use Rattle.bc_emit.specs.Entries.{Marked, Plain, Begins, plain_items, marked_code, section_entries}
-use Rattle.bc_emit.specs.Entries as marks
-use Rattle.bc_emit.specs.Laws.{RiseFrom, Begin, AllStandAt}
-use Rattle.bc_emit.proofs.Standing.{entries_rise, entries_stand, marks_add_nothing}
-use Rattle.bc_certificate.specs.Verdict.{Judged}
-use Rattle.bc_certificate.specs.Against.{Passes, an_item, a_body, Stands, nothing_more, one_more, extent, LiesIn, StandsIn, Fit}
+use Rattle.bc_scope_defs.specs.Translation.{core_of}
+use Rattle.bc_select_defs.specs.Chosen.{chosen, chosen_is_least, chosen_has_least_parts}
+use Rattle.bc_gen_defs.specs.Bodies.{Coding}
+use Rattle.bc_gen_defs.specs.Section.{routines_code, section_items, data_items, setting_items}
+use Rattle.bc_gen_defs.specs.Entries.{Marked, Plain, Begins, plain_items, marked_code, section_entries}
+use Rattle.bc_gen_defs.specs.Entries as marks
+use Rattle.bc_gen_defs.specs.Laws.{RiseFrom, Begin, AllStandAt}
+use Rattle.bc_gen_defs.proofs.Standing.{entries_rise, entries_stand, marks_add_nothing}
+use Rattle.bc_cert_defs.specs.Verdict.{Judged}
+use Rattle.bc_cert_defs.specs.Against.{Passes, an_item, a_body, Stands, nothing_more, one_more, extent, LiesIn, StandsIn, Fit}
 use Rattle.bc_gen.specs.Chosen.{coding}
 use Rattle.bc_build.specs.Code.{items_of, in_segment, entries_of, entries_from}
-use Rattle.bc_verdict.specs.Written.{with_bodies}
+use Rattle.bc_cert_laws.specs.Written.{with_bodies}
 use Rattle.bc_build.specs.Least.{IsLeast, judged, AreLeast}
 
 -- ---- Code that stands among items

@@ -3,9 +3,9 @@ use Rattle.std.proofs.Common.{◌≡◌, ◌∙◌, ℕ, List, [], ◌∷◌, ma
 use Rattle.std.specs.Prelude.{None, All}
 use Rattle.std.specs.List.{AllByRecursion}
 use Rattle.std.proofs.lemmas.List.Elements.{All-weaker, recursion_from_All}
-use Rattle.bc_item.specs.Sizes.{size_of_all}
-use Rattle.bc_item.specs.declared.item.Item.{Item}
-use Rattle.bc_image.specs.declared.image.Image.{Image}
+use Rattle.bc_text_items.specs.Sizes.{size_of_all}
+use Rattle.bc_text_items.specs.declared.item.Item.{Item}
+use Rattle.bc_machine_image.specs.declared.image.Image.{Image}
 use Rattle.bc_text.specs.Texts.{IsText}
 use Rattle.bc_text.specs.Printed.{IsItem}
 use Rattle.bc_text.proofs.Printed.{reads_back}
@@ -14,16 +14,16 @@ use Rattle.bc_link.specs.Layout.{size_of_segments}
 use Rattle.bc_link.specs.Linked.{image_of}
 use Rattle.bc_link.specs.Refusals.{refusal_of}
 use Rattle.bc_run.specs.Primitives.{words_of_primitives}
-use Rattle.bc_step.specs.Streams.{Content}
-use Rattle.bc_step.specs.State.{start}
-use Rattle.bc_step.specs.declared.state.End.{End}
+use Rattle.bc_machine_defs.specs.Streams.{Content}
+use Rattle.bc_machine_defs.specs.State.{start}
+use Rattle.bc_machine_defs.specs.declared.state.End.{End}
 use Rattle.bc_machine.specs.Ran.{Ran}
 use Rattle.bc_run.specs.Runs.{behind, IsRunOf}
-use Rattle.bc_tree.specs.Tree.{Declarations}
-use Rattle.bc_scoping.specs.Translation.{core_of}
-use Rattle.bc_derive.specs.declared.rule.Table.TheVariants.{Two}
-use Rattle.bc_least.specs.Chosen.{chosen}
-use Rattle.bc_sizes.proofs.Sections.{sections_have_their_size}
+use Rattle.bc_parse_tree.specs.Tree.{Declarations}
+use Rattle.bc_scope_defs.specs.Translation.{core_of}
+use Rattle.bc_rules_defs.specs.declared.rule.Table.TheVariants.{Two}
+use Rattle.bc_select_defs.specs.Chosen.{chosen}
+use Rattle.bc_gen_sizes.proofs.Sections.{sections_have_their_size}
 use Rattle.bc_gen.specs.Chosen.{coding}
 use Rattle.bc_build.specs.Code.{items_of}
 use Rattle.bc_build.specs.Size.{section_words, words_of, HasSize}

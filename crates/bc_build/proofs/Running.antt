@@ -2,30 +2,30 @@
 use Rattle.std.proofs.Common.{◌≡◌, ◌∙◌, ℕ, ◌+◌, ◌<◌, List, [], ◌∷◌, map, refl, sym, ap, subst, arith}
 use Rattle.std.specs.Prelude.{None, All, slice_index}
 use Rattle.std.proofs.lemmas.List.Elements.{All-nil, All-cons}
-use Rattle.bc_item.specs.Sizes.{size_of_all}
-use Rattle.bc_item.specs.Assembled.{label_places}
-use Rattle.bc_item.specs.declared.item.Item.{Item}
-use Rattle.bc_step.specs.State.{start}
-use Rattle.bc_image.specs.declared.image.Image.{Image}
-use Rattle.bc_image.specs.declared.image.SegmentPlace.{SegmentPlace}
+use Rattle.bc_text_items.specs.Sizes.{size_of_all}
+use Rattle.bc_text_items.specs.Assembled.{label_places}
+use Rattle.bc_text_items.specs.declared.item.Item.{Item}
+use Rattle.bc_machine_defs.specs.State.{start}
+use Rattle.bc_machine_image.specs.declared.image.Image.{Image}
+use Rattle.bc_machine_image.specs.declared.image.SegmentPlace.{SegmentPlace}
 use Rattle.bc_link.specs.Labels.{label_address}
 use Rattle.bc_link.specs.Layout.{places_from, stack_base_of}
 use Rattle.bc_link.specs.Linked.{image_of}
 use Rattle.bc_link.specs.Refusals.{refusal_of}
 use Rattle.bc_link.specs.Store.{store_of}
 use Rattle.bc_run.specs.Runs.{behind}
-use Rattle.bc_tree.specs.Tree.{Declarations}
+use Rattle.bc_parse_tree.specs.Tree.{Declarations}
 use Rattle.bc_core.specs.Map.{Map, IsMap}
 use Rattle.bc_core.specs.Commands.{Core}
 use Rattle.bc_core.specs.Same.{Same}
-use Rattle.bc_scoping.specs.Translation.{core_of}
-use Rattle.bc_scoping.specs.Sections.{meaning_of_sections}
-use Rattle.bc_derive.specs.declared.rule.Table.TheVariants.{Two}
-use Rattle.bc_least.specs.Chosen.{chosen}
-use Rattle.bc_emit.specs.Bodies.{Coding, coding_of}
-use Rattle.bc_emit.specs.Section.{section_items}
-use Rattle.bc_linked.specs.Linked.{LinkedMapIsMap, library_items, segments_of, sections_of, addresses_from, linked_map}
-use Rattle.bc_whole.specs.Whole.{IsFaultless, SectionsRun}
+use Rattle.bc_scope_defs.specs.Translation.{core_of}
+use Rattle.bc_scope_defs.specs.Sections.{meaning_of_sections}
+use Rattle.bc_rules_defs.specs.declared.rule.Table.TheVariants.{Two}
+use Rattle.bc_select_defs.specs.Chosen.{chosen}
+use Rattle.bc_gen_defs.specs.Bodies.{Coding, coding_of}
+use Rattle.bc_gen_defs.specs.Section.{section_items}
+use Rattle.bc_right_programs.specs.Linked.{LinkedMapIsMap, library_items, segments_of, sections_of, addresses_from, linked_map}
+use Rattle.bc_right_sections.specs.Whole.{IsFaultless, SectionsRun}
 use Rattle.bc_gen.specs.Chosen.{coding}
 use Rattle.bc_lex.specs.Files.{File}
 use Rattle.bc_build.specs.Compiled.{AreAccepted}

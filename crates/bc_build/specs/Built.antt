@@ -1,7 +1,7 @@
 -- What a program is built to.
 use Rattle.std.specs.Prelude.{ℕ, ◌≡◌, List, map, None}
-use Rattle.bc_derive.specs.View.{entry as entry_view}
-use Rattle.bc_tree.specs.Tree.{Declarations}
+use Rattle.bc_rules_defs.specs.View.{entry as entry_view}
+use Rattle.bc_parse_tree.specs.Tree.{Declarations}
 use Rattle.bc_lex.specs.Files.{File}
 use Rattle.bc_link.specs.Refusals.{refusal_of}
 use Rattle.bc_link.specs.Linked.{image_of}

@@ -1,9 +1,9 @@
 -- That the certificate of the entries is accepted.
 use Rattle.std.specs.Prelude.{◌≡◌, List, map}
-use Rattle.bc_derive.specs.declared.rule.Table.TheVariants.{Two}
-use Rattle.bc_derive.specs.Entry.{Entry}
-use Rattle.bc_entries.specs.Certificate.{Derived, entry_of, certificate}
-use Rattle.bc_verdict.specs.Entries.{Says}
+use Rattle.bc_rules_defs.specs.declared.rule.Table.TheVariants.{Two}
+use Rattle.bc_rules_defs.specs.Entry.{Entry}
+use Rattle.bc_cert_write.specs.Certificate.{Derived, entry_of, certificate}
+use Rattle.bc_cert_laws.specs.Entries.{Says}
 use Rattle.bc_build.specs.Least.{judged}
 
 -- The entries name derivations. The certificate of these, which is the one that is written for the entries, is accepted,

@@ -1,14 +1,14 @@
 -- The code of sections: their items, and their entries.
 use Rattle.std.specs.Prelude.{ℕ, ◌≡◌, ◌+◌, List, [], ◌∷◌, ◌++◌, map}
-use Rattle.bc_item.specs.declared.item.Item.{Item}
-use Rattle.bc_derive.specs.Entry.{Entry}
-use Rattle.bc_derive.specs.View.{entry as entry_view}
-use Rattle.bc_derive.specs.declared.entry.Entry as code
-use Rattle.bc_tree.specs.Tree.{Declarations}
+use Rattle.bc_text_items.specs.declared.item.Item.{Item}
+use Rattle.bc_rules_defs.specs.Entry.{Entry}
+use Rattle.bc_rules_defs.specs.View.{entry as entry_view}
+use Rattle.bc_rules_defs.specs.declared.entry.Entry as code
+use Rattle.bc_parse_tree.specs.Tree.{Declarations}
 use Rattle.bc_lex.specs.Files.{File}
-use Rattle.bc_scoping.specs.Translation.{core_of}
-use Rattle.bc_emit.specs.Section.{section_items}
-use Rattle.bc_emit.specs.Entries.{section_entries}
+use Rattle.bc_scope_defs.specs.Translation.{core_of}
+use Rattle.bc_gen_defs.specs.Section.{section_items}
+use Rattle.bc_gen_defs.specs.Entries.{section_entries}
 use Rattle.bc_gen.specs.Chosen.{coding}
 use Rattle.bc_build.specs.Compiled.{IsAccepted}
 

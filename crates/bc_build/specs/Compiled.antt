@@ -1,15 +1,15 @@
 -- What becomes of a source: its tokens, the section that they spell, and what makes the section one that has code.
 use Rattle.std.specs.Prelude.{ℕ, ◌≡◌, ◌≤◌, List, [], ◌∷◌, Ok, None}
-use Rattle.bc_token.specs.Token.{Lexeme}
+use Rattle.bc_lex_tokens.specs.Token.{Lexeme}
 use Rattle.bc_lex.specs.Files.{File}
 use Rattle.bc_lex.specs.Tokens.{HasTokens}
-use Rattle.bc_tree.specs.Tree.{Declarations}
-use Rattle.bc_tree.specs.Size.{declarations_size}
-use Rattle.bc_tree.specs.Height.{declarations_height}
+use Rattle.bc_parse_tree.specs.Tree.{Declarations}
+use Rattle.bc_parse_tree.specs.Size.{declarations_size}
+use Rattle.bc_parse_tree.specs.Height.{declarations_height}
 use Rattle.bc_parse.specs.Parsing.{parsed, TokensSpell}
-use Rattle.bc_scoping.specs.Faults.{section_fault}
-use Rattle.bc_emit.specs.Section.{labels_suffice}
-use Rattle.bc_scoping.specs.Translation.{core_of}
+use Rattle.bc_scope_defs.specs.Faults.{section_fault}
+use Rattle.bc_gen_defs.specs.Section.{labels_suffice}
+use Rattle.bc_scope_defs.specs.Translation.{core_of}
 use Rattle.bc_gen.specs.Chosen.{coding}
 
 -- the source has these tokens, and they spell this section, which is no greater and nests no deeper than any that is parsed

@@ -1,15 +1,15 @@
 -- That entries are code of least words, and that it stands in the segments.
 use Rattle.std.specs.Prelude.{◌≡◌, List, map, All}
-use Rattle.bc_item.specs.declared.item.Item.{Item}
-use Rattle.bc_derive.specs.declared.rule.Table.TheVariants.{Two}
-use Rattle.bc_derive.specs.Rules.{RootDerives, root_shape}
-use Rattle.bc_derive.specs.Code.{root_code, root_cost}
-use Rattle.bc_derive.specs.Entry.{Entry}
-use Rattle.bc_least.specs.Least.{RootIsLeast, RootHasLeastParts}
-use Rattle.bc_least.specs.Chosen.{chosen}
-use Rattle.bc_certificate.specs.Verdict.{Judged}
-use Rattle.bc_certificate.specs.Against.{StandsIn, Fit}
-use Rattle.bc_verdict.specs.Written.{with_bodies}
+use Rattle.bc_text_items.specs.declared.item.Item.{Item}
+use Rattle.bc_rules_defs.specs.declared.rule.Table.TheVariants.{Two}
+use Rattle.bc_rules_defs.specs.Rules.{RootDerives, root_shape}
+use Rattle.bc_rules_defs.specs.Code.{root_code, root_cost}
+use Rattle.bc_rules_defs.specs.Entry.{Entry}
+use Rattle.bc_select_defs.specs.Least.{RootIsLeast, RootHasLeastParts}
+use Rattle.bc_select_defs.specs.Chosen.{chosen}
+use Rattle.bc_cert_defs.specs.Verdict.{Judged}
+use Rattle.bc_cert_defs.specs.Against.{StandsIn, Fit}
+use Rattle.bc_cert_laws.specs.Written.{with_bodies}
 
 -- what a certificate says of an entry by this derivation
 abbrev pub judged_by : (e : Entry) → RootDerives Two e.root → Judged

@@ -1,9 +1,9 @@
 -- For proofs: numbers of entries that their types keep small.
 use Rattle.std.specs.Prelude.{◌≤◌, ◌<◌, ◌^◌, All}
 use Rattle.bc_core.specs.Tree.{Exp, Num, Frame, Glob, Place, Load, Neg, Not, Bin, Cond, Call, Valof, Args, no_argument, argument, Root, Value, Test, Assign}
-use Rattle.bc_derive.specs.Entry.{Entry}
-use Rattle.bc_derive.specs.declared.entry.Entry as code
-use Rattle.bc_derive.specs.View.{entry}
+use Rattle.bc_rules_defs.specs.Entry.{Entry}
+use Rattle.bc_rules_defs.specs.declared.entry.Entry as code
+use Rattle.bc_rules_defs.specs.View.{entry}
 
 abbrev mutual
   pub AreSmall : Exp → Type 0

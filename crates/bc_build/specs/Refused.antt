@@ -1,16 +1,16 @@
 -- Why a program is not built: the first refusal in the order of the mains, each through the parts in their order, and then the linker's.
 use Rattle.std.specs.Prelude.{ℕ, ◌≡◌, ◌⊎◌, List, [], ◌∷◌, map, Err, Option, Some, None}
-use Rattle.bc_token.specs.Token.{Lexeme}
+use Rattle.bc_lex_tokens.specs.Token.{Lexeme}
 use Rattle.bc_lex.specs.declared.error.LexError.TheVariants as lex_errors
 use Rattle.bc_lex.specs.Files.{File}
 use Rattle.bc_lex.specs.Tokens.{HasTokens, HasFault}
-use Rattle.bc_tree.specs.Tree.{Declarations}
+use Rattle.bc_parse_tree.specs.Tree.{Declarations}
 use Rattle.bc_parse.specs.declared.error.ParseError.TheVariants as parse_errors
 use Rattle.bc_parse.specs.Parsing.{parsed}
-use Rattle.bc_scoping.specs.Faults as scopes
-use Rattle.bc_scoping.specs.Faults.{Fault, section_fault}
-use Rattle.bc_scoping.specs.Translation.{core_of}
-use Rattle.bc_emit.specs.Section.{labels_suffice}
+use Rattle.bc_scope_defs.specs.Faults as scopes
+use Rattle.bc_scope_defs.specs.Faults.{Fault, section_fault}
+use Rattle.bc_scope_defs.specs.Translation.{core_of}
+use Rattle.bc_gen_defs.specs.Section.{labels_suffice}
 use Rattle.bc_gen.specs.Chosen.{coding}
 use Rattle.bc_gen.specs.declared.gen_error.GenError.{GenError}
 use Rattle.bc_gen.specs.declared.gen_error.GenError.TheVariants as gen_errors

@@ -1,17 +1,17 @@
 -- What a program means, and what its image does.
 use Rattle.std.specs.Prelude.{ℕ, List, map, drop, All}
-use Rattle.bc_step.specs.Streams.{Content}
-use Rattle.bc_step.specs.State.{State, start}
-use Rattle.bc_image.specs.declared.image.Image.{Image}
-use Rattle.bc_image.specs.declared.image.SegmentPlace.{SegmentPlace}
+use Rattle.bc_machine_defs.specs.Streams.{Content}
+use Rattle.bc_machine_defs.specs.State.{State, start}
+use Rattle.bc_machine_image.specs.declared.image.Image.{Image}
+use Rattle.bc_machine_image.specs.declared.image.SegmentPlace.{SegmentPlace}
 use Rattle.bc_link.specs.Labels.{label_address}
-use Rattle.bc_tree.specs.Tree.{Declarations}
+use Rattle.bc_parse_tree.specs.Tree.{Declarations}
 use Rattle.bc_core.specs.Map.{Map, IsMap}
 use Rattle.bc_core.specs.Meaning.{Result}
 use Rattle.bc_core.specs.Same.{Same}
-use Rattle.bc_scoping.specs.Translation.{core_of}
-use Rattle.bc_scoping.specs.Sections.{meaning_of_sections}
-use Rattle.bc_simulation.specs.Leads.{HoldsBytes}
+use Rattle.bc_scope_defs.specs.Translation.{core_of}
+use Rattle.bc_scope_defs.specs.Sections.{meaning_of_sections}
+use Rattle.bc_right_steps.specs.Leads.{HoldsBytes}
 
 -- where an image has the places of its sections, which stand behind the primitives, and where its stack begins
 abbrev pub addresses : Image → Map

@@ -1,12 +1,12 @@
 -- The words of a program.
 use Rattle.std.specs.Prelude.{◌≡◌, ℕ, ◌+◌, List, [], ◌∷◌}
-use Rattle.bc_image.specs.declared.image.Image.{Image}
-use Rattle.bc_tree.specs.Tree.{Declarations}
-use Rattle.bc_scoping.specs.Translation.{core_of}
-use Rattle.bc_derive.specs.declared.rule.Table.TheVariants.{Two}
-use Rattle.bc_derive.specs.Code.{root_cost}
-use Rattle.bc_least.specs.Chosen.{chosen}
-use Rattle.bc_emit.specs.Size.{section_size}
+use Rattle.bc_machine_image.specs.declared.image.Image.{Image}
+use Rattle.bc_parse_tree.specs.Tree.{Declarations}
+use Rattle.bc_scope_defs.specs.Translation.{core_of}
+use Rattle.bc_rules_defs.specs.declared.rule.Table.TheVariants.{Two}
+use Rattle.bc_rules_defs.specs.Code.{root_cost}
+use Rattle.bc_select_defs.specs.Chosen.{chosen}
+use Rattle.bc_gen_defs.specs.Size.{section_size}
 
 -- the words of a section: its commands', its data's, and the least words of its roots
 abbrev pub section_words : Declarations → ℕ

@@ -1,13 +1,13 @@
 -- For proofs: how far a program was built.
 use Rattle.std.specs.Prelude.{ℕ, ◌≡◌, ◌<◌, ◌^◌, List, ◌++◌, map, length, slice_index, All, Option, None}
-use Rattle.bc_item.specs.declared.item.Item.{Item}
-use Rattle.bc_derive.specs.View.{entry as entry_view}
-use Rattle.bc_derive.specs.declared.entry.Entry as code
-use Rattle.bc_tree.specs.Tree.{Declarations}
+use Rattle.bc_text_items.specs.declared.item.Item.{Item}
+use Rattle.bc_rules_defs.specs.View.{entry as entry_view}
+use Rattle.bc_rules_defs.specs.declared.entry.Entry as code
+use Rattle.bc_parse_tree.specs.Tree.{Declarations}
 use Rattle.bc_lex.specs.Files.{File}
 use Rattle.bc_build.specs.Compiled.{AreAccepted}
 use Rattle.bc_build.specs.Code.{items_of, entries_from}
-use Rattle.bc_scoping.specs.Faults.{Fault}
+use Rattle.bc_scope_defs.specs.Faults.{Fault}
 use Rattle.bc_link.specs.Refusals.{refusal_of}
 use Rattle.bc_link.specs.Linked.{image_of, IsRefusal}
 use Rattle.bc_run.specs.Runs.{behind}

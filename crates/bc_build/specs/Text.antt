@@ -1,13 +1,13 @@
 -- The text that a program is written as.
 use Rattle.std.specs.Prelude.{ℕ, ◌≡◌, List, None, flat_map}
-use Rattle.bc_item.specs.declared.item.Item.{Item}
-use Rattle.bc_step.specs.Streams.{Content}
-use Rattle.bc_step.specs.State.{State, start}
-use Rattle.bc_step.specs.declared.state.End.{End}
+use Rattle.bc_text_items.specs.declared.item.Item.{Item}
+use Rattle.bc_machine_defs.specs.Streams.{Content}
+use Rattle.bc_machine_defs.specs.State.{State, start}
+use Rattle.bc_machine_defs.specs.declared.state.End.{End}
 use Rattle.bc_machine.specs.Ran.{Ran}
 use Rattle.bc_text.specs.Texts.{IsText}
 use Rattle.bc_text.specs.Printed.{printed_segment}
-use Rattle.bc_image.specs.declared.image.Image.{Image}
+use Rattle.bc_machine_image.specs.declared.image.Image.{Image}
 use Rattle.bc_link.specs.Refusals.{refusal_of}
 use Rattle.bc_link.specs.Linked.{image_of}
 use Rattle.bc_run.specs.Runs.{behind}

@@ -1,6 +1,6 @@
 ghost use Rattle.std.specs.Prelude.{◌≡◌, ◌⊎◌, Option, IfOk};
-ghost use Rattle.bc_scoping.specs.Faults.{Fault};
-ghost use Rattle.bc_faults.specs.Judged.{IsFault};
+ghost use Rattle.bc_scope_defs.specs.Faults.{Fault};
+ghost use Rattle.bc_scope_faults.specs.Judged.{IsFault};
 ghost use Rattle.bc_build.specs.Refused.{IsScopeFault};
 ghost use Rattle.bc_build.specs.Steps.{IsScopeRefusal};
 

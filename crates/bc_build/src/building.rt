@@ -1,6 +1,6 @@
 ghost use Rattle.std.specs.Prelude.{◌≡◌, ◌<◌, ◌++◌, length, map, All, IfOk, IfErr, OnOk, List, ℕ, slice_index};
-ghost use Rattle.bc_tree.specs.Tree.{Declarations};
-ghost use Rattle.bc_derive.specs.View.{entry as entry_view};
+ghost use Rattle.bc_parse_tree.specs.Tree.{Declarations};
+ghost use Rattle.bc_rules_defs.specs.View.{entry as entry_view};
 ghost use Rattle.bc_lex.specs.Files.{files_of};
 ghost use Rattle.bc_build.specs.Compiled.{AreAccepted};
 ghost use Rattle.bc_build.specs.Code.{IsCompiled, in_segment};
@@ -15,15 +15,15 @@ ghost use Rattle.bc_build.specs.Text.{ReadsAs};
 
 use crate::build_error::{BuildError, scope_refusal};
 use crate::ranges::{entries_are_small, segments_are_items, words_are_words};
-use bc_derive::Entry;
 use bc_gen::{Generated, generate};
-use bc_image::Image;
-use bc_item::Segment;
 use bc_lex::{Source, lex};
 use bc_link::link;
+use bc_machine_image::Image;
 use bc_parse::parse;
+use bc_rules_defs::Entry;
 use bc_run::behind_primitives;
 use bc_scope::resolve;
+use bc_text_items::Segment;
 use std::alloc::Global;
 
 /// A program that was built.
@@ -118,8 +118,8 @@ pub fn build(alloc: Global, sources: &[Source<'_>], mains: &[usize]) -> Result<B
     ensures text { IfOk result (λ built. ReadsAs built.segments.items built.image) }
     ensures refused { IfErr result (IsRefused (files_of sources.now) mains.now) }
 {
-    bc_whole::laws::sections_run();
-    bc_linked::laws::linked_map_is_map();
+    bc_right_sections::laws::sections_run();
+    bc_right_programs::laws::linked_map_is_map();
     let mut segments = Vec::new(alloc);
     let mut entries = Vec::new(alloc);
     for (number, main) in mains.iter().enumerate() {

@@ -1,9 +1,9 @@
 //! Laws of programs that were built. Each is the contract of a function that does nothing.
 
 ghost use Rattle.std.specs.Prelude.{ℕ, List, Some};
-ghost use Rattle.bc_item.specs.declared.item.Item.{Item};
-ghost use Rattle.bc_image.specs.declared.image.Image.{Image};
-ghost use Rattle.bc_step.specs.declared.state.End.{End};
+ghost use Rattle.bc_text_items.specs.declared.item.Item.{Item};
+ghost use Rattle.bc_machine_image.specs.declared.image.Image.{Image};
+ghost use Rattle.bc_machine_defs.specs.declared.state.End.{End};
 ghost use Rattle.bc_run.specs.Runs.{IsRunOf};
 ghost use Rattle.bc_build.specs.Text.{text_of, ReadsAs, IsRunFrom};
 

@@ -7,9 +7,9 @@ pub mod laws;
 mod ranges;
 
 pub use bc_gen::GenError;
-pub use bc_image::Image;
 pub use bc_lex::{LexError, Source};
 pub use bc_link::LinkError;
+pub use bc_machine_image::Image;
 pub use bc_parse::ParseError;
 pub use build_error::{BuildError, ScopeFault};
 pub use building::{Built, build};

@@ -1,14 +1,14 @@
 //! What is known of words and items, since their types keep it: said of all of a list at once.
 ghost use Rattle.std.specs.Prelude.{◌<◌, ◌^◌, ℕ, All, slice_index};
 ghost use Rattle.bc_core.specs.View.{exp as exp_view, args as args_view, root as root_view};
-ghost use Rattle.bc_derive.specs.View.{entry as entry_view};
+ghost use Rattle.bc_rules_defs.specs.View.{entry as entry_view};
 ghost use Rattle.bc_text.specs.Printed.{IsItem};
 ghost use Rattle.bc_build.specs.Ranges.{AreSmall, AllAreSmall, RootIsSmall, EntryIsSmall, IsSmallEntry};
 
 use bc_core::{CoreExp, Root};
-use bc_derive::Entry;
-use bc_image::Words;
-use bc_item::{Item, Segment};
+use bc_machine_image::Words;
+use bc_rules_defs::Entry;
+use bc_text_items::{Item, Segment};
 
 /// The words of a store are words.
 pub fn words_are_words(words: &Words)

@@ -2,15 +2,15 @@
 use Rattle.std.proofs.Common.{◌≡◌, ℕ, ◌+◌, ◌<◌, ◌≤◌, Bool, true, false, List, Option, Some, None, cond, refl, ap, sym, ◌∙◌, arith}
 use Rattle.std.specs.Prelude.{nat_le}
 use Rattle.std.specs.Option.{SomeIff}
-use Rattle.bc_derive.specs.declared.piece.Piece.{Piece}
-use Rattle.bc_derive.specs.Code.{root_labels}
-use Rattle.bc_derive.specs.ByShape.{root_labels_by, root_code_by}
-use Rattle.bc_derive.proofs.ByShape.{root_labels_same, root_code_same}
+use Rattle.bc_rules_defs.specs.declared.piece.Piece.{Piece}
+use Rattle.bc_rules_defs.specs.Code.{root_labels}
+use Rattle.bc_rules_defs.specs.ByShape.{root_labels_by, root_code_by}
+use Rattle.bc_rules_defs.proofs.ByShape.{root_labels_same, root_code_same}
 use Rattle.bc_rules.specs.Code.{IsNextLabel, IsCodeOf}
 use Rattle.bc_rules.proofs.Bridge.{root_found}
-use Rattle.bc_lines.specs.declared.lines.Head.{Head}
-use Rattle.bc_stack.specs.Stacks.{Rooted}
-use Rattle.bc_verdict.specs.Judging.{right_of}
+use Rattle.bc_cert_lines.specs.declared.lines.Head.{Head}
+use Rattle.bc_cert_trees.specs.Stacks.{Rooted}
+use Rattle.bc_cert_laws.specs.Judging.{right_of}
 use Rattle.bc_cert.specs.View.{IsDerived}
 
 labels_none : (n k : ℕ) (t : Bool) (x : Option ℕ) → x ≡ None → SomeIff x (n ≤ 65536) k → nat_le n 65536 ≡ t → t ≡ false

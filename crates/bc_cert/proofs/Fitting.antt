@@ -2,8 +2,8 @@
 use Rattle.std.proofs.Common.{◌≡◌, Bool, true, false, IsTrue, ap, sym, ◌∙◌, refl}
 use Rattle.std.specs.Prelude.{◌↔◌}
 use Rattle.bc_core.specs.Tree.{Root}
-use Rattle.bc_derive.specs.declared.rule.Table.{Table}
-use Rattle.bc_derive.specs.Rules.{Tree}
+use Rattle.bc_rules_defs.specs.declared.rule.Table.{Table}
+use Rattle.bc_rules_defs.specs.Rules.{Tree}
 use Rattle.bc_rules.specs.Derivation.{IsDerivation}
 use Rattle.bc_rules.specs.Fits.{root_fits}
 use Rattle.bc_rules.proofs.Bridge.{root_found, root_shape_fits}

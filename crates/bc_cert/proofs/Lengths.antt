@@ -1,7 +1,7 @@
 -- Codes of other lengths are not the same.
 use Rattle.std.proofs.Common.{◌≡◌, Bool, true, false, List, [], ◌∷◌, map, length, cond, refl, arith}
-use Rattle.bc_derive.specs.declared.piece.Piece.{Piece}
-use Rattle.bc_verdict.specs.Judging.{same_piece, same_code}
+use Rattle.bc_rules_defs.specs.declared.piece.Piece.{Piece}
+use Rattle.bc_cert_laws.specs.Judging.{same_piece, same_code}
 
 other_step : (t u : Bool) → false ≡ u → false ≡ cond t u false
 other_step true u h = h

@@ -3,16 +3,16 @@ use Rattle.std.proofs.Common.{◌≡◌, ℕ, ◌≤◌, List, [], ◌∷◌, �
 use Rattle.std.specs.Option.{IfSome}
 use Rattle.std.specs.Io.KnownBytes.{Consumes, IsAtEnd}
 use Rattle.std.proofs.lemmas.List.{take-append-drop, take-take}
-use Rattle.bc_certificate.specs.declared.check_fault.CheckFault.{CheckFault}
-use Rattle.bc_certificate.specs.declared.check_fault.CheckFault.TheVariants as faults
-use Rattle.bc_certificate.specs.Verdict.{Verdict}
-use Rattle.bc_stack.specs.declared.place.Place.{Place}
-use Rattle.bc_stack.specs.Stacks.{◌>>=◌}
-use Rattle.bc_certificate.specs.declared.verdict.Verdict as code
-use Rattle.bc_certificate.specs.View.{verdict}
-use Rattle.bc_stack.specs.View.{Fails, Gives}
-use Rattle.bc_verdict.specs.Judging.{State, between, start, step_at, between_step, place_of, counted, line_step, byte_step, feed_from, finished, judged}
-use Rattle.bc_verdict.proofs.Whole.{judged_says, judged_lacks}
+use Rattle.bc_cert_defs.specs.declared.check_fault.CheckFault.{CheckFault}
+use Rattle.bc_cert_defs.specs.declared.check_fault.CheckFault.TheVariants as faults
+use Rattle.bc_cert_defs.specs.Verdict.{Verdict}
+use Rattle.bc_cert_trees.specs.declared.place.Place.{Place}
+use Rattle.bc_cert_trees.specs.Stacks.{◌>>=◌}
+use Rattle.bc_cert_defs.specs.declared.verdict.Verdict as code
+use Rattle.bc_cert_defs.specs.View.{verdict}
+use Rattle.bc_cert_trees.specs.View.{Fails, Gives}
+use Rattle.bc_cert_laws.specs.Judging.{State, between, start, step_at, between_step, place_of, counted, line_step, byte_step, feed_from, finished, judged}
+use Rattle.bc_cert_laws.proofs.Whole.{judged_says, judged_lacks}
 use Rattle.bc_cert.specs.Answer.{IsSaid, IsLacking, IsFault, IsAnswer}
 
 pub between_line : (line : List ℕ) (st : State) (p : Place) → st.stage ≡ between → p ≡ place_of (counted st) → between_step line p (counted st) ≡ line_step line st

@@ -1,13 +1,13 @@
 -- What `check` answers, by the bytes that its reader gave.
 use Rattle.std.specs.Prelude.{◌≡◌, ℕ, List, Option, Result, Ok, Err}
 use Rattle.std.specs.Option.{IfSome}
-use Rattle.bc_certificate.specs.declared.check_fault.CheckFault.{CheckFault}
-use Rattle.bc_certificate.specs.declared.check_fault.CheckFault.TheVariants as faults
-use Rattle.bc_certificate.specs.declared.verdict.Verdict as code
-use Rattle.bc_certificate.specs.Verdict.{Verdict}
-use Rattle.bc_certificate.specs.View.{verdict}
-use Rattle.bc_verdict.specs.Entries.{Says}
-use Rattle.bc_verdict.specs.Faults.{Lacks}
+use Rattle.bc_cert_defs.specs.declared.check_fault.CheckFault.{CheckFault}
+use Rattle.bc_cert_defs.specs.declared.check_fault.CheckFault.TheVariants as faults
+use Rattle.bc_cert_defs.specs.declared.verdict.Verdict as code
+use Rattle.bc_cert_defs.specs.Verdict.{Verdict}
+use Rattle.bc_cert_defs.specs.View.{verdict}
+use Rattle.bc_cert_laws.specs.Entries.{Says}
+use Rattle.bc_cert_laws.specs.Faults.{Lacks}
 
 -- this is what the bytes say that the reader gave; where it tells its bytes, they are all of them
 abbrev pub IsSaid : Option (List ℕ) → Verdict → Type 0

@@ -1,14 +1,14 @@
 -- For proofs: what a checker has found so far.
 use Rattle.std.specs.Prelude.{◌≡◌, ℕ, true, List, map}
-use Rattle.bc_derive.specs.declared.rule.Table.{Table}
+use Rattle.bc_rules_defs.specs.declared.rule.Table.{Table}
 use Rattle.bc_rules.specs.Fits.{root_fits}
-use Rattle.bc_stack.specs.Stacks.{Rooted}
-use Rattle.bc_certificate.specs.View.{judged}
-use Rattle.bc_stack.specs.View.{stack, rooted}
+use Rattle.bc_cert_trees.specs.Stacks.{Rooted}
+use Rattle.bc_cert_defs.specs.View.{judged}
+use Rattle.bc_cert_trees.specs.View.{stack, rooted}
 use Rattle.bc_cert.specs.declared.checker.Checker.{Checker}
 use Rattle.bc_cert.specs.declared.stage.Stage as code
 use Rattle.bc_cert.specs.declared.stage.Stage.TheVariants as stages
-use Rattle.bc_verdict.specs.Judging.{Stage, the_header, between, nodes, code as code_stage, the_end, State}
+use Rattle.bc_cert_laws.specs.Judging.{Stage, the_header, between, nodes, code as code_stage, the_end, State}
 
 abbrev pub stage : code.Stage → Stage
 stage stages.Header = the_header

@@ -1,18 +1,18 @@
 // What a check has found so far.
 
 ghost use Rattle.std.specs.Prelude.{◌≡◌, ◌≤◌, ◌<◌, ◌+◌, ◌^◌, length, [], OnOk, IfOk};
-ghost use Rattle.bc_certificate.specs.View.{verdict as verdict_of};
-ghost use Rattle.bc_stack.specs.Stacks.{AreParallel};
-ghost use Rattle.bc_stack.specs.View.{rooted as rooted_of, Gives, Steps};
-ghost use Rattle.bc_verdict.specs.Judging.{start, place_of, line_step, begin_step, between_step, within_step, code_step, byte_step, feed_from, finished};
+ghost use Rattle.bc_cert_defs.specs.View.{verdict as verdict_of};
+ghost use Rattle.bc_cert_trees.specs.Stacks.{AreParallel};
+ghost use Rattle.bc_cert_trees.specs.View.{rooted as rooted_of, Gives, Steps};
+ghost use Rattle.bc_cert_laws.specs.Judging.{start, place_of, line_step, begin_step, between_step, within_step, code_step, byte_step, feed_from, finished};
 ghost use Rattle.bc_cert.specs.View.{state, fed, Kept};
 
 use crate::code::judge_code;
 use crate::stage::Stage;
-use bc_certificate::{CheckFault, Judged, Verdict};
-use bc_derive::Table;
-use bc_lines::{Head, end_line, entry_line, header, node_line, root_line};
-use bc_stack::{Place, Rooted, Stack};
+use bc_cert_defs::{CheckFault, Judged, Verdict};
+use bc_cert_lines::{Head, end_line, entry_line, header, node_line, root_line};
+use bc_cert_trees::{Place, Rooted, Stack};
+use bc_rules_defs::Table;
 use bc_word::Memory;
 use std::alloc::Global;
 use std::mem;

@@ -3,7 +3,7 @@
 ghost use Rattle.bc_cert.specs.Answer.{IsAnswer};
 
 use crate::checker::Checker;
-use bc_certificate::{CheckFault, Verdict};
+use bc_cert_defs::{CheckFault, Verdict};
 use std::alloc::Global;
 use std::io::Read;
 

@@ -1,24 +1,24 @@
 // Code lines.
 
 ghost use Rattle.std.specs.Prelude.{◌≡◌, IfOk};
-ghost use Rattle.bc_certificate.specs.View.{judged as judged_of};
+ghost use Rattle.bc_cert_defs.specs.View.{judged as judged_of};
 ghost use Rattle.bc_core.specs.View.{root as root_of};
-ghost use Rattle.bc_derive.specs.View.{derivation as tree};
+ghost use Rattle.bc_rules_defs.specs.View.{derivation as tree};
 ghost use Rattle.bc_rules.specs.Fits.{root_fits};
-ghost use Rattle.bc_stack.specs.View.{rooted as rooted_of, Gives};
-ghost use Rattle.bc_lines.specs.Lines.{code_of_line};
-ghost use Rattle.bc_lines.specs.View.{code};
-ghost use Rattle.bc_stack.specs.Stacks.{with_whole};
-ghost use Rattle.bc_verdict.specs.Judging.{same_item, same_piece, same_code, right_of, code_against, code_fits, pieces_judged, judged_with, code_judged};
+ghost use Rattle.bc_cert_trees.specs.View.{rooted as rooted_of, Gives};
+ghost use Rattle.bc_cert_lines.specs.Lines.{code_of_line};
+ghost use Rattle.bc_cert_lines.specs.View.{code};
+ghost use Rattle.bc_cert_trees.specs.Stacks.{with_whole};
+ghost use Rattle.bc_cert_laws.specs.Judging.{same_item, same_piece, same_code, right_of, code_against, code_fits, pieces_judged, judged_with, code_judged};
 ghost use Rattle.bc_cert.specs.View.{IsDerived};
 
-use bc_certificate::{CheckFault, Judged};
+use bc_cert_defs::{CheckFault, Judged};
+use bc_cert_lines::{Head, code_line};
+use bc_cert_trees::{Place, Rooted};
 use bc_core::Root;
-use bc_derive::{Derivation, Piece, Table};
-use bc_item::Item;
-use bc_lines::{Head, code_line};
 use bc_rules::{code_of, is_derivation_by, next_label, words};
-use bc_stack::{Place, Rooted};
+use bc_rules_defs::{Derivation, Piece, Table};
+use bc_text_items::Item;
 use bc_word::Memory;
 use std::alloc::Global;
 

@@ -9,9 +9,9 @@ mod stage;
 mod tests;
 mod writing;
 
-pub use bc_against::check_against;
-pub use bc_certificate::{CheckFault, Judged, Mismatch, Verdict};
-pub use bc_derive::{Entry, Piece, Table};
-pub use bc_entries::CertFault;
+pub use bc_cert_against::check_against;
+pub use bc_cert_defs::{CheckFault, Judged, Mismatch, Verdict};
+pub use bc_cert_write::CertFault;
+pub use bc_rules_defs::{Entry, Piece, Table};
 pub use checking::check;
 pub use writing::write_cert;

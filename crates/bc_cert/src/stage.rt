@@ -1,5 +1,5 @@
-use bc_lines::Head;
-use bc_stack::Rooted;
+use bc_cert_lines::Head;
+use bc_cert_trees::Rooted;
 
 /// What may come next.
 #[derive(Drop)]

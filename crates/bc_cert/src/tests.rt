@@ -1,8 +1,8 @@
 //! Expected answers are the format's own examples, or were worked out by hand from the rule table.
 
 use crate::{CheckFault, Mismatch, check, check_against};
-use bc_item::Segment;
 use bc_text::read_all;
+use bc_text_items::Segment;
 use std::alloc::Global;
 use std::io;
 use std::io::{ErrorKind, Read};

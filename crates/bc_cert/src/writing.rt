@@ -4,13 +4,13 @@ ghost use Rattle.std.specs.Prelude.{◌≡◌, List, OnOk, IfErr, map};
 ghost use Rattle.std.specs.List.{AllByRecursion};
 ghost use Rattle.std.specs.Io.KnownBytes.{Appends};
 ghost use Rattle.bc_text.specs.Printed.{AppendsFront};
-ghost use Rattle.bc_derive.specs.View.{entry as entry_seen};
-ghost use Rattle.bc_entries.specs.Certificate.{Derived, entry_of, certificate};
-ghost use Rattle.bc_verdict.specs.Entries.{Says};
-ghost use Rattle.bc_verdict.specs.Written.{HasFewest, HasRoom, verdict_of};
+ghost use Rattle.bc_rules_defs.specs.View.{entry as entry_seen};
+ghost use Rattle.bc_cert_write.specs.Certificate.{Derived, entry_of, certificate};
+ghost use Rattle.bc_cert_laws.specs.Entries.{Says};
+ghost use Rattle.bc_cert_laws.specs.Written.{HasFewest, HasRoom, verdict_of};
 
-use bc_derive::Entry;
-use bc_entries::CertFault;
+use bc_cert_write::CertFault;
+use bc_rules_defs::Entry;
 use std::alloc::Global;
 use std::io::Write;
 
@@ -28,5 +28,5 @@ pub fn write_cert<W: Write>(alloc: Global, entries: &[Entry], out: &mut W) -> Re
     ensures front { (ds : List Derived) → map entry_seen entries.now ≡ map entry_of ds → AppendsFront (W.contents out.old) (W.contents out.new) (certificate ds) }
     ensures accepted { (ds : List Derived) → map entry_seen entries.now ≡ map entry_of ds → AllByRecursion HasFewest ds → AllByRecursion HasRoom ds → Says (certificate ds) (verdict_of ds) }
 {
-    bc_entries::write_cert(alloc, entries, out)
+    bc_cert_write::write_cert(alloc, entries, out)
 }

@@ -5,7 +5,7 @@ use Rattle.bc_word.specs.declared.operator.Op.TheVariants as operators
 use Rattle.bc_word.specs.Words.{value_of}
 use Rattle.bc_core.specs.Tree.{Exp, Num, Frame, Glob, Place, Load, Neg, Not, Bin, Cond, Call, Valof}
 use Rattle.bc_core.specs.Store.{Cell, Dead, Unset, Set, cell_at}
-use Rattle.bc_step.specs.Streams.{Content}
+use Rattle.bc_machine_defs.specs.Streams.{Content}
 use Rattle.bc_core.specs.Outcome.{Ending, ZeroDivide, State, Outcome, Done, Ended, Going, Wild, Run, followed, then_do, choose, content_of_cell, outweighed, second_side}
 use Rattle.bc_core.specs.Laws.{IsCalm, CallFreeIsCalm}
 use Rattle.bc_core.specs.Value.{Context, Sense, has_call, truth_of_value, given, operated, operator_truth, sense}

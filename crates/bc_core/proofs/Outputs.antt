@@ -1,10 +1,10 @@
 -- Outputs only grow.
 use Rattle.std.proofs.Common.{◌≡◌, ℕ, zero, suc, ◌-◌, List, [], ◌∷◌, ◌++◌, Bool, true, false, Option, Some, None, refl, sym, ap, ◌∙◌, append_assoc, append-nil, subst, arith}
 use Rattle.std.specs.Prelude.{map, slice_get, slice_set}
-use Rattle.bc_step.specs.declared.streams.Side.{Side}
-use Rattle.bc_step.specs.declared.streams.Side.TheVariants as sides
-use Rattle.bc_step.specs.Streams.{Content, Input, Output, numbered}
-use Rattle.bc_step.specs.StreamCalls.{output_of, select_stream, after_read, with_input_read, after_write, with_output_written, more_written, end_stream, with_input_ended, with_output_ended, replaced}
+use Rattle.bc_machine_defs.specs.declared.streams.Side.{Side}
+use Rattle.bc_machine_defs.specs.declared.streams.Side.TheVariants as sides
+use Rattle.bc_machine_defs.specs.Streams.{Content, Input, Output, numbered}
+use Rattle.bc_machine_defs.specs.StreamCalls.{output_of, select_stream, after_read, with_input_read, after_write, with_output_written, more_written, end_stream, with_input_ended, with_output_ended, replaced}
 use Rattle.bc_core.specs.Laws.{Longer}
 
 pub longer_refl : (xs : List (List ℕ)) → Longer xs xs

@@ -4,8 +4,8 @@ use Rattle.std.specs.Prelude.{nat_le, cond}
 use Rattle.bc_word.specs.declared.operator.Op.{Op}
 use Rattle.bc_word.specs.declared.operator.Op.TheVariants as operators
 use Rattle.bc_word.specs.Words.{value_of, holds}
-use Rattle.bc_step.specs.Streams.{Content}
-use Rattle.bc_step.specs.StreamCalls.{output_of, find_stream}
+use Rattle.bc_machine_defs.specs.Streams.{Content}
+use Rattle.bc_machine_defs.specs.StreamCalls.{output_of, find_stream}
 use Rattle.bc_core.specs.Tree.{Exp, Num, Frame, Glob, Place, Load, Neg, Not, Bin, Cond, Call, Valof, Args, no_argument, argument, count}
 use Rattle.bc_core.specs.Commands.{Variable, Initial, Vector, Command, Block, block, Items, no_item, command, case, default, label, Routine, Body, Gives, Does}
 use Rattle.bc_core.specs.Commands as commands

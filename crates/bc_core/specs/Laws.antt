@@ -1,7 +1,7 @@
 -- Laws of the meaning: what it says of every program.
 use Rattle.std.specs.Prelude.{ℕ, ◌≡◌, ◌+◌, ◌≤◌, Bool, true, false, List, [], ◌∷◌, ◌++◌}
-use Rattle.bc_step.specs.Streams.{Content}
-use Rattle.bc_step.specs.StreamCalls.{output_of}
+use Rattle.bc_machine_defs.specs.Streams.{Content}
+use Rattle.bc_machine_defs.specs.StreamCalls.{output_of}
 use Rattle.bc_core.specs.Commands.{Core}
 use Rattle.bc_core.specs.Map.{Map, Placed}
 use Rattle.bc_core.specs.Store.{Cell, Dead, Unset, Set, cell_at}

@@ -1,7 +1,7 @@
 -- What a program of resolved sections means.
 use Rattle.std.specs.Prelude.{ℕ, zero, suc, ◌+◌, ◌==◌, nat_le, true, false, List, [], ◌∷◌, slice_set, Option, Some, None}
-use Rattle.bc_step.specs.Streams.{Content}
-use Rattle.bc_step.specs.StreamCalls.{output_of}
+use Rattle.bc_machine_defs.specs.Streams.{Content}
+use Rattle.bc_machine_defs.specs.StreamCalls.{output_of}
 use Rattle.bc_core.specs.Commands.{Place, Code, Routine, Body, Gives, Does, Core, Valof}
 use Rattle.bc_core.specs.Level.{level_behind_parameters}
 use Rattle.bc_core.specs.Layout.{frame_size}

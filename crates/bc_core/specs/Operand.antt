@@ -3,8 +3,8 @@ use Rattle.std.specs.Prelude.{ℕ, ◌+◌, ◌%◌, Bool, true, false, cond, Op
 use Rattle.bc_word.specs.declared.operator.Op.{Op}
 use Rattle.bc_word.specs.declared.operator.Op.TheVariants.{Add}
 use Rattle.bc_core.specs.declared.operands.Operand.{Operand}
-use Rattle.bc_item.specs.declared.item.Base.{Base}
-use Rattle.bc_item.specs.declared.item.Base.TheVariants.{Number, P, G, Label}
+use Rattle.bc_text_items.specs.declared.item.Base.{Base}
+use Rattle.bc_text_items.specs.declared.item.Base.TheVariants.{Number, P, G, Label}
 use Rattle.bc_core.specs.Tree.{Exp, Num, Frame, Glob, Place, Load, Bin}
 
 abbrev pub constant_of : Exp → Option ℕ

@@ -1,6 +1,6 @@
 -- What a run of a part of the source comes to.
 use Rattle.std.specs.Prelude.{ℕ, zero, suc, Bool, true, false, List, slice_set}
-use Rattle.bc_step.specs.Streams.{Content}
+use Rattle.bc_machine_defs.specs.Streams.{Content}
 use Rattle.bc_core.specs.Store.{Cell, Dead, Unset, Set, cell_at, opened, closed}
 
 -- the cells, what the streams hold, and the turns that are left

@@ -1,10 +1,10 @@
 -- The primitives: routines of the library that work on streams.
 use Rattle.std.specs.Prelude.{ℕ, zero, suc, ◌+◌, ◌/◌, ◌%◌, ◌==◌, cond, List, [], ◌∷◌, true, false, Option, Some, None}
-use Rattle.bc_step.specs.declared.streams.Side.{Side}
-use Rattle.bc_step.specs.declared.streams.Side.TheVariants.{Input, Output}
-use Rattle.bc_step.specs.Streams.{Content}
-use Rattle.bc_step.specs.StreamCalls.{find_stream, select_stream, read_byte, after_read, after_write, end_stream}
-use Rattle.bc_step.specs.Execute.{byte_or_end}
+use Rattle.bc_machine_defs.specs.declared.streams.Side.{Side}
+use Rattle.bc_machine_defs.specs.declared.streams.Side.TheVariants.{Input, Output}
+use Rattle.bc_machine_defs.specs.Streams.{Content}
+use Rattle.bc_machine_defs.specs.StreamCalls.{find_stream, select_stream, read_byte, after_read, after_write, end_stream}
+use Rattle.bc_machine_defs.specs.Execute.{byte_or_end}
 use Rattle.bc_core.specs.Outcome.{Done, Run, then_do, read}
 
 pub data Primitive : Type 0 where

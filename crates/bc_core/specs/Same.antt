@@ -1,10 +1,10 @@
 -- When a run of the machine does what a meaning says.
 use Rattle.std.specs.Prelude.{ℕ, ◌≡◌, ◌≤◌, List}
-use Rattle.bc_step.specs.declared.state.End.{End}
-use Rattle.bc_step.specs.declared.state.End.TheVariants as ends
-use Rattle.bc_step.specs.State.{State}
-use Rattle.bc_step.specs.StreamCalls.{output_of}
-use Rattle.bc_step.specs.Run.{runs}
+use Rattle.bc_machine_defs.specs.declared.state.End.{End}
+use Rattle.bc_machine_defs.specs.declared.state.End.TheVariants as ends
+use Rattle.bc_machine_defs.specs.State.{State}
+use Rattle.bc_machine_defs.specs.StreamCalls.{output_of}
+use Rattle.bc_machine_defs.specs.Run.{runs}
 use Rattle.bc_core.specs.Outcome.{Ending, Finished, ZeroDivide}
 use Rattle.bc_core.specs.Meaning.{Result, Ended, Going, Wild}
 

@@ -4,7 +4,7 @@ ghost use Rattle.bc_core.specs.Operand.{operand_of, constant_of, moved as moved_
 
 use crate::expression::CoreExp;
 use crate::operands::Operand;
-use bc_item::Base;
+use bc_text_items::Base;
 use bc_word::{Op, Word};
 
 fn direct(base: Base, n: Word) -> Operand

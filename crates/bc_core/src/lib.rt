@@ -11,7 +11,7 @@ mod sections;
 #[cfg(test)]
 mod tests;
 
-pub use bc_item::Base;
+pub use bc_text_items::Base;
 pub use command::{
     Block, Body, Command, Condition, Declaration, ListItem, Place, Routine, Valof, Variable,
 };

@@ -1,4 +1,4 @@
-use bc_item::Base;
+use bc_text_items::Base;
 use bc_word::Word;
 
 /// The operand of one instruction: a number or an address, or the content of the cell there.

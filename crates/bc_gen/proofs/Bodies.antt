@@ -6,9 +6,9 @@ use Rattle.std.proofs.lemmas.List.{length-map, get_or-drop, drop-drop}
 use Rattle.bc_core.specs.declared.command.Valof as code
 use Rattle.bc_core.specs.View.{valof_of, block_of}
 use Rattle.bc_core.specs.Commands.{Valof}
-use Rattle.bc_emit.specs.Emit.{Code, Roots, Exits, zero_item, emit_block}
-use Rattle.bc_emit.specs.Bodies.{BodiesCode, body_exits, emit_valof, bodies_from, level_of}
-use Rattle.bc_emit.specs.Entries.{Marked, Plain, marked_over}
+use Rattle.bc_gen_defs.specs.Emit.{Code, Roots, Exits, zero_item, emit_block}
+use Rattle.bc_gen_defs.specs.Bodies.{BodiesCode, body_exits, emit_valof, bodies_from, level_of}
+use Rattle.bc_gen_defs.specs.Entries.{Marked, Plain, marked_over}
 use Rattle.bc_gen.specs.declared.gen_error.GenError.{GenError}
 use Rattle.bc_gen.specs.declared.writer.Writer.{Writer}
 use Rattle.bc_gen.specs.Chosen.{coding}

@@ -2,10 +2,10 @@
 use Rattle.std.proofs.Common.{ℕ, ◌+◌, ◌≤◌, ◌≡◌, List, Option, Some, None, sym, arith}
 use Rattle.std.specs.Option.{SomeIff}
 use Rattle.bc_core.specs.Tree.{Root}
-use Rattle.bc_derive.specs.declared.rule.Table.TheVariants.{Two}
-use Rattle.bc_derive.specs.declared.piece.Piece.{Piece}
-use Rattle.bc_derive.specs.Rules.{Tree, root_shape}
-use Rattle.bc_least.specs.Chosen.{chosen}
+use Rattle.bc_rules_defs.specs.declared.rule.Table.TheVariants.{Two}
+use Rattle.bc_rules_defs.specs.declared.piece.Piece.{Piece}
+use Rattle.bc_rules_defs.specs.Rules.{Tree, root_shape}
+use Rattle.bc_select_defs.specs.Chosen.{chosen}
 use Rattle.bc_rules.specs.Code.{IsCodeOf, IsNextLabel}
 use Rattle.bc_gen.specs.Chosen.{coding}
 use Rattle.bc_gen.specs.Writing.{IsNext}

@@ -2,15 +2,15 @@
 use Rattle.std.proofs.lemmas.List.{length-map}
 use Rattle.std.proofs.Math.Seq.{drop-append_seam}
 use Rattle.std.proofs.Common.{ℕ, zero, suc, ◌+◌, ◌≤◌, ◌≡◌, drop, length, length-append, Bool, true, false, not, List, [], ◌∷◌, ◌++◌, Result, Ok, Err, refl, ap, sym, ◌∙◌, subst, append_assoc, arith}
-use Rattle.bc_item.specs.declared.item.Item.TheVariants.{Label, Data, DataLabel}
+use Rattle.bc_text_items.specs.declared.item.Item.TheVariants.{Label, Data, DataLabel}
 use Rattle.bc_core.specs.Tree.{Exp, Frame, Value, Test, Assign}
 use Rattle.bc_core.specs.Commands as commands
 use Rattle.bc_core.specs.Commands.{Variable, Block, block, Items}
 use Rattle.bc_core.specs.Level.{cells_declared}
 use Rattle.bc_core.specs.Command.{step_of_for}
-use Rattle.bc_emit.specs.Emit.{Code, Roots, Exits, jump, execute, labelled, labels_in, defaulted, cases_in, entries_in, table_of, zero_item, emit_declarations, end_of_for, emit, emit_block, emit_items}
-use Rattle.bc_emit.specs.Bodies.{body_exits, emit_body}
-use Rattle.bc_emit.specs.Entries.{Marked, Plain}
+use Rattle.bc_gen_defs.specs.Emit.{Code, Roots, Exits, jump, execute, labelled, labels_in, defaulted, cases_in, entries_in, table_of, zero_item, emit_declarations, end_of_for, emit, emit_block, emit_items}
+use Rattle.bc_gen_defs.specs.Bodies.{body_exits, emit_body}
+use Rattle.bc_gen_defs.specs.Entries.{Marked, Plain}
 use Rattle.bc_gen.specs.declared.around.Numbered.{Numbered}
 use Rattle.bc_gen.specs.declared.around.Around.{Around}
 use Rattle.bc_gen.specs.declared.gen_error.GenError.{GenError}

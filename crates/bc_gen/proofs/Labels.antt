@@ -1,7 +1,7 @@
 -- Tables of labels.
 use Rattle.std.proofs.Common.{ℕ, ◌+◌, ◌≡◌, ◌==◌, cond, List, ◌++◌, Option, Some, None, refl, ap}
 use Rattle.bc_core.specs.Commands.{Items, no_item, command, case, default, label}
-use Rattle.bc_emit.specs.Emit.{labelled, cased}
+use Rattle.bc_gen_defs.specs.Emit.{labelled, cased}
 use Rattle.bc_gen.specs.declared.around.Numbered.{Numbered}
 use Rattle.bc_gen.specs.Surroundings.{label_in, label_pairs, case_pairs}
 

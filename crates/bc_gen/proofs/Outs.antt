@@ -14,11 +14,11 @@ use Rattle.bc_core.specs.Commands as commands
 use Rattle.bc_core.specs.Commands.{Block, block, Items, no_item}
 use Rattle.bc_core.specs.Level.{cells_of, cells_of_all, cells_declared, level_behind_parameters}
 use Rattle.bc_core.specs.Command.{step_of_for}
-use Rattle.bc_derive.specs.declared.piece.Piece.{Piece}
-use Rattle.bc_emit.specs.Emit.{Code, Roots, Exits, labelled, labels_in, cased, defaulted, entries_in, emit_variable, emit_variables, emit_declarations, end_of_for, emit, emit_block, emit_items}
-use Rattle.bc_emit.specs.Bodies.{BodiesCode, body_exits, emit_body, fill, label_ahead, level_of}
-use Rattle.bc_emit.specs.Section.{emit_routines}
-use Rattle.bc_emit.specs.Entries.{Marked, Plain}
+use Rattle.bc_rules_defs.specs.declared.piece.Piece.{Piece}
+use Rattle.bc_gen_defs.specs.Emit.{Code, Roots, Exits, labelled, labels_in, cased, defaulted, entries_in, emit_variable, emit_variables, emit_declarations, end_of_for, emit, emit_block, emit_items}
+use Rattle.bc_gen_defs.specs.Bodies.{BodiesCode, body_exits, emit_body, fill, label_ahead, level_of}
+use Rattle.bc_gen_defs.specs.Section.{emit_routines}
+use Rattle.bc_gen_defs.specs.Entries.{Marked, Plain}
 use Rattle.bc_gen.specs.declared.gen_error.GenError.{GenError}
 use Rattle.bc_gen.specs.declared.gen_error.GenError.TheVariants as errors
 use Rattle.std.specs.Prelude.{IsErrAnd, IfErr}

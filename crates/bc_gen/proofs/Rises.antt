@@ -5,12 +5,12 @@ use Rattle.bc_core.specs.Commands.{Variable, Initial, Vector, Command, Block, bl
 use Rattle.bc_core.specs.Commands as commands
 use Rattle.bc_core.specs.Level.{cells_of, cells_of_all, cells_declared, level_in_for, level_behind_parameters}
 use Rattle.bc_core.specs.Command.{step_of_for}
-use Rattle.bc_derive.specs.declared.piece.Piece.{Piece}
-use Rattle.bc_derive.specs.declared.piece.Piece.TheVariants as pieces
-use Rattle.bc_emit.specs.Emit.{Code, Roots, Exits, labelled, labels_in, cased, defaulted, entries_in, emit_variable, emit_variables, emit_declarations, end_of_for, emit, emit_block, emit_items}
-use Rattle.bc_emit.specs.Bodies.{BodiesCode, Coding, body_exits, fill, label_ahead, emit_valof, bodies_from, emit_body}
-use Rattle.bc_emit.specs.Section.{emit_routines}
-use Rattle.bc_emit.specs.Entries.{Marked, Plain, marked_over}
+use Rattle.bc_rules_defs.specs.declared.piece.Piece.{Piece}
+use Rattle.bc_rules_defs.specs.declared.piece.Piece.TheVariants as pieces
+use Rattle.bc_gen_defs.specs.Emit.{Code, Roots, Exits, labelled, labels_in, cased, defaulted, entries_in, emit_variable, emit_variables, emit_declarations, end_of_for, emit, emit_block, emit_items}
+use Rattle.bc_gen_defs.specs.Bodies.{BodiesCode, Coding, body_exits, fill, label_ahead, emit_valof, bodies_from, emit_body}
+use Rattle.bc_gen_defs.specs.Section.{emit_routines}
+use Rattle.bc_gen_defs.specs.Entries.{Marked, Plain, marked_over}
 use Rattle.bc_gen.specs.declared.gen_error.GenError.{GenError}
 use Rattle.bc_gen.specs.declared.gen_error.GenError.TheVariants as errors
 use Rattle.bc_gen.specs.Writing.{RunsOut}

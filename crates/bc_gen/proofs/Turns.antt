@@ -10,11 +10,11 @@ use Rattle.bc_core.specs.Commands as commands
 use Rattle.bc_core.specs.Commands.{Items, no_item}
 use Rattle.bc_core.specs.Level.{cells_of, cells_of_all, cells_declared}
 use Rattle.bc_core.specs.View.{items, items_before, command, variable, declarations}
-use Rattle.bc_derive.specs.declared.piece.Piece.{Piece}
-use Rattle.bc_derive.specs.declared.piece.Piece.TheVariants as pieces
-use Rattle.bc_emit.specs.Emit.{Code, Roots, Exits, emit, emit_items, emit_variable, emit_variables, emit_declarations}
-use Rattle.bc_emit.specs.Bodies.{BodiesCode, fill, label_ahead}
-use Rattle.bc_emit.specs.Entries.{Marked, Plain, count_items}
+use Rattle.bc_rules_defs.specs.declared.piece.Piece.{Piece}
+use Rattle.bc_rules_defs.specs.declared.piece.Piece.TheVariants as pieces
+use Rattle.bc_gen_defs.specs.Emit.{Code, Roots, Exits, emit, emit_items, emit_variable, emit_variables, emit_declarations}
+use Rattle.bc_gen_defs.specs.Bodies.{BodiesCode, fill, label_ahead}
+use Rattle.bc_gen_defs.specs.Entries.{Marked, Plain, count_items}
 use Rattle.bc_gen.specs.Surroundings.{initial_of, one_piece}
 use Rattle.bc_gen.specs.declared.writer.Writer.{Writer}
 use Rattle.bc_gen.proofs.Forms.{there, Wrote}

@@ -1,16 +1,16 @@
 -- A section's code, put together.
 use Rattle.std.proofs.Common.{ℕ, ◌+◌, ◌≤◌, ◌≡◌, List, [], ◌++◌, map, length, Vec, Global, refl, ap, ◌∙◌, append_assoc, arith}
 use Rattle.std.proofs.lemmas.List.{length-map}
-use Rattle.bc_item.specs.declared.item.Item.{Item}
+use Rattle.bc_text_items.specs.declared.item.Item.{Item}
 use Rattle.bc_core.specs.declared.command.Place.{Place}
 use Rattle.bc_core.specs.declared.command.Valof.{Valof}
 use Rattle.bc_core.specs.View.{place_of, section}
-use Rattle.bc_emit.specs.Emit.{Code}
-use Rattle.bc_emit.specs.Bodies.{level_of, bodies_from}
-use Rattle.bc_emit.specs.Section.{emit_routines, routines_over, routines_code, data_items, setting_items, section_items}
-use Rattle.bc_emit.specs.Entries.{Marked, Plain, plain_items, marked_over, marked_code}
-use Rattle.bc_emit.proofs.Standing.{marks_add_nothing}
-use Rattle.bc_emit.proofs.Plainly.{section_plain}
+use Rattle.bc_gen_defs.specs.Emit.{Code}
+use Rattle.bc_gen_defs.specs.Bodies.{level_of, bodies_from}
+use Rattle.bc_gen_defs.specs.Section.{emit_routines, routines_over, routines_code, data_items, setting_items, section_items}
+use Rattle.bc_gen_defs.specs.Entries.{Marked, Plain, plain_items, marked_over, marked_code}
+use Rattle.bc_gen_defs.proofs.Standing.{marks_add_nothing}
+use Rattle.bc_gen_defs.proofs.Plainly.{section_plain}
 use Rattle.bc_gen.specs.declared.around.Around.{Around}
 use Rattle.bc_gen.specs.declared.parts.Part.{Part}
 use Rattle.bc_gen.specs.declared.writer.Writer.{Writer}

@@ -1,9 +1,9 @@
 -- What the program's parts of code stand for.
 use Rattle.std.specs.Prelude.{List, map}
 use Rattle.bc_core.specs.View.{root}
-use Rattle.bc_derive.specs.View.{derivation}
-use Rattle.bc_emit.specs.Entries.{Marked, Plain, Begins}
-use Rattle.bc_emit.specs.Entries as entries
+use Rattle.bc_rules_defs.specs.View.{derivation}
+use Rattle.bc_gen_defs.specs.Entries.{Marked, Plain, Begins}
+use Rattle.bc_gen_defs.specs.Entries as entries
 use Rattle.bc_gen.specs.declared.parts.Mark.{Mark}
 use Rattle.bc_gen.specs.declared.parts.Part.{Part}
 use Rattle.bc_gen.specs.declared.parts.Part.TheVariants as variants

@@ -3,13 +3,13 @@ use Rattle.std.specs.Prelude.{ℕ, ◌+◌, ◌==◌, cond, List, [], ◌∷◌,
 use Rattle.bc_core.specs.declared.command.Valof.{Valof}
 use Rattle.bc_core.specs.View.{valof_of}
 use Rattle.bc_core.specs.Tree.{Exp, Frame}
-use Rattle.bc_derive.specs.declared.piece.Piece.{Piece}
-use Rattle.bc_derive.specs.declared.piece.Piece.TheVariants as pieces
+use Rattle.bc_rules_defs.specs.declared.piece.Piece.{Piece}
+use Rattle.bc_rules_defs.specs.declared.piece.Piece.TheVariants as pieces
 use Rattle.bc_core.specs.Commands as commands
 use Rattle.bc_core.specs.Commands.{Items, no_item, command, case, default, label}
-use Rattle.bc_emit.specs.Emit.{Roots, Exits}
-use Rattle.bc_emit.specs.Bodies.{BodiesCode, bodies_from, level_of}
-use Rattle.bc_emit.specs.Entries.{Marked, Plain, marked_over}
+use Rattle.bc_gen_defs.specs.Emit.{Roots, Exits}
+use Rattle.bc_gen_defs.specs.Bodies.{BodiesCode, bodies_from, level_of}
+use Rattle.bc_gen_defs.specs.Entries.{Marked, Plain, marked_over}
 use Rattle.bc_gen.specs.Chosen.{coding}
 use Rattle.bc_gen.specs.declared.around.Numbered.{Numbered}
 use Rattle.bc_gen.specs.declared.around.Around.{Around}

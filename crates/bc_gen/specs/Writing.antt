@@ -1,7 +1,7 @@
 -- For proofs: what one call writes behind the code that is there.
 use Rattle.std.specs.Prelude.{◌≡◌, ℕ, ◌<◌, ◌++◌, List, Option, Some, None, Result, Ok, Err}
-use Rattle.bc_emit.specs.Emit.{Code}
-use Rattle.bc_emit.specs.Entries.{Marked}
+use Rattle.bc_gen_defs.specs.Emit.{Code}
+use Rattle.bc_gen_defs.specs.Entries.{Marked}
 use Rattle.bc_gen.specs.declared.gen_error.GenError.{GenError}
 use Rattle.bc_gen.specs.declared.gen_error.GenError.TheVariants as errors
 use Rattle.bc_gen.specs.declared.writer.Writer.{Writer}

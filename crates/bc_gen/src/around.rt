@@ -1,6 +1,6 @@
 //! What a command stands among.
 ghost use Rattle.std.specs.Prelude.{◌≡◌};
-ghost use Rattle.bc_emit.specs.Bodies.{body_exits};
+ghost use Rattle.bc_gen_defs.specs.Bodies.{body_exits};
 ghost use Rattle.bc_gen.specs.Surroundings.{label_in, exits_of, roots_in, roots_of, valofs_in};
 
 use bc_core::Valof;

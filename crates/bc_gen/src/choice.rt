@@ -1,13 +1,13 @@
 //! The choice of each root's code.
 ghost use Rattle.std.specs.Prelude.{◌≡◌, ◌+◌, ◌≤◌, IfOk, IfSome};
 ghost use Rattle.bc_core.specs.View.{root as root_view};
-ghost use Rattle.bc_derive.specs.View.{derivation as derivation_view};
+ghost use Rattle.bc_rules_defs.specs.View.{derivation as derivation_view};
 ghost use Rattle.bc_gen.specs.Chosen.{coding};
 ghost use Rattle.bc_gen.specs.Writing.{IsNext};
 
 use bc_core::Root;
-use bc_derive::{Derivation, Piece};
 use bc_rules::{code_of, next_label};
+use bc_rules_defs::{Derivation, Piece};
 use bc_select::{is_selectable, select};
 use bc_word::Memory;
 use std::alloc::Global;

@@ -5,8 +5,8 @@ ghost use Rattle.bc_core.specs.Commands as forms;
 ghost use Rattle.bc_core.specs.View.{exp, variable as variable_view, declarations as declarations_view, command as command_view, items as items_view, items_before, block_of};
 ghost use Rattle.bc_core.specs.Level.{cells_of as cells_of_variable, cells_of_all as cells_of_variables, cells_declared};
 ghost use Rattle.bc_core.specs.Command.{step_of_for as step_of};
-ghost use Rattle.bc_emit.specs.Emit.{emit, emit_block, emit_items, emit_variables, emit_declarations, table_of, end_of_for as end_of, zero_item, execute as execute_item};
-ghost use Rattle.bc_emit.specs.Entries.{Plain};
+ghost use Rattle.bc_gen_defs.specs.Emit.{emit, emit_block, emit_items, emit_variables, emit_declarations, table_of, end_of_for as end_of, zero_item, execute as execute_item};
+ghost use Rattle.bc_gen_defs.specs.Entries.{Plain};
 ghost use Rattle.bc_gen.specs.Surroundings.{initial_of, roots_in, exits_of};
 ghost use Rattle.bc_gen.specs.Writing.{Writes, Puts};
 

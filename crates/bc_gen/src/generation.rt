@@ -1,12 +1,12 @@
 //! The items of a section.
 ghost use Rattle.std.specs.Prelude.{◌≡◌, ◌++◌, ◌∷◌, ◌≤◌, IfOk, IfErr, map, length};
-ghost use Rattle.bc_item.specs.declared.item.Item.TheVariants as item;
+ghost use Rattle.bc_text_items.specs.declared.item.Item.TheVariants as item;
 ghost use Rattle.bc_core.specs.Level.{level_behind_parameters};
 ghost use Rattle.bc_core.specs.View.{body_of, place_of, section};
-ghost use Rattle.bc_derive.specs.View.{entry as entry_view};
-ghost use Rattle.bc_emit.specs.Bodies.{body_exits, emit_body};
-ghost use Rattle.bc_emit.specs.Entries.{Plain, section_entries};
-ghost use Rattle.bc_emit.specs.Section.{emit_routines, data_items, setting, setting_items, section_items, labels_suffice};
+ghost use Rattle.bc_rules_defs.specs.View.{entry as entry_view};
+ghost use Rattle.bc_gen_defs.specs.Bodies.{body_exits, emit_body};
+ghost use Rattle.bc_gen_defs.specs.Entries.{Plain, section_entries};
+ghost use Rattle.bc_gen_defs.specs.Section.{emit_routines, data_items, setting, setting_items, section_items, labels_suffice};
 ghost use Rattle.bc_gen.specs.Chosen.{coding};
 ghost use Rattle.bc_gen.specs.Surroundings.{exits_of, roots_in};
 ghost use Rattle.bc_gen.specs.Writing.{Writes};
@@ -17,8 +17,8 @@ use crate::gen_error::GenError;
 use crate::parts::separated;
 use crate::writer::Writer;
 use bc_core::{Body, Core, Place, Routine};
-use bc_derive::Entry;
-use bc_item::{GlobalNumber, Item, Segment};
+use bc_rules_defs::Entry;
+use bc_text_items::{GlobalNumber, Item, Segment};
 use bc_word::{Memory, Word};
 use std::alloc::Global;
 

@@ -1,14 +1,14 @@
 //! What one call puts behind the code that is there.
 ghost use Rattle.std.specs.Prelude.{◌≡◌, ℕ, ◌+◌, ◌≤◌, IfOk, IfErr, [], ◌∷◌};
-ghost use Rattle.bc_item.specs.declared.item.Item.TheVariants as items;
-ghost use Rattle.bc_emit.specs.Emit.{jump as jump_item, execute as execute_item, zero_item};
-ghost use Rattle.bc_emit.specs.Entries.{Plain};
+ghost use Rattle.bc_text_items.specs.declared.item.Item.TheVariants as items;
+ghost use Rattle.bc_gen_defs.specs.Emit.{jump as jump_item, execute as execute_item, zero_item};
+ghost use Rattle.bc_gen_defs.specs.Entries.{Plain};
 ghost use Rattle.bc_gen.specs.Writing.{IsNext, Puts, RunsOut};
 
 use crate::gen_error::GenError;
 use crate::parts::Part;
 use crate::writer::Writer;
-use bc_item::{Base, Function, Item};
+use bc_text_items::{Base, Function, Item};
 use bc_word::Word;
 
 /// The number of the last label that a section may take.

@@ -1,7 +1,7 @@
 //! The labels of command lists.
 ghost use Rattle.std.specs.Prelude.{◌≡◌, ◌+◌, ◌++◌, ◌≤◌, IfOk, IfErr, length};
 ghost use Rattle.bc_core.specs.View.{items};
-ghost use Rattle.bc_emit.specs.Emit.{labels_in, defaulted, cases_in, entries_in};
+ghost use Rattle.bc_gen_defs.specs.Emit.{labels_in, defaulted, cases_in, entries_in};
 ghost use Rattle.bc_gen.specs.Surroundings.{label_pairs, case_pairs};
 ghost use Rattle.bc_gen.specs.Writing.{RunsOut};
 

@@ -1,12 +1,12 @@
 //! Code with a mark where that of each root begins.
 ghost use Rattle.std.specs.Prelude.{◌≡◌, IfOk, map};
-ghost use Rattle.bc_derive.specs.View.{entry as entry_view};
-ghost use Rattle.bc_emit.specs.Entries.{plain_items, count_items as count_of, entries_from, entry_at};
+ghost use Rattle.bc_rules_defs.specs.View.{entry as entry_view};
+ghost use Rattle.bc_gen_defs.specs.Entries.{plain_items, count_items as count_of, entries_from, entry_at};
 ghost use Rattle.bc_gen.specs.Parts.{mark as mark_view, parts as parts_view};
 
 use bc_core::Root;
-use bc_derive::{Derivation, Entry};
-use bc_item::Item;
+use bc_rules_defs::{Derivation, Entry};
+use bc_text_items::Item;
 use bc_word::Memory;
 use std::alloc::Global;
 

@@ -2,8 +2,8 @@
 ghost use Rattle.std.specs.Prelude.{◌≡◌, ◌++◌, ◌≤◌, IfOk, map, drop, length};
 ghost use Rattle.bc_core.specs.Tree as tree;
 ghost use Rattle.bc_core.specs.View.{exp, root as root_view};
-ghost use Rattle.bc_emit.specs.Bodies.{fill as fill_of, level_of, label_ahead as label_ahead_of};
-ghost use Rattle.bc_emit.specs.Entries.{Plain, count_items as count_of};
+ghost use Rattle.bc_gen_defs.specs.Bodies.{fill as fill_of, level_of, label_ahead as label_ahead_of};
+ghost use Rattle.bc_gen_defs.specs.Entries.{Plain, count_items as count_of};
 ghost use Rattle.bc_gen.specs.Parts.{parts as parts_view};
 ghost use Rattle.bc_gen.specs.Surroundings.{one_piece, roots_in, bodies_of, valofs_in};
 ghost use Rattle.bc_gen.specs.Writing.{Writes};
@@ -14,8 +14,8 @@ use crate::gen_error::GenError;
 use crate::parts::{Mark, Part, count_items};
 use crate::writer::Writer;
 use bc_core::{CoreExp, Root, copy_expression};
-use bc_derive::Piece;
-use bc_item::Item;
+use bc_rules_defs::Piece;
+use bc_text_items::Item;
 
 /// The label of a VALOF, which stands right behind its body.
 fn label_ahead(pieces: &[Piece]) -> u16

@@ -1,7 +1,7 @@
 -- What a call answers that gives what is read, unless memory ran out.
 use Rattle.std.proofs.Common.{◌≡◌, refl, arith, ℕ, ◌+◌, ◌≤◌, ◌⊎◌, inl, inr, Bool, false, true, List, ◌++◌, length, Result, Ok, Err, IfOk}
 use Rattle.std.specs.Prelude.{IfErr, MatchResult}
-use Rattle.bc_token.specs.Token.{Lexeme}
+use Rattle.bc_lex_tokens.specs.Token.{Lexeme}
 use Rattle.bc_lex.specs.declared.error.LexError.{LexError}
 use Rattle.bc_lex.specs.declared.error.LexError.TheVariants as errors
 use Rattle.bc_lex.specs.Files.{File}

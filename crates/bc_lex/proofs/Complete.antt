@@ -2,10 +2,10 @@
 use Rattle.std.proofs.Common.{◌≡◌, ◌≢◌, ◌∙◌, refl, sym, ap, arith, ℕ, zero, suc, ◌+◌, ◌-◌, ◌≤◌, ◌<◌, inl, inr, Bool, true, false, ◌||◌, List, [], ◌∷◌, ◌++◌, length, drop, Option, Some, Result, Ok, Err, nat_eq, nat_lt, append_assoc}
 use Rattle.std.specs.Prelude.{codes}
 use Rattle.std.proofs.lemmas.Bool.{ne_eqb, eqb-true, both_ways, eq-eqb, lt-ltb, le-ltb, cond-true, cond-false}
-use Rattle.bc_token.specs.declared.symbol.Symbol.{Symbol}
-use Rattle.bc_token.specs.declared.symbol.Symbol.TheVariants as symbol
-use Rattle.bc_token.specs.Spelling.{symbol_of}
-use Rattle.bc_token.specs.Token.{Kind, Sign, Name, Number, Character, String, Lexeme}
+use Rattle.bc_lex_tokens.specs.declared.symbol.Symbol.{Symbol}
+use Rattle.bc_lex_tokens.specs.declared.symbol.Symbol.TheVariants as symbol
+use Rattle.bc_lex_tokens.specs.Spelling.{symbol_of}
+use Rattle.bc_lex_tokens.specs.Token.{Kind, Sign, Name, Number, Character, String, Lexeme}
 use Rattle.bc_lex.specs.declared.fault.FaultKind.{FaultKind}
 use Rattle.bc_lex.specs.declared.error.LexError.{LexError}
 use Rattle.bc_lex.specs.declared.error.LexError.TheVariants as errors

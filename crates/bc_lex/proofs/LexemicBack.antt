@@ -3,9 +3,9 @@ use Rattle.std.proofs.Common.{◌≡◌, ◌≢◌, ◌∙◌, refl, sym, ap, ar
 use Rattle.std.specs.Prelude.{codes}
 use Rattle.std.specs.List.{list_all, prefix_len}
 use Rattle.std.proofs.lemmas.Bool.{eqb-true, and_parts, or_cases, both_ways, false_from_ne_true, lt-ltb, cond-true, cond-false}
-use Rattle.bc_token.specs.declared.symbol.Symbol.{Symbol}
-use Rattle.bc_token.specs.Spelling.{symbol_of}
-use Rattle.bc_token.specs.Token.{Kind, Sign, Character, String}
+use Rattle.bc_lex_tokens.specs.declared.symbol.Symbol.{Symbol}
+use Rattle.bc_lex_tokens.specs.Spelling.{symbol_of}
+use Rattle.bc_lex_tokens.specs.Token.{Kind, Sign, Character, String}
 use Rattle.bc_lex.specs.declared.fault.Fault.{Fault}
 use Rattle.bc_lex.specs.declared.fault.FaultKind.{FaultKind}
 use Rattle.bc_lex.specs.declared.fault.FaultKind.TheVariants as faults

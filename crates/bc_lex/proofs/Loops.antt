@@ -1,7 +1,7 @@
 -- The turns of the loops that go over bytes.
 use Rattle.std.proofs.Common.{◌≡◌, ◌∙◌, ap, arith, ℕ, suc, ◌+◌, ◌-◌, ◌<◌, false, true, List, [], ◌∷◌, get_or, length, drop, drop-drop, drop-cons, add-one, Result, Option, Some, Ok, nat_eq}
 use Rattle.std.proofs.lemmas.Bool.{ne_eqb, cond-true}
-use Rattle.bc_token.specs.Token.{Kind}
+use Rattle.bc_lex_tokens.specs.Token.{Kind}
 use Rattle.bc_lex.specs.declared.fault.Fault.{Fault}
 use Rattle.bc_lex.specs.Bytes.{is_letter}
 use Rattle.bc_lex.specs.Blank.{ends_comment, closing_from, blank_of, gap_from, gap_on}

@@ -4,10 +4,10 @@ use Rattle.std.specs.List.{list_all}
 use Rattle.std.specs.Cmp.Lexicographic.{pointwise}
 use Rattle.std.proofs.lemmas.Bool.{and_parts, or_cases, both_ways, not-true, eqb-true}
 use Rattle.std.proofs.lemmas.Slice.Eq.{bytes_eq-Decides}
-use Rattle.bc_token.specs.declared.symbol.Symbol.{Symbol}
-use Rattle.bc_token.specs.declared.symbol.Symbol.TheVariants as symbol
+use Rattle.bc_lex_tokens.specs.declared.symbol.Symbol.{Symbol}
+use Rattle.bc_lex_tokens.specs.declared.symbol.Symbol.TheVariants as symbol
 use Rattle.std.specs.Prelude.{codes}
-use Rattle.bc_token.specs.Spelling.{spellings, symbol_in, symbol_of}
+use Rattle.bc_lex_tokens.specs.Spelling.{spellings, symbol_in, symbol_of}
 use Rattle.bc_lex.specs.Bytes.{is_letter}
 use Rattle.bc_lex.specs.Tags.{has_tag}
 use Rattle.bc_lex.specs.Faults.{is_sign_byte}

@@ -2,9 +2,9 @@
 use Rattle.std.proofs.Common.{◌≡◌, ◌≢◌, ◌∙◌, refl, sym, ap, subst, arith, ℕ, zero, suc, ◌+◌, ◌-◌, ◌≤◌, ◌<◌, inl, inr, Bool, true, false, ◌||◌, List, [], ◌∷◌, ◌++◌, length, take, drop, drop-drop, length-drop, Option, Some, None, Result, Ok, Err, cond, nat_eq, nat_lt, append_assoc}
 use Rattle.std.specs.Prelude.{codes}
 use Rattle.std.proofs.lemmas.Bool.{eqb-true, eqb-false, ltb-true, ltb-false}
-use Rattle.bc_token.specs.declared.symbol.Symbol.{Symbol}
-use Rattle.bc_token.specs.declared.symbol.Symbol.TheVariants as symbol
-use Rattle.bc_token.specs.Token.{Kind, Sign, Name, Number, Character, String, Lexeme}
+use Rattle.bc_lex_tokens.specs.declared.symbol.Symbol.{Symbol}
+use Rattle.bc_lex_tokens.specs.declared.symbol.Symbol.TheVariants as symbol
+use Rattle.bc_lex_tokens.specs.Token.{Kind, Sign, Name, Number, Character, String, Lexeme}
 use Rattle.bc_lex.specs.declared.fault.Fault.{Fault}
 use Rattle.bc_lex.specs.declared.fault.FaultKind.{FaultKind}
 use Rattle.bc_lex.specs.declared.fault.FaultKind.TheVariants as faults

@@ -1,6 +1,6 @@
 -- The turns of the loop that reads a file.
 use Rattle.std.proofs.Common.{◌≡◌, refl, sym, ap, true, arith, ℕ, suc, ◌+◌, ◌-◌, ◌<◌, List, Result, Ok, Err}
-use Rattle.bc_token.specs.Token.{Lexeme}
+use Rattle.bc_lex_tokens.specs.Token.{Lexeme}
 use Rattle.bc_lex.specs.declared.error.LexError.{LexError}
 use Rattle.bc_lex.specs.declared.error.LexError.TheVariants as errors
 use Rattle.bc_lex.specs.declared.reading.Place.{Place}

@@ -1,9 +1,9 @@
 -- Worked examples of what stands in a source.
 use Rattle.std.specs.Prelude.{◌≡◌, false, List, [], ◌∷◌, codes}
 use Rattle.std.proofs.Common.{refl, arith}
-use Rattle.bc_token.specs.declared.symbol.Symbol.TheVariants as symbol
-use Rattle.bc_token.specs.Spelling.{symbol_of}
-use Rattle.bc_token.specs.Token.{Sign, Name}
+use Rattle.bc_lex_tokens.specs.declared.symbol.Symbol.TheVariants as symbol
+use Rattle.bc_lex_tokens.specs.Spelling.{symbol_of}
+use Rattle.bc_lex_tokens.specs.Token.{Sign, Name}
 use Rattle.bc_lex.specs.Gaps.{IsBlank, Space, Line, Nothing, More}
 use Rattle.bc_lex.specs.Quotes.{IsCharacter, Escape, IsBadEscape, Bad}
 use Rattle.bc_lex.specs.Lexemes.{IsNumber, Octal, Hexadecimal, value_behind, IsLexeme, Word, Named}

@@ -1,6 +1,6 @@
 -- For proofs: what the code found behind a place, without where it lies in memory.
 use Rattle.std.specs.Prelude.{ℕ, ◌<◌, ◌≤◌, List, length}
-use Rattle.bc_token.specs.Token.{lexeme_of}
+use Rattle.bc_lex_tokens.specs.Token.{lexeme_of}
 use Rattle.bc_lex.specs.declared.source.Source.{Source}
 use Rattle.bc_lex.specs.declared.reading.Found as code
 use Rattle.bc_lex.specs.declared.reading.Found.TheVariants as item

@@ -1,9 +1,9 @@
 -- For proofs: the lexeme in front of a list of bytes, read from left to right.
 use Rattle.std.specs.Prelude.{◌≡◌, ℕ, ◌+◌, ◌==◌, ◌||◌, nat_lt, List, [], ◌∷◌, length, take, drop, Option, Some, None, Result, Ok, Err, if◌then◌else◌}
 use Rattle.std.specs.List.{prefix_len}
-use Rattle.bc_token.specs.declared.symbol.Symbol.{Symbol}
-use Rattle.bc_token.specs.Spelling.{symbol_of}
-use Rattle.bc_token.specs.Token.{Kind, Sign, Name, Number, Character, String}
+use Rattle.bc_lex_tokens.specs.declared.symbol.Symbol.{Symbol}
+use Rattle.bc_lex_tokens.specs.Spelling.{symbol_of}
+use Rattle.bc_lex_tokens.specs.Token.{Kind, Sign, Name, Number, Character, String}
 use Rattle.bc_lex.specs.declared.fault.Fault.{Fault}
 use Rattle.bc_lex.specs.declared.fault.FaultKind.TheVariants as faults
 use Rattle.bc_lex.specs.Tags.{has_tag}

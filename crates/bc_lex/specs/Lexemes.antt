@@ -1,9 +1,9 @@
 -- What a token is, by its text and by what follows it in its file: each goes on as far as it can.
 use Rattle.std.specs.Prelude.{◌≡◌, ◌≢◌, ℕ, ◌+◌, ◌*◌, ◌<◌, ◌≤◌, Bool, true, false, List, [], ◌∷◌, ◌++◌, length, Some, None, is_some, unwrap_or}
 use Rattle.std.specs.List.{list_all}
-use Rattle.bc_token.specs.declared.symbol.Symbol.{Symbol}
-use Rattle.bc_token.specs.Spelling.{symbol_of}
-use Rattle.bc_token.specs.Token.{Kind, Sign, Name, Number, Character, String}
+use Rattle.bc_lex_tokens.specs.declared.symbol.Symbol.{Symbol}
+use Rattle.bc_lex_tokens.specs.Spelling.{symbol_of}
+use Rattle.bc_lex_tokens.specs.Token.{Kind, Sign, Name, Number, Character, String}
 use Rattle.bc_lex.specs.Bytes.{is_letter, is_name_byte, digit_of}
 use Rattle.bc_lex.specs.Gaps.{opens_line, opens_block}
 use Rattle.bc_lex.specs.Quotes.{IsCharacter, Spells}

@@ -1,7 +1,7 @@
 -- For proofs: the tokens of a file, read from left to right, with the first fault that is met.
 use Rattle.std.specs.Prelude.{◌≡◌, ℕ, zero, suc, ◌+◌, ◌-◌, Bool, true, false, ◌==◌, ◌||◌, nat_lt, List, [], ◌∷◌, ◌++◌, length, take, drop, Option, Some, None, Result, Ok, Err, if◌then◌else◌}
-use Rattle.bc_token.specs.declared.symbol.Symbol.TheVariants as symbol
-use Rattle.bc_token.specs.Token.{Kind, Sign, Lexeme}
+use Rattle.bc_lex_tokens.specs.declared.symbol.Symbol.TheVariants as symbol
+use Rattle.bc_lex_tokens.specs.Token.{Kind, Sign, Lexeme}
 use Rattle.bc_lex.specs.declared.fault.Fault.{Fault}
 use Rattle.bc_lex.specs.declared.error.LexError.{LexError}
 use Rattle.bc_lex.specs.declared.error.LexError.TheVariants as errors

@@ -1,7 +1,7 @@
 -- The symbols behind which a tag may stand.
 use Rattle.std.specs.Prelude.{Bool, true, false}
-use Rattle.bc_token.specs.declared.symbol.Symbol.{Symbol}
-use Rattle.bc_token.specs.declared.symbol.Symbol.TheVariants as symbol
+use Rattle.bc_lex_tokens.specs.declared.symbol.Symbol.{Symbol}
+use Rattle.bc_lex_tokens.specs.declared.symbol.Symbol.TheVariants as symbol
 
 abbrev pub has_tag : Symbol → Bool
 has_tag symbol.OpenSection = true

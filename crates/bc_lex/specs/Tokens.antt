@@ -1,7 +1,7 @@
 -- The tokens of a source, and the first fault of one that has none.
 use Rattle.std.specs.Prelude.{◌≡◌, ◌≢◌, ℕ, zero, suc, ◌+◌, ◌<◌, ◌≤◌, Bool, true, false, ◌||◌, List, [], ◌∷◌, ◌++◌, ◌⊎◌, length, slice_get, Some, codes}
-use Rattle.bc_token.specs.declared.symbol.Symbol.TheVariants as symbol
-use Rattle.bc_token.specs.Token.{Kind, Sign, Lexeme}
+use Rattle.bc_lex_tokens.specs.declared.symbol.Symbol.TheVariants as symbol
+use Rattle.bc_lex_tokens.specs.Token.{Kind, Sign, Lexeme}
 use Rattle.bc_lex.specs.declared.fault.FaultKind.{FaultKind}
 use Rattle.bc_lex.specs.declared.error.LexError.{LexError}
 use Rattle.bc_lex.specs.declared.error.LexError.TheVariants as errors

@@ -1,5 +1,5 @@
 ghost use Rattle.std.specs.Prelude.{◌≡◌, ◌<◌, ◌≤◌, length, IfOk, IfErr};
-ghost use Rattle.bc_token.specs.Token.{kind_of};
+ghost use Rattle.bc_lex_tokens.specs.Token.{kind_of};
 ghost use Rattle.bc_lex.specs.Tags.{has_tag as with_tag};
 ghost use Rattle.bc_lex.specs.Lexeme.{named, word_of, sign_of, lexeme_in_front, Gives};
 
@@ -8,7 +8,7 @@ use crate::fault::{Fault, FaultKind};
 use crate::number::number;
 use crate::quoted::{character, string};
 use crate::run::{behind, name_bytes};
-use bc_token::{Symbol, TokenKind};
+use bc_lex_tokens::{Symbol, TokenKind};
 
 /// Whether a tag may follow the symbol.
 fn has_tag(symbol: Symbol) -> bool

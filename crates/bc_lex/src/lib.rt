@@ -12,7 +12,7 @@ mod reading;
 mod run;
 mod source;
 
-pub use bc_token::{Symbol, Token, TokenKind};
+pub use bc_lex_tokens::{Symbol, Token, TokenKind};
 pub use error::LexError;
 pub use reading::lex;
 pub use source::Source;

@@ -1,5 +1,5 @@
 ghost use Rattle.std.specs.Prelude.{◌≡◌, ◌<◌, ◌≤◌, ◌⊎◌, List, length, IfOk, IfErr, MatchResult, IsTrue};
-ghost use Rattle.bc_token.specs.Token.{Lexeme, kind_of, lexeme_of, lexemes_of};
+ghost use Rattle.bc_lex_tokens.specs.Token.{Lexeme, kind_of, lexeme_of, lexemes_of};
 ghost use Rattle.bc_lex.specs.Files.{files_of, text_of};
 ghost use Rattle.bc_lex.specs.Lexing.{ReadsAs, skipped, string_end_of, lexeme_at, target_of, is_get as is_get_word, item_of, pushed, file_to_end, deeper_of, read_of};
 ghost use Rattle.bc_lex.specs.Gaps.{begins, breaks};
@@ -13,7 +13,7 @@ use crate::lexeme::lexeme;
 use crate::quoted::string;
 use crate::run::behind;
 use crate::source::{Source, source_named, text_at};
-use bc_token::{Symbol, Token, TokenKind};
+use bc_lex_tokens::{Symbol, Token, TokenKind};
 use std::alloc::Global;
 
 /// The greatest number of tokens.

@@ -1,10 +1,10 @@
 -- Bytes that share a word, item by item.
 use Rattle.bc_link.proofs.Front.{drop-front}
 use Rattle.std.proofs.Common.{◌≡◌, ◌∙◌, ◌<◌, length, drop, get_or, arith, ℕ, ◌+◌, List, [], ◌∷◌, Bool, true, false, ◌++◌, append_assoc, refl, ap, add-zero, zero-add, sym}
-use Rattle.bc_item.specs.Sizes.{size_of_all}
-use Rattle.bc_item.specs.Assembled.{label_places}
-use Rattle.bc_item.specs.declared.item.Item.{Item}
-use Rattle.bc_item.specs.declared.item.Item.TheVariants.{Label, Data, DataLabel, Byte, Operation, Global}
+use Rattle.bc_text_items.specs.Sizes.{size_of_all}
+use Rattle.bc_text_items.specs.Assembled.{label_places}
+use Rattle.bc_text_items.specs.declared.item.Item.{Item}
+use Rattle.bc_text_items.specs.declared.item.Item.TheVariants.{Label, Data, DataLabel, Byte, Operation, Global}
 use Rattle.bc_link.specs.Steps.{uncounted, words_begun, leaves_half}
 
 -- an item's label with its address

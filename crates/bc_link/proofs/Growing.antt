@@ -1,9 +1,9 @@
 -- A draft with one segment more.
 use Rattle.std.proofs.Common.{◌≡◌, ◌∙◌, ℕ, ◌+◌, List, [], ◌∷◌, ◌++◌, append_assoc, ap, sym, arith}
 use Rattle.std.specs.Option.{option_map}
-use Rattle.bc_item.specs.Sizes.{size_of_all}
-use Rattle.bc_item.specs.Assembled.{assembled, label_places}
-use Rattle.bc_item.specs.declared.item.Item.{Item}
+use Rattle.bc_text_items.specs.Sizes.{size_of_all}
+use Rattle.bc_text_items.specs.Assembled.{assembled, label_places}
+use Rattle.bc_text_items.specs.declared.item.Item.{Item}
 use Rattle.bc_link.specs.declared.draft.Draft.{Draft}
 use Rattle.bc_link.specs.declared.link_error.LinkError.TheVariants.{LabelUnset}
 use Rattle.bc_link.specs.Drafts.{next_start, Added, Becomes}

@@ -1,12 +1,12 @@
 -- How many words items become.
 use Rattle.std.proofs.Common.{◌≡◌, ◌∙◌, ℕ, List, [], ◌∷◌, length, length-append, Bool, true, false, cond, nat_le, refl, sym, zero-add, arith}
-use Rattle.bc_item.specs.Sizes.{size_of_all, operation_size}
-use Rattle.bc_item.specs.Assembled.{assembled, operation_words, instruction}
-use Rattle.bc_item.specs.declared.item.Item.{Item}
-use Rattle.bc_item.specs.declared.item.Item.TheVariants.{Label, Data, DataLabel, Byte, Operation, Global}
-use Rattle.bc_item.specs.declared.item.Base.{Base}
-use Rattle.bc_item.specs.declared.item.Base.TheVariants as bases
-use Rattle.bc_item.specs.declared.item.Function.{Function}
+use Rattle.bc_text_items.specs.Sizes.{size_of_all, operation_size}
+use Rattle.bc_text_items.specs.Assembled.{assembled, operation_words, instruction}
+use Rattle.bc_text_items.specs.declared.item.Item.{Item}
+use Rattle.bc_text_items.specs.declared.item.Item.TheVariants.{Label, Data, DataLabel, Byte, Operation, Global}
+use Rattle.bc_text_items.specs.declared.item.Base.{Base}
+use Rattle.bc_text_items.specs.declared.item.Base.TheVariants as bases
+use Rattle.bc_text_items.specs.declared.item.Function.{Function}
 
 length-choice : (b : Bool) (x y z : ℕ) → length (cond b (x ∷ []) (y ∷ z ∷ [])) ≡ cond b 1 2
 length-choice true x y z = refl

@@ -2,9 +2,9 @@
 use Rattle.std.proofs.Common.{◌≡◌, ◌∙◌, ℕ, zero, suc, ◌+◌, ◌-◌, ◌<◌, ◌≤◌, List, [], ◌∷◌, ◌++◌, Some, take, drop, set, slice_get, length, replicate, length-append, length-drop, length-set, append_assoc, refl, ap, sym, add_assoc, add-zero, arith, subst}
 use Rattle.std.proofs.Math.Seq.{take-append_seam, drop-append-add}
 use Rattle.std.proofs.lemmas.List.{take-append-le, drop-append-le, length-replicate}
-use Rattle.bc_item.specs.Sizes.{size_of_all}
-use Rattle.bc_item.specs.Assembled.{assembled, label_places, global_settings}
-use Rattle.bc_item.specs.declared.item.Item.{Item}
+use Rattle.bc_text_items.specs.Sizes.{size_of_all}
+use Rattle.bc_text_items.specs.Assembled.{assembled, label_places, global_settings}
+use Rattle.bc_text_items.specs.declared.item.Item.{Item}
 use Rattle.bc_link.proofs.Lengths.{length-assembled}
 use Rattle.bc_link.specs.Labels.{label_address}
 use Rattle.bc_link.specs.Layout.{size_of_segments, stack_base_of, place_at, places_from}

@@ -1,11 +1,11 @@
 -- Labels that are set, by the places of a segment and by its list of labels.
 use Rattle.std.proofs.Common.{◌≡◌, ℕ, ◌+◌, List, [], ◌∷◌, Bool, true, false, not, cond, eqb, Some, find, is_none, ◌||◌, refl, ap, sym}
 use Rattle.std.specs.List.{list_any}
-use Rattle.bc_image.specs.Places.{address_in}
-use Rattle.bc_item.specs.Sizes.{size}
-use Rattle.bc_item.specs.Assembled.{label_places}
-use Rattle.bc_item.specs.declared.item.Item.{Item}
-use Rattle.bc_item.specs.declared.item.Item.TheVariants.{Label, Data, DataLabel, Byte, Operation, Global}
+use Rattle.bc_machine_image.specs.Places.{address_in}
+use Rattle.bc_text_items.specs.Sizes.{size}
+use Rattle.bc_text_items.specs.Assembled.{label_places}
+use Rattle.bc_text_items.specs.declared.item.Item.{Item}
+use Rattle.bc_text_items.specs.declared.item.Item.TheVariants.{Label, Data, DataLabel, Byte, Operation, Global}
 use Rattle.bc_link.specs.Labels.{labels_of}
 use Rattle.bc_link.specs.Refusals.{first_unset}
 

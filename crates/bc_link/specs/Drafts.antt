@@ -1,11 +1,11 @@
 -- For proofs: the parts of an image, as far as segments were added.
 use Rattle.std.specs.Prelude.{ℕ, ◌≡◌, ◌+◌, ◌-◌, replicate, List, [], ◌∷◌, ◌++◌, None, vec_len}
-use Rattle.bc_item.specs.Sizes.{size_of_all}
-use Rattle.bc_item.specs.Assembled.{assembled, label_places, global_settings}
-use Rattle.bc_item.specs.declared.item.Item.{Item}
+use Rattle.bc_text_items.specs.Sizes.{size_of_all}
+use Rattle.bc_text_items.specs.Assembled.{assembled, label_places, global_settings}
+use Rattle.bc_text_items.specs.declared.item.Item.{Item}
 use Rattle.bc_link.specs.declared.draft.Draft.{Draft}
 use Rattle.std.specs.Option.{option_map}
-use Rattle.bc_image.specs.declared.image.Image.{Image}
+use Rattle.bc_machine_image.specs.declared.image.Image.{Image}
 use Rattle.bc_link.specs.declared.link_error.LinkError.{LinkError}
 use Rattle.bc_link.specs.declared.link_error.LinkError.TheVariants.{LabelUnset}
 use Rattle.bc_link.specs.Linked.{IsRefusal}

@@ -1,8 +1,8 @@
 -- Laws of images.
 use Rattle.std.specs.Prelude.{ℕ, ◌≡◌, ◌+◌, ◌<◌, ◌≤◌, List, Some, take, drop, slice_get, length}
-use Rattle.bc_item.specs.Sizes.{size_of_all}
-use Rattle.bc_item.specs.Assembled.{assembled, label_places}
-use Rattle.bc_item.specs.declared.item.Item.{Item}
+use Rattle.bc_text_items.specs.Sizes.{size_of_all}
+use Rattle.bc_text_items.specs.Assembled.{assembled, label_places}
+use Rattle.bc_text_items.specs.declared.item.Item.{Item}
 use Rattle.bc_link.specs.Labels.{label_address}
 use Rattle.bc_link.specs.Layout.{stack_base_of, place_at, places_from}
 use Rattle.bc_link.specs.Store.{boot, globals_of, store_of}

@@ -1,10 +1,10 @@
 -- Where segments stand.
 use Rattle.std.specs.Prelude.{ℕ, ◌+◌, ◌≡◌, List, [], ◌∷◌, refl}
-use Rattle.bc_item.specs.Sizes.{size_of_all}
-use Rattle.bc_item.specs.Assembled.{label_places}
-use Rattle.bc_item.specs.declared.item.Item.{Item}
-use Rattle.bc_item.specs.declared.item.Item.TheVariants.{Label, Data, DataLabel}
-use Rattle.bc_image.specs.declared.image.SegmentPlace.{SegmentPlace}
+use Rattle.bc_text_items.specs.Sizes.{size_of_all}
+use Rattle.bc_text_items.specs.Assembled.{label_places}
+use Rattle.bc_text_items.specs.declared.item.Item.{Item}
+use Rattle.bc_text_items.specs.declared.item.Item.TheVariants.{Label, Data, DataLabel}
+use Rattle.bc_machine_image.specs.declared.image.SegmentPlace.{SegmentPlace}
 
 -- the words that all the segments take
 abbrev pub size_of_segments : List (List Item) → ℕ

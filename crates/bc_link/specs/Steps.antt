@@ -1,8 +1,8 @@
 -- For proofs: how assemblers go on from item to item: neighbouring bytes share a word.
 use Rattle.std.specs.Prelude.{ℕ, List, ◌∷◌, Bool, true, false, Option, Some, None}
-use Rattle.bc_item.specs.Sizes.{size}
-use Rattle.bc_item.specs.declared.item.Item.{Item}
-use Rattle.bc_item.specs.declared.item.Item.TheVariants.{Byte}
+use Rattle.bc_text_items.specs.Sizes.{size}
+use Rattle.bc_text_items.specs.declared.item.Item.{Item}
+use Rattle.bc_text_items.specs.declared.item.Item.TheVariants.{Byte}
 
 -- the items whose words are still to be counted, where a byte in front of them may have left the low half of its word free
 abbrev pub uncounted : Bool → List Item → List Item

@@ -2,12 +2,12 @@
 
 ghost use Rattle.std.specs.Prelude.{◌≡◌, ◌+◌, ◌≤◌, IfOk};
 ghost use Rattle.std.specs.Option.{SomeIff};
-ghost use Rattle.bc_item.specs.Sizes.{size, operation_size, size_of_all};
-ghost use Rattle.bc_item.specs.Assembled.{label_places};
+ghost use Rattle.bc_text_items.specs.Sizes.{size, operation_size, size_of_all};
+ghost use Rattle.bc_text_items.specs.Assembled.{label_places};
 ghost use Rattle.bc_link.specs.Layout.{stack_base_of};
 ghost use Rattle.bc_link.specs.Steps.{words_begun, leaves_half};
 
-use bc_item::{Base, Item, Segment};
+use bc_text_items::{Base, Item, Segment};
 use bc_word::{Memory, Word};
 use std::alloc::Global;
 

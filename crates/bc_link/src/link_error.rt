@@ -1,4 +1,4 @@
-use bc_item::GlobalNumber;
+use bc_text_items::GlobalNumber;
 use bc_word::{Memory, Word};
 use std::alloc::{AllocError, AllocFailed};
 use thiserror::Error;

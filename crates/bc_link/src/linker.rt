@@ -6,8 +6,8 @@ use crate::draft::Draft;
 use crate::layout::stack_base;
 use crate::link_error::LinkError;
 use crate::repeats::{repeated_global, repeated_label};
-use bc_image::Image;
-use bc_item::Segment;
+use bc_machine_image::Image;
+use bc_text_items::Segment;
 use std::alloc::Global;
 
 /// Refuses segments of which one has a label twice.

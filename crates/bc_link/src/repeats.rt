@@ -4,7 +4,7 @@ ghost use Rattle.std.specs.Prelude.{◌≡◌, ℕ, List, ◌++◌, IfOk};
 ghost use Rattle.bc_link.specs.Labels.{labels_of};
 ghost use Rattle.bc_link.specs.Refusals.{first_of, first_repeated, repeated_behind, globals_set, repeated_global_of};
 
-use bc_item::{GlobalNumber, Item, Segment};
+use bc_text_items::{GlobalNumber, Item, Segment};
 use bc_word::{Memory, Word};
 use indexmap::IndexSet;
 use std::alloc::Global;

@@ -1,14 +1,14 @@
 //! The words that items become.
 
 ghost use Rattle.std.specs.Prelude.{◌≡◌, ℕ, ◌+◌, ◌*◌, ◌^◌, ◌<◌, ◌≤◌, List, [], ◌∷◌, ◌++◌, length, vec_len, OnOk, IfOk};
-ghost use Rattle.bc_item.specs.Assembled.{function_number, base_bit, instruction, operation_words, words_of_item, assembled, global_settings};
-ghost use Rattle.bc_item.specs.declared.item.Item.{Item};
+ghost use Rattle.bc_text_items.specs.Assembled.{function_number, base_bit, instruction, operation_words, words_of_item, assembled, global_settings};
+ghost use Rattle.bc_text_items.specs.declared.item.Item.{Item};
 ghost use Rattle.bc_link.specs.Labels.{label_address};
 ghost use Rattle.bc_link.specs.Store.{with_settings};
 ghost use Rattle.bc_link.specs.Steps.{with_waiting};
 
 use crate::label_table::LabelTable;
-use bc_item::{Base, Function, Item};
+use bc_text_items::{Base, Function, Item};
 use bc_word::{Memory, Word};
 
 /// The word of an instruction, with its address from 0 to 511, or 512 for the long form.

@@ -4,7 +4,7 @@ use Rattle.std.specs.Prelude.{IsSome}
 use Rattle.std.specs.Option.{option_map}
 use Rattle.std.proofs.lemmas.Option.{slice_get_read, slice_get-map}
 use Rattle.std.proofs.lemmas.List.{map-set}
-use Rattle.bc_step.specs.Streams.{Output, numbered}
+use Rattle.bc_machine_defs.specs.Streams.{Output, numbered}
 use Rattle.bc_machine.specs.Known.{AllKnown}
 use Rattle.bc_machine.specs.FileContent.{told, file_outputs}
 use Rattle.bc_machine.specs.declared.names.NamedOutput.{NamedOutput}

@@ -5,9 +5,9 @@ use Rattle.std.specs.Io.KnownBytes.{Keeps, Appends}
 use Rattle.std.proofs.Math.Seq.{map-set_same}
 use Rattle.std.proofs.lemmas.Option.{slice_get-get_or}
 use Rattle.std.proofs.lemmas.List.{map-set, length-map}
-use Rattle.bc_step.specs.Streams.{Input, Output, numbered}
-use Rattle.bc_step.specs.StreamCalls.{after_write, end_stream}
-use Rattle.bc_step.specs.declared.streams.Side.TheVariants as sides
+use Rattle.bc_machine_defs.specs.Streams.{Input, Output, numbered}
+use Rattle.bc_machine_defs.specs.StreamCalls.{after_write, end_stream}
+use Rattle.bc_machine_defs.specs.declared.streams.Side.TheVariants as sides
 use Rattle.bc_machine.specs.Known.{AllKnown}
 use Rattle.bc_machine.specs.FileContent.{told, file_outputs, devices}
 use Rattle.bc_machine.specs.declared.names.Named.{Named}

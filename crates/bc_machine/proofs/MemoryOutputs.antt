@@ -4,8 +4,8 @@ use Rattle.std.proofs.lemmas.Bool.Decides.{nat_tests}
 use Rattle.std.proofs.lemmas.List.{map-append, append-nil}
 use Rattle.std.proofs.lemmas.List.Elements.{filter-append}
 use Rattle.std.proofs.lemmas.Option.{slice_get_read}
-use Rattle.bc_step.specs.Streams.{Input, Output, numbered}
-use Rattle.bc_step.specs.StreamStart.{fresh_output, first_number, opened}
+use Rattle.bc_machine_defs.specs.Streams.{Input, Output, numbered}
+use Rattle.bc_machine_defs.specs.StreamStart.{fresh_output, first_number, opened}
 use Rattle.bc_machine.specs.MemoryContent.{bytes_to, memory_outputs}
 use Rattle.bc_machine.specs.declared.names.NamedOutput.{NamedOutput}
 use Rattle.bc_machine.proofs.Tables.{numbered-get, content}

@@ -3,9 +3,9 @@ use Rattle.std.proofs.Common.{◌≡◌, ℕ, ◌-◌, ◌<◌, ◌≤◌, zero,
 use Rattle.std.specs.Option.{option_map}
 use Rattle.std.proofs.lemmas.Option.{slice_get_read, slice_get-map}
 use Rattle.std.proofs.lemmas.List.{map-set}
-use Rattle.bc_step.specs.Streams.{Input, Output, Content, numbered}
-use Rattle.bc_step.specs.StreamCalls.{next_byte, behind_byte, read_byte, after_read, after_write, end_stream, more_written, byte_of_input, with_input_read, with_output_written, with_input_ended, with_output_ended}
-use Rattle.bc_step.specs.declared.streams.Side.TheVariants as sides
+use Rattle.bc_machine_defs.specs.Streams.{Input, Output, Content, numbered}
+use Rattle.bc_machine_defs.specs.StreamCalls.{next_byte, behind_byte, read_byte, after_read, after_write, end_stream, more_written, byte_of_input, with_input_read, with_output_written, with_input_ended, with_output_ended}
+use Rattle.bc_machine_defs.specs.declared.streams.Side.TheVariants as sides
 
 abbrev pub content : List Input → List Output → ℕ → ℕ → Content
 content inputs outputs input output = record { inputs = inputs; outputs = outputs; input = input; output = output }

@@ -5,7 +5,7 @@ ghost use Rattle.bc_machine.specs.Known.{AllKnown};
 use crate::faults::{DeviceFault, StreamsError};
 use crate::names::{HasName, Named, NamedOutput, chosen, number_of, number_of_first, refusal};
 use crate::streams::Streams;
-use bc_step::Side;
+use bc_machine_defs::Side;
 use bc_word::{Memory, Word};
 use std::alloc::Global;
 use std::io::{Read, Write};
@@ -29,7 +29,7 @@ impl<R> HasName for FileInput<R> {
 
 impl<R: Read> FileInput<R> {
     ghost use Rattle.std.specs.Prelude.{◌≡◌, IsSome, IfOk, OnOk, OnErr};
-    ghost use Rattle.bc_step.specs.StreamCalls.{next_byte, behind_byte};
+    ghost use Rattle.bc_machine_defs.specs.StreamCalls.{next_byte, behind_byte};
     ghost use Rattle.bc_machine.specs.FileContent.{file_input};
 
     /// The next byte, or `None` at the end and after an end. A reader that gave nothing once is at
@@ -160,7 +160,7 @@ impl<W: Write> Outputs<W> {
 
 impl<R: Read, W: Write> FileStreams<R, W> {
     ghost use Rattle.std.specs.Prelude.{◌≡◌, ◌≢◌, ◌≤◌, ℕ, List, map, Option, Some, None, IfOk, IfErr, OnOk, OnErr};
-    ghost use Rattle.bc_step.specs.StreamStart.{opened};
+    ghost use Rattle.bc_machine_defs.specs.StreamStart.{opened};
     ghost use Rattle.bc_machine.specs.Rose.{Rose};
     ghost use Rattle.bc_machine.specs.Refusal.{refusal_of};
     ghost use Rattle.bc_machine.specs.declared.faults.StreamsError.TheVariants as faults;

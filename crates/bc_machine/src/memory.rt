@@ -3,7 +3,7 @@ ghost use Rattle.std.specs.Prelude.{◌≡◌, ◌≤◌, [], IfOk, vec_len, vec
 use crate::faults::{DeviceFault, StreamsError};
 use crate::names::{HasName, Named, NamedOutput, chosen, number_of, number_of_first, refusal};
 use crate::streams::Streams;
-use bc_step::Side;
+use bc_machine_defs::Side;
 use bc_word::{Memory, Word};
 use std::alloc::Global;
 
@@ -26,7 +26,7 @@ impl HasName for MemoryInput {
 
 impl MemoryInput {
     ghost use Rattle.std.specs.Prelude.{◌≡◌};
-    ghost use Rattle.bc_step.specs.StreamCalls.{next_byte, behind_byte};
+    ghost use Rattle.bc_machine_defs.specs.StreamCalls.{next_byte, behind_byte};
     ghost use Rattle.bc_machine.specs.MemoryContent.{memory_input};
 
     /// The next byte, or `None` at the end and after an end.
@@ -45,7 +45,7 @@ impl MemoryInput {
 
 impl MemoryInput {
     ghost use Rattle.std.specs.Prelude.{◌≡◌, IfOk, map};
-    ghost use Rattle.bc_step.specs.StreamStart.{fresh_input};
+    ghost use Rattle.bc_machine_defs.specs.StreamStart.{fresh_input};
     ghost use Rattle.bc_machine.specs.MemoryContent.{memory_input};
     ghost use Rattle.bc_machine.specs.Names.{named_bytes};
 
@@ -69,7 +69,7 @@ impl MemoryInput {
 
 impl NamedOutput {
     ghost use Rattle.std.specs.Prelude.{◌≡◌, [], IfOk, map};
-    ghost use Rattle.bc_step.specs.StreamStart.{fresh_output};
+    ghost use Rattle.bc_machine_defs.specs.StreamStart.{fresh_output};
     ghost use Rattle.bc_machine.specs.MemoryContent.{memory_outputs};
     ghost use Rattle.bc_machine.specs.Names.{bytes_of};
 
@@ -111,7 +111,7 @@ pub struct MemoryStreams {
 
 impl MemoryStreams {
     ghost use Rattle.std.specs.Prelude.{◌≡◌, ◌≢◌, ◌≤◌, ℕ, List, map, Some, None, IfOk, IfErr, OnOk, length};
-    ghost use Rattle.bc_step.specs.StreamStart.{start_streams};
+    ghost use Rattle.bc_machine_defs.specs.StreamStart.{start_streams};
     ghost use Rattle.bc_machine.specs.Refusal.{refusal_of};
     ghost use Rattle.bc_machine.specs.declared.faults.StreamsError.TheVariants as faults;
     ghost use Rattle.bc_machine.specs.Names.{given_names, bytes_of, named_bytes};
@@ -167,7 +167,7 @@ impl MemoryStreams {
 
 impl Streams for MemoryStreams {
     ghost use Rattle.std.specs.Prelude.{◌≡◌, ◌≤◌, OnOk, OnErr, Ok};
-    ghost use Rattle.bc_step.specs.StreamCalls.{select_stream, read_byte, after_read, after_write, end_stream};
+    ghost use Rattle.bc_machine_defs.specs.StreamCalls.{select_stream, read_byte, after_read, after_write, end_stream};
     ghost use Rattle.bc_machine.specs.Rose.{Rose};
     ghost use Rattle.bc_machine.specs.MemoryContent.{memory_content, memory_failures, memory_written, memory_room, written_after, StaysAsRoom, WritesNothing, IsSpent};
 

@@ -1,8 +1,8 @@
 ghost use Rattle.std.specs.Prelude.{◌≡◌, ◌≤◌, ℕ, List, map, cond, nat_le, length};
-ghost use Rattle.bc_step.specs.StreamStart.{first_number};
+ghost use Rattle.bc_machine_defs.specs.StreamStart.{first_number};
 ghost use Rattle.std.specs.List.{position_from, list_any};
 ghost use Rattle.std.specs.Str.{bytes_eq};
-ghost use Rattle.bc_step.specs.StreamCalls.{number_or_none};
+ghost use Rattle.bc_machine_defs.specs.StreamCalls.{number_or_none};
 ghost use Rattle.bc_machine.specs.Refusal.{refusal_in};
 
 use crate::faults::StreamsError;

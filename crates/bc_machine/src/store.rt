@@ -1,11 +1,11 @@
 ghost use Rattle.std.specs.Prelude.{◌≡◌, length, slice_index};
-ghost use Rattle.bc_step.specs.Operand.{next};
-ghost use Rattle.bc_step.specs.Switch.{case_of, switch_of};
-ghost use Rattle.bc_step.specs.StreamCalls.{find_stream};
-ghost use Rattle.bc_step.specs.Text.{byte_at as byte_of, string_at};
+ghost use Rattle.bc_machine_defs.specs.Operand.{next};
+ghost use Rattle.bc_machine_defs.specs.Switch.{case_of, switch_of};
+ghost use Rattle.bc_machine_defs.specs.StreamCalls.{find_stream};
+ghost use Rattle.bc_machine_defs.specs.Text.{byte_at as byte_of, string_at};
 
 use crate::streams::Streams;
-use bc_step::Side;
+use bc_machine_defs::Side;
 
 /// Where the switch whose words stand from `c` on goes for the value `a`.
 pub fn switch_target(store: &[u16], c: u16, a: u16) -> u16

@@ -1,10 +1,10 @@
 ghost use Rattle.std.specs.Prelude.{◌≡◌, ◌≤◌, ℕ, OnOk, OnErr, IfOk};
-ghost use Rattle.bc_step.specs.Streams.{Content};
-ghost use Rattle.bc_step.specs.StreamCalls.{find_stream, select_stream, read_byte, after_read, after_write, end_stream};
+ghost use Rattle.bc_machine_defs.specs.Streams.{Content};
+ghost use Rattle.bc_machine_defs.specs.StreamCalls.{find_stream, select_stream, read_byte, after_read, after_write, end_stream};
 ghost use Rattle.bc_machine.specs.Rose.{Rose};
 
 use crate::faults::DeviceFault;
-use bc_step::Side;
+use bc_machine_defs::Side;
 use bc_word::Word;
 
 /// The streams of a run: two tables of named inputs and outputs, each numbered from 1, and what is

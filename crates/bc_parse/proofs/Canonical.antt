@@ -1,11 +1,11 @@
 -- The canonical spelling of a section is parsed as that section.
 use Rattle.std.proofs.Common.{◌≡◌, ◌∙◌, List, length, Ok, ap}
-use Rattle.bc_token.specs.Token.{Lexeme}
-use Rattle.bc_tree.specs.Tree.{Declarations}
-use Rattle.bc_tree.specs.Canonical.{section_spelling}
-use Rattle.bc_close.specs.Closing.{places_in}
-use Rattle.bc_reading.specs.Reading.{section_of}
-use Rattle.bc_canonical.specs.Laws.{SpellingIsRead, SpellingIsClosed}
+use Rattle.bc_lex_tokens.specs.Token.{Lexeme}
+use Rattle.bc_parse_tree.specs.Tree.{Declarations}
+use Rattle.bc_parse_tree.specs.Canonical.{section_spelling}
+use Rattle.bc_parse_close.specs.Closing.{places_in}
+use Rattle.bc_parse_defs.specs.Reading.{section_of}
+use Rattle.bc_parse_laws.specs.Laws.{SpellingIsRead, SpellingIsClosed}
 use Rattle.bc_parse.specs.Canonical.{IsCanonical}
 use Rattle.bc_parse.specs.Parsing.{parsed, placed, read_list}
 

@@ -2,19 +2,19 @@
 use Rattle.std.proofs.Common.{◌≡◌, ℕ, Bool, true, false, List, [], ◌∷◌, ◌++◌, length, map, refl, sym, ap, ◌∙◌, arith}
 use Rattle.std.specs.Borrow.{Bor}
 use Rattle.std.proofs.lemmas.List.{map_push, length-map}
-use Rattle.bc_tree.specs.declared.tree.Constant as code_constant
-use Rattle.bc_tree.specs.declared.tree.Declaration as code_declaration
-use Rattle.bc_tree.specs.declared.tree.Definition as code_definition
-use Rattle.bc_tree.specs.declared.tree.Exp as code
-use Rattle.bc_tree.specs.declared.tree.Item as code_item
-use Rattle.bc_tree.specs.declared.tree.Label as code_label
-use Rattle.bc_tree.specs.Tree.{Exp, Exps, more, Declaration, Declarations, declaration, Entries, entry, Definition, Definitions, definition, Item, Items, item, Label, Labels, label}
-use Rattle.bc_tree.specs.View.{exp_view, exps_view, exps_of, declaration_view, declarations_view, declarations_of, definition_view, definitions_view, definitions_of, label_view, labels_view, labels_of, item_view, items_view, items_of, constant_view, entries_view, entries_of}
-use Rattle.bc_tree.specs.Spelling.{add_exp, add_entry, add_definition, add_declaration, add_label, add_item, count}
+use Rattle.bc_parse_tree.specs.declared.tree.Constant as code_constant
+use Rattle.bc_parse_tree.specs.declared.tree.Declaration as code_declaration
+use Rattle.bc_parse_tree.specs.declared.tree.Definition as code_definition
+use Rattle.bc_parse_tree.specs.declared.tree.Exp as code
+use Rattle.bc_parse_tree.specs.declared.tree.Item as code_item
+use Rattle.bc_parse_tree.specs.declared.tree.Label as code_label
+use Rattle.bc_parse_tree.specs.Tree.{Exp, Exps, more, Declaration, Declarations, declaration, Entries, entry, Definition, Definitions, definition, Item, Items, item, Label, Labels, label}
+use Rattle.bc_parse_tree.specs.View.{exp_view, exps_view, exps_of, declaration_view, declarations_view, declarations_of, definition_view, definitions_view, definitions_of, label_view, labels_view, labels_of, item_view, items_view, items_of, constant_view, entries_view, entries_of}
+use Rattle.bc_parse_tree.specs.Spelling.{add_exp, add_entry, add_definition, add_declaration, add_label, add_item, count}
 use Rattle.bc_parse.specs.declared.cursor.Rest.{Rest}
-use Rattle.bc_reading.specs.Reading.{no_item_yet, some_label, call_in}
-use Rattle.bc_tree.specs.Tree.{none}
-use Rattle.bc_tree.specs.Tree as tree
+use Rattle.bc_parse_defs.specs.Reading.{no_item_yet, some_label, call_in}
+use Rattle.bc_parse_tree.specs.Tree.{none}
+use Rattle.bc_parse_tree.specs.Tree as tree
 use Rattle.std.proofs.Common.{None, eqb, not}
 use Rattle.std.proofs.lemmas.Bool.{eqb-true}
 use Rattle.std.proofs.Common.{◌<◌}

@@ -1,19 +1,19 @@
 -- What parsing answers, from closing and reading.
 use Rattle.std.proofs.Common.{◌≡◌, ◌∙◌, ℕ, ◌≤◌, List, length, Result, Ok, Err, refl, sym, ap, subst, arith}
-use Rattle.bc_token.specs.Token.{Lexeme}
-use Rattle.bc_tree.specs.Parts.{Part}
-use Rattle.bc_tree.specs.Tree.{Declarations}
-use Rattle.bc_tree.specs.Spelling.{SpellsSection}
-use Rattle.bc_tree.specs.Height.{declarations_height}
-use Rattle.bc_tree.specs.Size.{declarations_size}
-use Rattle.bc_tree.specs.Laws.{SizeIsBounded}
-use Rattle.bc_close.specs.Closing.{Placed, closed_list, parts_in, places_in}
-use Rattle.bc_close.specs.Closing as closing
-use Rattle.bc_close.specs.Laws.{ClosedIsShort}
-use Rattle.bc_close.specs.Seen.{Lists, unzipped, all_unzipped}
-use Rattle.bc_reading.specs.Reading.{section_of}
-use Rattle.bc_reading.specs.Reading as reading
-use Rattle.bc_reading.specs.Laws.{ReadIsSpelled, ReadNestsLittle}
+use Rattle.bc_lex_tokens.specs.Token.{Lexeme}
+use Rattle.bc_parse_tree.specs.Parts.{Part}
+use Rattle.bc_parse_tree.specs.Tree.{Declarations}
+use Rattle.bc_parse_tree.specs.Spelling.{SpellsSection}
+use Rattle.bc_parse_tree.specs.Height.{declarations_height}
+use Rattle.bc_parse_tree.specs.Size.{declarations_size}
+use Rattle.bc_parse_tree.specs.Laws.{SizeIsBounded}
+use Rattle.bc_parse_close.specs.Closing.{Placed, closed_list, parts_in, places_in}
+use Rattle.bc_parse_close.specs.Closing as closing
+use Rattle.bc_parse_close.specs.Laws.{ClosedIsShort}
+use Rattle.bc_parse_close.specs.Seen.{Lists, unzipped, all_unzipped}
+use Rattle.bc_parse_defs.specs.Reading.{section_of}
+use Rattle.bc_parse_defs.specs.Reading as reading
+use Rattle.bc_parse_defs.specs.Laws.{ReadIsSpelled, ReadNestsLittle}
 use Rattle.bc_parse.specs.Parsing.{TokensSpell, parsed, placed, placed_fault, read_list}
 use Rattle.bc_parse.specs.declared.error.ParseError.{ParseError}
 use Rattle.bc_parse.specs.declared.error.ParseError.TheVariants as errors

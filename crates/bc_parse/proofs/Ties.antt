@@ -1,8 +1,8 @@
 -- A reader that nests, by the readers of what may stand within it.
 use Rattle.std.proofs.Common.{◌≡◌, ℕ, zero, suc, ◌-◌, ◌<◌, List, length, refl, arith}
 use Rattle.std.proofs.lemmas.Bool.{lt-ltb}
-use Rattle.bc_tree.specs.Parts.{Part}
-use Rattle.bc_reading.specs.Reading.{◌>>=◌, operand_read, grow_read, command_read, defined_read, exp_of, command_of, definition_of}
+use Rattle.bc_parse_tree.specs.Parts.{Part}
+use Rattle.bc_parse_defs.specs.Reading.{◌>>=◌, operand_read, grow_read, command_read, defined_read, exp_of, command_of, definition_of}
 
 pub exp_runs : (n nest round level : ℕ) (ts : List Part) → 0 < nest → 0 < n
     → exp_of n nest round level ts ≡ (operand_read (exp_of (n - 1)) (command_of (n - 1)) (definition_of (n - 1)) nest round ts >>= λ p. grow_read (exp_of (n - 1)) nest round (length ts) level p)

@@ -1,6 +1,6 @@
 -- The turns of the parser's loops.
 use Rattle.std.proofs.Common.{◌≡◌, ℕ, suc, ◌-◌, ◌+◌, ◌<◌, ◌≤◌, Bool, true, false, length, Result, Ok, Err, refl, sym, ◌∙◌, arith}
-use Rattle.bc_reading.specs.Reading.{Fault, Expected, ◌>>=◌, Piece, turns}
+use Rattle.bc_parse_defs.specs.Reading.{Fault, Expected, ◌>>=◌, Piece, turns}
 use Rattle.bc_parse.specs.Seen.{Fails}
 use Rattle.bc_parse.specs.declared.fault.ReadFault.{ReadFault}
 use Rattle.bc_parse.specs.declared.fault.ReadFault.TheVariants as faults

@@ -3,14 +3,14 @@ use Rattle.std.proofs.Common.{◌≡◌, ◌∙◌, ℕ, List, Vec, sym, ap}
 use Rattle.std.specs.Borrow.{Bor}
 use Rattle.std.specs.declared.alloc.Global.{Global}
 use Rattle.std.specs.declared.boxed.Box.{Box}
-use Rattle.bc_tree.specs.declared.tree.Exp as code
-use Rattle.bc_tree.specs.declared.tree.Command.{Command-F, fold-roll-Command}
-use Rattle.bc_tree.specs.declared.tree.Command.TheVariants as commands
-use Rattle.bc_tree.specs.declared.tree.Label.{Label-F, fold-roll-Label}
-use Rattle.bc_tree.specs.declared.tree.Label.TheVariants as labels
-use Rattle.bc_tree.specs.Tree.{Exp, Block, Declaration, Definition, Item, Label, Command}
-use Rattle.bc_tree.specs.Tree as tree
-use Rattle.bc_tree.specs.View.{exp_view, exps_view, command_view, label_view, command_step, declaration_step, definition_step, exp_step, label_step, block_step, constant_step, item_step}
+use Rattle.bc_parse_tree.specs.declared.tree.Exp as code
+use Rattle.bc_parse_tree.specs.declared.tree.Command.{Command-F, fold-roll-Command}
+use Rattle.bc_parse_tree.specs.declared.tree.Command.TheVariants as commands
+use Rattle.bc_parse_tree.specs.declared.tree.Label.{Label-F, fold-roll-Label}
+use Rattle.bc_parse_tree.specs.declared.tree.Label.TheVariants as labels
+use Rattle.bc_parse_tree.specs.Tree.{Exp, Block, Declaration, Definition, Item, Label, Command}
+use Rattle.bc_parse_tree.specs.Tree as tree
+use Rattle.bc_parse_tree.specs.View.{exp_view, exps_view, command_view, label_view, command_step, declaration_step, definition_step, exp_step, label_step, block_step, constant_step, item_step}
 
 pub case_view : (e : code.Exp) → label_view (labels.Case e) ≡ tree.Case (exp_view e)
 case_view e = ap label_view (sym (labels.rolls-Case e)) ∙ fold-roll-Label Command Declaration Definition Exp Label Block (List ℕ × Exp) Item command_step declaration_step definition_step exp_step label_step block_step constant_step item_step (Label-F.Case e)

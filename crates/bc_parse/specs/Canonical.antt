@@ -1,14 +1,14 @@
 -- Tokens that are the canonical spelling of a section, within the bounds of a reader.
 use Rattle.std.specs.Prelude.{◌≤◌, List}
-use Rattle.bc_token.specs.Token.{Lexeme}
-use Rattle.bc_tree.specs.Parts.{Part}
-use Rattle.bc_tree.specs.Tree.{Declarations}
-use Rattle.bc_tree.specs.Height.{declarations_height}
-use Rattle.bc_tree.specs.Spelling.{SpellsSection}
-use Rattle.bc_tree.specs.Canonical.{section_spelling}
-use Rattle.bc_canonical.specs.Open.{most_open}
-use Rattle.bc_canonical.specs.Repeated.{RepeatsNoValof}
-use Rattle.bc_canonical.specs.Tokens.{IsSpelling}
+use Rattle.bc_lex_tokens.specs.Token.{Lexeme}
+use Rattle.bc_parse_tree.specs.Parts.{Part}
+use Rattle.bc_parse_tree.specs.Tree.{Declarations}
+use Rattle.bc_parse_tree.specs.Height.{declarations_height}
+use Rattle.bc_parse_tree.specs.Spelling.{SpellsSection}
+use Rattle.bc_parse_tree.specs.Canonical.{section_spelling}
+use Rattle.bc_parse_laws.specs.Open.{most_open}
+use Rattle.bc_parse_laws.specs.Repeated.{RepeatsNoValof}
+use Rattle.bc_parse_laws.specs.Tokens.{IsSpelling}
 
 -- The grammar has some spelling for the section, these tokens are the canonical one, with no line break and no tag, it
 -- nests at most 200 deep, at most 400 round brackets are open at once, and no VALOF's body stands before a REPEAT word.

@@ -2,7 +2,7 @@
 use Rattle.std.specs.Prelude.{ℕ, Bool, List, map, Vec, Result}
 use Rattle.std.specs.Borrow.{Bor}
 use Rattle.std.specs.declared.alloc.Global.{Global}
-use Rattle.bc_reading.specs.Reading.{Fault, Piece, piece}
+use Rattle.bc_parse_defs.specs.Reading.{Fault, Piece, piece}
 use Rattle.bc_parse.specs.Seen.{seen, Gives}
 use Rattle.bc_parse.specs.declared.fault.ReadFault.{ReadFault}
 use Rattle.bc_parse.specs.declared.cursor.Rest.{Rest}

@@ -1,12 +1,12 @@
 -- What parsing answers.
 use Rattle.std.specs.Prelude.{◌≡◌, ℕ, ◌-◌, List, length, Result, Ok, Err, unwrap_or, slice_get}
-use Rattle.bc_token.specs.Token.{Lexeme}
-use Rattle.bc_tree.specs.Tree.{Declarations}
-use Rattle.bc_tree.specs.Spelling.{SpellsSection}
-use Rattle.bc_close.specs.Closing.{Placed, closed_list, parts_in, places_in}
-use Rattle.bc_close.specs.Closing as closing
-use Rattle.bc_reading.specs.Reading.{section_of}
-use Rattle.bc_reading.specs.Reading as reading
+use Rattle.bc_lex_tokens.specs.Token.{Lexeme}
+use Rattle.bc_parse_tree.specs.Tree.{Declarations}
+use Rattle.bc_parse_tree.specs.Spelling.{SpellsSection}
+use Rattle.bc_parse_close.specs.Closing.{Placed, closed_list, parts_in, places_in}
+use Rattle.bc_parse_close.specs.Closing as closing
+use Rattle.bc_parse_defs.specs.Reading.{section_of}
+use Rattle.bc_parse_defs.specs.Reading as reading
 use Rattle.bc_parse.specs.declared.error.ParseError.{ParseError}
 use Rattle.bc_parse.specs.declared.error.ParseError.TheVariants as errors
 

@@ -2,18 +2,18 @@
 use Rattle.std.specs.Prelude.{◌≡◌, ℕ, Bool, List, Vec, Option, Some, None, Result, Ok, Err}
 use Rattle.std.specs.declared.alloc.Global.{Global}
 use Rattle.std.specs.declared.boxed.Box.{Box}
-use Rattle.bc_tree.specs.declared.tree.Block as code_block
-use Rattle.bc_tree.specs.declared.tree.Command as code_command
-use Rattle.bc_tree.specs.declared.tree.Constant as code_constant
-use Rattle.bc_tree.specs.declared.tree.Declaration as code_declaration
-use Rattle.bc_tree.specs.declared.tree.Definition as code_definition
-use Rattle.bc_tree.specs.declared.tree.Exp as code
-use Rattle.bc_tree.specs.declared.tree.Item as code_item
-use Rattle.bc_tree.specs.declared.tree.Label as code_label
-use Rattle.bc_tree.specs.Tree.{Exp, Exps, Block, Declaration, Declarations, Entries, Definition, Definitions, Item, Items, Labels, Command}
-use Rattle.bc_tree.specs.Parts.{Part, parts}
-use Rattle.bc_tree.specs.View.{exp_view, exps_view, command_view, block_view, declaration_view, declarations_view, definition_view, definitions_view, labels_view, item_view, items_view, entries_view}
-use Rattle.bc_reading.specs.Reading.{Fault, Expected, TooDeep, Piece, piece}
+use Rattle.bc_parse_tree.specs.declared.tree.Block as code_block
+use Rattle.bc_parse_tree.specs.declared.tree.Command as code_command
+use Rattle.bc_parse_tree.specs.declared.tree.Constant as code_constant
+use Rattle.bc_parse_tree.specs.declared.tree.Declaration as code_declaration
+use Rattle.bc_parse_tree.specs.declared.tree.Definition as code_definition
+use Rattle.bc_parse_tree.specs.declared.tree.Exp as code
+use Rattle.bc_parse_tree.specs.declared.tree.Item as code_item
+use Rattle.bc_parse_tree.specs.declared.tree.Label as code_label
+use Rattle.bc_parse_tree.specs.Tree.{Exp, Exps, Block, Declaration, Declarations, Entries, Definition, Definitions, Item, Items, Labels, Command}
+use Rattle.bc_parse_tree.specs.Parts.{Part, parts}
+use Rattle.bc_parse_tree.specs.View.{exp_view, exps_view, command_view, block_view, declaration_view, declarations_view, definition_view, definitions_view, labels_view, item_view, items_view, entries_view}
+use Rattle.bc_parse_defs.specs.Reading.{Fault, Expected, TooDeep, Piece, piece}
 use Rattle.bc_parse.specs.declared.fault.ReadFault.{ReadFault}
 use Rattle.bc_parse.specs.declared.fault.ReadFault.TheVariants as faults
 use Rattle.bc_parse.specs.declared.cursor.Rest.{Rest}

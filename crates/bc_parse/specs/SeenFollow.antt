@@ -1,6 +1,6 @@
 -- For proofs: what stands in front, without where it lies in memory.
-use Rattle.bc_reading.specs.Reading.{Following, LabelStart, Shape}
-use Rattle.bc_reading.specs.Reading as reading
+use Rattle.bc_parse_defs.specs.Reading.{Following, LabelStart, Shape}
+use Rattle.bc_parse_defs.specs.Reading as reading
 use Rattle.bc_parse.specs.Seen.{seen}
 use Rattle.bc_parse.specs.declared.cursor.Follow as code_follow
 use Rattle.bc_parse.specs.declared.cursor.Follow.TheVariants as follow

@@ -1,7 +1,7 @@
 //! Blocks and bodies: declarations and items, what ends them, and the section that they make.
 ghost use Rattle.std.specs.Prelude.{◌≡◌, ◌+◌, ◌≤◌, ℕ, option_map, Ok, IfOk};
-ghost use Rattle.bc_tree.specs.View.{command_view, block_view, declarations_view, labels_view, items_view};
-ghost use Rattle.bc_reading.specs.Reading.{piece, exp_of, command_of, definition_of, label_read, labels_read, item_read, part_read, place_turn, places_read, block_read, body_of_block, body_read, do_read, section_of, label_start, as_body, place_end, declares, no_item_yet, some_label, may_command};
+ghost use Rattle.bc_parse_tree.specs.View.{command_view, block_view, declarations_view, labels_view, items_view};
+ghost use Rattle.bc_parse_defs.specs.Reading.{piece, exp_of, command_of, definition_of, label_read, labels_read, item_read, part_read, place_turn, places_read, block_read, body_of_block, body_read, do_read, section_of, label_start, as_body, place_end, declares, no_item_yet, some_label, may_command};
 ghost use Rattle.bc_parse.specs.Seen.{seen, Gives, ReadBlock, ReadLabels, LabelsTurn, ReadItem, ReadPlaces, PlacesTurn};
 
 use crate::commands::{command, repeats};
@@ -10,14 +10,14 @@ use crate::cursor::{LabelAt, Rest};
 use crate::declarations::declaration;
 use crate::expressions::exp;
 use crate::fault::ReadFault;
-use bc_reading::words::{DeclarationWord, Places};
-use bc_token::Symbol;
-use bc_tree::{Block, Command, Declaration, Item, Label, Section};
+use bc_lex_tokens::Symbol;
+use bc_parse_defs::words::{DeclarationWord, Places};
+use bc_parse_tree::{Block, Command, Declaration, Item, Label, Section};
 use std::alloc::Global;
 
 /// What is in a block, behind its bracket.
 #[cycle(parser)]
-#[tactic(auto, unfolding(bc_reading::specs::Reading::block_read))]
+#[tactic(auto, unfolding(bc_parse_defs::specs::Reading::block_read))]
 pub fn block<'s, 't>(
     alloc: Global,
     nest: usize,
@@ -40,7 +40,7 @@ pub fn block<'s, 't>(
 
 /// A block that is a body, unless a REPEAT word follows it.
 #[cycle(parser)]
-#[tactic(auto, unfolding(bc_reading::specs::Reading::body_of_block))]
+#[tactic(auto, unfolding(bc_parse_defs::specs::Reading::body_of_block))]
 fn block_body<'s, 't>(
     alloc: Global,
     nest: usize,
@@ -66,7 +66,7 @@ fn block_body<'s, 't>(
 
 /// A block, or one command as the block that it is.
 #[cycle(parser)]
-#[tactic(auto, unfolding(bc_reading::specs::Reading::body_read))]
+#[tactic(auto, unfolding(bc_parse_defs::specs::Reading::body_read))]
 pub fn body<'s, 't>(
     alloc: Global,
     nest: usize,
@@ -91,7 +91,7 @@ pub fn body<'s, 't>(
 
 /// A body behind a line break and DO, which may be left out.
 #[cycle(parser)]
-#[tactic(auto, unfolding(bc_reading::specs::Reading::do_read))]
+#[tactic(auto, unfolding(bc_parse_defs::specs::Reading::do_read))]
 pub fn do_body<'s, 't>(
     alloc: Global,
     nest: usize,
@@ -133,7 +133,7 @@ fn body_from<'s>(
 
 /// The labels in front of a command.
 #[cycle(parser)]
-#[tactic(auto, unfolding(bc_reading::specs::Reading::labels_read))]
+#[tactic(auto, unfolding(bc_parse_defs::specs::Reading::labels_read))]
 fn labels<'s, 't>(
     alloc: Global,
     nest: usize,
@@ -159,7 +159,7 @@ fn labels<'s, 't>(
 }
 
 #[cycle(parser)]
-#[tactic(auto, using(crate::proofs::Lists::labels_view_push), unfolding(bc_reading::specs::Reading::label_read))]
+#[tactic(auto, using(crate::proofs::Lists::labels_view_push), unfolding(bc_parse_defs::specs::Reading::label_read))]
 fn label_step<'s, 't>(
     alloc: Global,
     nest: usize,
@@ -194,7 +194,7 @@ fn label_step<'s, 't>(
 }
 
 #[cycle(parser)]
-#[tactic(auto, unfolding(bc_reading::specs::Reading::item_read))]
+#[tactic(auto, unfolding(bc_parse_defs::specs::Reading::item_read))]
 fn item<'s, 't>(
     alloc: Global,
     nest: usize,
@@ -227,7 +227,7 @@ fn item<'s, 't>(
 }
 
 #[cycle(parser)]
-#[tactic(auto, using(crate::proofs::Lists::declarations_view_push, crate::proofs::Lists::items_view_push), unfolding(bc_reading::specs::Reading::part_read))]
+#[tactic(auto, using(crate::proofs::Lists::declarations_view_push, crate::proofs::Lists::items_view_push), unfolding(bc_parse_defs::specs::Reading::part_read))]
 fn part_of<'s, 't>(
     alloc: Global,
     nest: usize,
@@ -262,7 +262,7 @@ fn part_of<'s, 't>(
 }
 
 #[cycle(parser)]
-#[tactic(auto, unfolding(bc_reading::specs::Reading::place_turn))]
+#[tactic(auto, unfolding(bc_parse_defs::specs::Reading::place_turn))]
 fn place_step<'s, 't>(
     alloc: Global,
     nest: usize,
@@ -299,7 +299,7 @@ fn place_step<'s, 't>(
 
 /// Declarations and items with semicolons between them, and what ends them.
 #[cycle(parser)]
-#[tactic(auto, unfolding(bc_reading::specs::Reading::places_read))]
+#[tactic(auto, unfolding(bc_parse_defs::specs::Reading::places_read))]
 pub fn places<'s, 't>(
     alloc: Global,
     nest: usize,
@@ -398,7 +398,7 @@ pub fn place_end_at<'s, 't>(
 }
 
 /// The section that the parts spell.
-#[tactic(auto, unfolding(bc_reading::specs::Reading::section_of))]
+#[tactic(auto, unfolding(bc_parse_defs::specs::Reading::section_of))]
 pub fn section_in<'s, 't>(alloc: Global, rest: Rest<'s, 't>) -> Result<Section<'s>, ReadFault>
     ensures read { Gives (λ x. declarations_view x.declarations.items) result (section_of (seen rest.entry)) }
 {

@@ -1,8 +1,8 @@
 //! Commands.
 ghost use Rattle.std.specs.Prelude.{◌≡◌, ◌+◌, ◌<◌, ◌≤◌, ℕ, option_map, Ok, IfOk, List};
-ghost use Rattle.bc_tree.specs.Parts.{Part};
-ghost use Rattle.bc_tree.specs.View.{exp_view, exps_view, command_view};
-ghost use Rattle.bc_reading.specs.Reading.{piece, exp_of, command_of, definition_of, repeated, repeat_turn, repeats_read, assigned_read, simple_read, tested_read, test_read, step_read, for_read, switch_read, compound_read, repeatable_read, command_read, call_in};
+ghost use Rattle.bc_parse_tree.specs.Parts.{Part};
+ghost use Rattle.bc_parse_tree.specs.View.{exp_view, exps_view, command_view};
+ghost use Rattle.bc_parse_defs.specs.Reading.{piece, exp_of, command_of, definition_of, repeated, repeat_turn, repeats_read, assigned_read, simple_read, tested_read, test_read, step_read, for_read, switch_read, compound_read, repeatable_read, command_read, call_in};
 ghost use Rattle.bc_parse.specs.Seen.{seen, Gives, ReadCommand, CommandTurn, ReadStep};
 
 use crate::blocks::{block, body, do_body, places};
@@ -10,15 +10,15 @@ use crate::cursor;
 use crate::cursor::Rest;
 use crate::expressions::{exp, exp_apart, exp_count, exps};
 use crate::fault::ReadFault;
-use bc_reading::words;
-use bc_reading::words::{CommandWord, Places, RepeatWord, SimpleWord, Tested};
-use bc_token::Symbol;
-use bc_tree::{Command, Exp};
+use bc_lex_tokens::Symbol;
+use bc_parse_defs::words;
+use bc_parse_defs::words::{CommandWord, Places, RepeatWord, SimpleWord, Tested};
+use bc_parse_tree::{Command, Exp};
 use std::alloc::Global;
 
 /// A command.
 #[cycle(parser)]
-#[tactic(auto, unfolding(bc_reading::specs::Reading::command_of))]
+#[tactic(auto, unfolding(bc_parse_defs::specs::Reading::command_of))]
 pub fn command<'s, 't>(
     alloc: Global,
     nest: usize,
@@ -35,7 +35,7 @@ pub fn command<'s, 't>(
 }
 
 #[cycle(parser)]
-#[tactic(auto, unfolding(bc_reading::specs::Reading::command_read))]
+#[tactic(auto, unfolding(bc_parse_defs::specs::Reading::command_read))]
 fn worded<'s, 't>(
     alloc: Global,
     nest: usize,
@@ -53,7 +53,7 @@ fn worded<'s, 't>(
 }
 
 #[cycle(parser)]
-#[tactic(auto, unfolding(bc_reading::specs::Reading::repeatable_read))]
+#[tactic(auto, unfolding(bc_parse_defs::specs::Reading::repeatable_read))]
 fn repeatable<'s, 't>(
     alloc: Global,
     nest: usize,
@@ -92,7 +92,7 @@ pub fn repeats<'s, 't>(
 
 /// The same of a command in memory of its own, as each REPEAT word wants it.
 #[cycle(parser)]
-#[tactic(auto, unfolding(bc_reading::specs::Reading::repeats_read))]
+#[tactic(auto, unfolding(bc_parse_defs::specs::Reading::repeats_read))]
 fn repeats_from<'s, 't>(
     alloc: Global,
     nest: usize,
@@ -121,7 +121,7 @@ fn repeats_from<'s, 't>(
 }
 
 #[cycle(parser)]
-#[tactic(auto, unfolding(bc_reading::specs::Reading::repeat_turn))]
+#[tactic(auto, unfolding(bc_parse_defs::specs::Reading::repeat_turn))]
 fn repeat_step<'s, 't>(
     alloc: Global,
     nest: usize,
@@ -146,7 +146,7 @@ fn repeat_step<'s, 't>(
 }
 
 #[cycle(parser)]
-#[tactic(auto, unfolding(bc_reading::specs::Reading::repeated))]
+#[tactic(auto, unfolding(bc_parse_defs::specs::Reading::repeated))]
 fn repeat_by<'s, 't>(
     alloc: Global,
     nest: usize,
@@ -192,7 +192,7 @@ fn repeat_by<'s, 't>(
 
 /// An assignment or a call.
 #[cycle(parser)]
-#[tactic(auto, unfolding(bc_reading::specs::Reading::assigned_read))]
+#[tactic(auto, unfolding(bc_parse_defs::specs::Reading::assigned_read))]
 fn assigned<'s, 't>(
     alloc: Global,
     nest: usize,
@@ -242,7 +242,7 @@ fn boxed<'s>(alloc: Global, command: Command<'s>) -> Result<Box<Command<'s>>, Re
 }
 
 #[cycle(parser)]
-#[tactic(auto, unfolding(bc_reading::specs::Reading::simple_read))]
+#[tactic(auto, unfolding(bc_parse_defs::specs::Reading::simple_read))]
 fn simple<'s, 't>(
     alloc: Global,
     nest: usize,
@@ -276,7 +276,7 @@ fn simple<'s, 't>(
 }
 
 #[cycle(parser)]
-#[tactic(auto, unfolding(bc_reading::specs::Reading::compound_read))]
+#[tactic(auto, unfolding(bc_parse_defs::specs::Reading::compound_read))]
 fn compound<'s, 't>(
     alloc: Global,
     nest: usize,
@@ -297,7 +297,7 @@ fn compound<'s, 't>(
 }
 
 #[cycle(parser)]
-#[tactic(auto, unfolding(bc_reading::specs::Reading::tested_read))]
+#[tactic(auto, unfolding(bc_parse_defs::specs::Reading::tested_read))]
 fn tested<'s, 't>(
     alloc: Global,
     nest: usize,
@@ -321,7 +321,7 @@ fn tested<'s, 't>(
 }
 
 #[cycle(parser)]
-#[tactic(auto, unfolding(bc_reading::specs::Reading::test_read))]
+#[tactic(auto, unfolding(bc_parse_defs::specs::Reading::test_read))]
 fn test<'s, 't>(
     alloc: Global,
     nest: usize,
@@ -344,7 +344,7 @@ fn test<'s, 't>(
 }
 
 #[cycle(parser)]
-#[tactic(auto, unfolding(bc_reading::specs::Reading::step_read))]
+#[tactic(auto, unfolding(bc_parse_defs::specs::Reading::step_read))]
 fn step<'s, 't>(
     alloc: Global,
     nest: usize,
@@ -364,7 +364,7 @@ fn step<'s, 't>(
 }
 
 #[cycle(parser)]
-#[tactic(auto, unfolding(bc_reading::specs::Reading::for_read))]
+#[tactic(auto, unfolding(bc_parse_defs::specs::Reading::for_read))]
 fn for_command<'s, 't>(
     alloc: Global,
     nest: usize,
@@ -394,7 +394,7 @@ fn for_command<'s, 't>(
 }
 
 #[cycle(parser)]
-#[tactic(auto, unfolding(bc_reading::specs::Reading::switch_read))]
+#[tactic(auto, unfolding(bc_parse_defs::specs::Reading::switch_read))]
 fn switch_on<'s, 't>(
     alloc: Global,
     nest: usize,

@@ -1,15 +1,15 @@
 ghost use Rattle.std.specs.Prelude.{◌≡◌, ◌||◌, ℕ, [], ◌∷◌, length, option_map, Some, None, MatchOption};
-ghost use Rattle.bc_tree.specs.Parts.{part};
-ghost use Rattle.bc_tree.specs.View.{exp_view};
+ghost use Rattle.bc_parse_tree.specs.Parts.{part};
+ghost use Rattle.bc_parse_tree.specs.View.{exp_view};
 ghost use Rattle.bc_parse.specs.Seen.{seen, Gives};
 ghost use Rattle.bc_parse.specs.SeenFollow.{follow_view, label_at_view, shape_view};
-ghost use Rattle.bc_reading.specs.Reading.{after_of, expect_of, separator_of, name_in, name_of, leaf_of, word_in, start_of, command_word_of, simple_word_of, repeat_word_of, declaration_word_of, following, operator_of, label_start, shape_of, past_do, past_line, end_of, is_place_end, constant_sign_of};
+ghost use Rattle.bc_parse_defs.specs.Reading.{after_of, expect_of, separator_of, name_in, name_of, leaf_of, word_in, start_of, command_word_of, simple_word_of, repeat_word_of, declaration_word_of, following, operator_of, label_start, shape_of, past_do, past_line, end_of, is_place_end, constant_sign_of};
 
 use crate::fault::ReadFault;
-use bc_reading::words;
-use bc_reading::words::{CommandWord, DeclarationWord, Places, RepeatWord, SimpleWord, Start};
-use bc_token::Symbol;
-use bc_tree::{Dyadic, Exp, Part};
+use bc_lex_tokens::Symbol;
+use bc_parse_defs::words;
+use bc_parse_defs::words::{CommandWord, DeclarationWord, Places, RepeatWord, SimpleWord, Start};
+use bc_parse_tree::{Dyadic, Exp, Part};
 use bc_word::Word;
 
 /// The parts from a place to the end.

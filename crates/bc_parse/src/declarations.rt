@@ -1,7 +1,7 @@
 //! Declarations and definitions.
 ghost use Rattle.std.specs.Prelude.{◌+◌, ◌<◌, ◌≤◌, ℕ, IfOk};
-ghost use Rattle.bc_tree.specs.View.{definitions_view, entries_view};
-ghost use Rattle.bc_reading.specs.Reading.{piece, exp_of, command_of, definition_of, entry_read, entry_turn, entries_read, definition_turn, definitions_read, declaration_read, variables_read, vector_read, routine_read, defined_read};
+ghost use Rattle.bc_parse_tree.specs.View.{definitions_view, entries_view};
+ghost use Rattle.bc_parse_defs.specs.Reading.{piece, exp_of, command_of, definition_of, entry_read, entry_turn, entries_read, definition_turn, definitions_read, declaration_read, variables_read, vector_read, routine_read, defined_read};
 ghost use Rattle.bc_parse.specs.Seen.{seen, ReadEntries, EntriesTurn, ReadDefinition, ReadDefinitions, DefinitionsTurn, ReadDeclaration};
 
 use crate::blocks::{body, place_end_at};
@@ -10,14 +10,14 @@ use crate::cursor::{Rest, ShapeAt};
 use crate::expressions::{exp, exp_count, exps};
 use crate::fault::ReadFault;
 use crate::names::{name_count, names, parameters};
-use bc_reading::words::{DeclarationWord, Places};
-use bc_token::Symbol;
-use bc_tree::{Constant, Declaration, Definition};
+use bc_lex_tokens::Symbol;
+use bc_parse_defs::words::{DeclarationWord, Places};
+use bc_parse_tree::{Constant, Declaration, Definition};
 use std::alloc::Global;
 
 /// A declaration, behind its word.
 #[cycle(parser)]
-#[tactic(auto, unfolding(bc_reading::specs::Reading::declaration_read))]
+#[tactic(auto, unfolding(bc_parse_defs::specs::Reading::declaration_read))]
 pub fn declaration<'s, 't>(
     alloc: Global,
     nest: usize,
@@ -43,7 +43,7 @@ pub fn declaration<'s, 't>(
 
 /// Names with their constants, up to the section bracket.
 #[cycle(parser)]
-#[tactic(auto, unfolding(bc_reading::specs::Reading::entries_read))]
+#[tactic(auto, unfolding(bc_parse_defs::specs::Reading::entries_read))]
 fn entries<'s, 't>(
     alloc: Global,
     nest: usize,
@@ -69,7 +69,7 @@ fn entries<'s, 't>(
 }
 
 #[cycle(parser)]
-#[tactic(auto, unfolding(bc_reading::specs::Reading::entry_turn))]
+#[tactic(auto, unfolding(bc_parse_defs::specs::Reading::entry_turn))]
 fn entry_step<'s, 't>(
     alloc: Global,
     nest: usize,
@@ -94,7 +94,7 @@ fn entry_step<'s, 't>(
 }
 
 #[cycle(parser)]
-#[tactic(auto, using(crate::proofs::Lists::entries_view_push), unfolding(bc_reading::specs::Reading::entry_read))]
+#[tactic(auto, using(crate::proofs::Lists::entries_view_push), unfolding(bc_parse_defs::specs::Reading::entry_read))]
 fn entry<'s, 't>(
     alloc: Global,
     nest: usize,
@@ -117,7 +117,7 @@ fn entry<'s, 't>(
 
 /// The definitions of a LET, which AND joins.
 #[cycle(parser)]
-#[tactic(auto, unfolding(bc_reading::specs::Reading::definitions_read))]
+#[tactic(auto, unfolding(bc_parse_defs::specs::Reading::definitions_read))]
 fn definitions<'s, 't>(
     alloc: Global,
     nest: usize,
@@ -143,7 +143,7 @@ fn definitions<'s, 't>(
 }
 
 #[cycle(parser)]
-#[tactic(auto, using(crate::proofs::Lists::definitions_view_push), unfolding(bc_reading::specs::Reading::definition_turn))]
+#[tactic(auto, using(crate::proofs::Lists::definitions_view_push), unfolding(bc_parse_defs::specs::Reading::definition_turn))]
 fn definition_step<'s, 't>(
     alloc: Global,
     nest: usize,
@@ -168,7 +168,7 @@ fn definition_step<'s, 't>(
 
 /// A definition.
 #[cycle(parser)]
-#[tactic(auto, unfolding(bc_reading::specs::Reading::definition_of))]
+#[tactic(auto, unfolding(bc_parse_defs::specs::Reading::definition_of))]
 fn definition<'s, 't>(
     alloc: Global,
     nest: usize,
@@ -185,7 +185,7 @@ fn definition<'s, 't>(
 }
 
 #[cycle(parser)]
-#[tactic(auto, unfolding(bc_reading::specs::Reading::defined_read, bc_reading::specs::Reading::shaped_read))]
+#[tactic(auto, unfolding(bc_parse_defs::specs::Reading::defined_read, bc_parse_defs::specs::Reading::shaped_read))]
 fn defined<'s, 't>(
     alloc: Global,
     nest: usize,
@@ -205,7 +205,7 @@ fn defined<'s, 't>(
 }
 
 #[cycle(parser)]
-#[tactic(auto, unfolding(bc_reading::specs::Reading::vector_read))]
+#[tactic(auto, unfolding(bc_parse_defs::specs::Reading::vector_read))]
 fn vector<'s, 't>(
     alloc: Global,
     nest: usize,
@@ -222,7 +222,7 @@ fn vector<'s, 't>(
 }
 
 #[cycle(parser)]
-#[tactic(auto, unfolding(bc_reading::specs::Reading::variables_read))]
+#[tactic(auto, unfolding(bc_parse_defs::specs::Reading::variables_read))]
 fn variables<'s, 't>(
     alloc: Global,
     nest: usize,
@@ -244,7 +244,7 @@ fn variables<'s, 't>(
 }
 
 #[cycle(parser)]
-#[tactic(auto, unfolding(bc_reading::specs::Reading::routine_read))]
+#[tactic(auto, unfolding(bc_parse_defs::specs::Reading::routine_read))]
 fn routine<'s, 't>(
     alloc: Global,
     nest: usize,

@@ -1,8 +1,8 @@
 //! Expressions.
 ghost use Rattle.std.specs.Prelude.{◌≡◌, ◌+◌, ◌<◌, ◌≤◌, ℕ, IfOk};
-ghost use Rattle.bc_tree.specs.Spelling.{count};
-ghost use Rattle.bc_tree.specs.View.{exp_view, exps_view};
-ghost use Rattle.bc_reading.specs.Reading.{piece, exp_of, command_of, definition_of, exps_turn, exps_read, arguments_read, with_operator, with_arguments, with_choice, suffix_read, grow_turn, grow_read, bracket_read, table_read, monadic_read, valof_read, started_read, operand_read};
+ghost use Rattle.bc_parse_tree.specs.Spelling.{count};
+ghost use Rattle.bc_parse_tree.specs.View.{exp_view, exps_view};
+ghost use Rattle.bc_parse_defs.specs.Reading.{piece, exp_of, command_of, definition_of, exps_turn, exps_read, arguments_read, with_operator, with_arguments, with_choice, suffix_read, grow_turn, grow_read, bracket_read, table_read, monadic_read, valof_read, started_read, operand_read};
 ghost use Rattle.bc_parse.specs.Seen.{seen, ReadExp, ReadApart, ReadOperand, GrowTurn, ReadExps, ExpsTurn};
 ghost use Rattle.bc_parse.specs.SeenFollow.{follow_view};
 
@@ -10,15 +10,15 @@ use crate::blocks::body;
 use crate::cursor;
 use crate::cursor::{Follow, Rest};
 use crate::fault::ReadFault;
-use bc_reading::words;
-use bc_reading::words::Start;
-use bc_token::Symbol;
-use bc_tree::{Dyadic, Exp, Monadic};
+use bc_lex_tokens::Symbol;
+use bc_parse_defs::words;
+use bc_parse_defs::words::Start;
+use bc_parse_tree::{Dyadic, Exp, Monadic};
 use std::alloc::Global;
 
 /// An expression of at least this level.
 #[cycle(parser)]
-#[tactic(auto, unfolding(bc_reading::specs::Reading::exp_of))]
+#[tactic(auto, unfolding(bc_parse_defs::specs::Reading::exp_of))]
 pub fn exp<'s, 't>(
     alloc: Global,
     nest: usize,
@@ -64,7 +64,7 @@ pub fn exp_apart<'s, 't>(
 
 /// An operand, with the level that it has.
 #[cycle(parser)]
-#[tactic(auto, unfolding(bc_reading::specs::Reading::operand_read))]
+#[tactic(auto, unfolding(bc_parse_defs::specs::Reading::operand_read))]
 fn operand<'s, 't>(
     alloc: Global,
     nest: usize,
@@ -85,7 +85,7 @@ fn operand<'s, 't>(
 }
 
 #[cycle(parser)]
-#[tactic(auto, unfolding(bc_reading::specs::Reading::started_read))]
+#[tactic(auto, unfolding(bc_parse_defs::specs::Reading::started_read))]
 fn started<'s, 't>(
     alloc: Global,
     nest: usize,
@@ -119,7 +119,7 @@ fn started<'s, 't>(
 }
 
 #[cycle(parser)]
-#[tactic(auto, unfolding(bc_reading::specs::Reading::bracket_read))]
+#[tactic(auto, unfolding(bc_parse_defs::specs::Reading::bracket_read))]
 fn bracket<'s, 't>(
     alloc: Global,
     nest: usize,
@@ -138,7 +138,7 @@ fn bracket<'s, 't>(
 }
 
 #[cycle(parser)]
-#[tactic(auto, unfolding(bc_reading::specs::Reading::table_read))]
+#[tactic(auto, unfolding(bc_parse_defs::specs::Reading::table_read))]
 fn table<'s, 't>(
     alloc: Global,
     nest: usize,
@@ -154,7 +154,7 @@ fn table<'s, 't>(
 }
 
 #[cycle(parser)]
-#[tactic(auto, unfolding(bc_reading::specs::Reading::valof_read))]
+#[tactic(auto, unfolding(bc_parse_defs::specs::Reading::valof_read))]
 fn valof<'s, 't>(
     alloc: Global,
     nest: usize,
@@ -170,7 +170,7 @@ fn valof<'s, 't>(
 }
 
 #[cycle(parser)]
-#[tactic(auto, unfolding(bc_reading::specs::Reading::monadic_read))]
+#[tactic(auto, unfolding(bc_parse_defs::specs::Reading::monadic_read))]
 fn monadic<'s, 't>(
     alloc: Global,
     nest: usize,
@@ -188,7 +188,7 @@ fn monadic<'s, 't>(
 
 /// An expression from its first operand on: operators, calls and choices behind it.
 #[cycle(parser)]
-#[tactic(auto, unfolding(bc_reading::specs::Reading::grow_read))]
+#[tactic(auto, unfolding(bc_parse_defs::specs::Reading::grow_read))]
 fn grow<'s, 't>(
     alloc: Global,
     nest: usize,
@@ -224,7 +224,7 @@ fn grow<'s, 't>(
 }
 
 #[cycle(parser)]
-#[tactic(auto, unfolding(bc_reading::specs::Reading::grow_turn))]
+#[tactic(auto, unfolding(bc_parse_defs::specs::Reading::grow_turn))]
 fn grow_step<'s, 't>(
     alloc: Global,
     nest: usize,
@@ -258,7 +258,7 @@ fn grow_step<'s, 't>(
 }
 
 #[cycle(parser)]
-#[tactic(auto, unfolding(bc_reading::specs::Reading::suffix_read))]
+#[tactic(auto, unfolding(bc_parse_defs::specs::Reading::suffix_read))]
 fn suffix<'s, 't>(
     alloc: Global,
     nest: usize,
@@ -290,7 +290,7 @@ fn suffix<'s, 't>(
 }
 
 #[cycle(parser)]
-#[tactic(auto, unfolding(bc_reading::specs::Reading::with_operator))]
+#[tactic(auto, unfolding(bc_parse_defs::specs::Reading::with_operator))]
 fn operated<'s, 't>(
     alloc: Global,
     nest: usize,
@@ -313,7 +313,7 @@ fn operated<'s, 't>(
 }
 
 #[cycle(parser)]
-#[tactic(auto, unfolding(bc_reading::specs::Reading::with_arguments))]
+#[tactic(auto, unfolding(bc_parse_defs::specs::Reading::with_arguments))]
 fn called<'s, 't>(
     alloc: Global,
     nest: usize,
@@ -335,7 +335,7 @@ fn called<'s, 't>(
 }
 
 #[cycle(parser)]
-#[tactic(auto, unfolding(bc_reading::specs::Reading::with_choice))]
+#[tactic(auto, unfolding(bc_parse_defs::specs::Reading::with_choice))]
 fn chosen<'s, 't>(
     alloc: Global,
     nest: usize,
@@ -363,7 +363,7 @@ fn chosen<'s, 't>(
 }
 
 #[cycle(parser)]
-#[tactic(auto, unfolding(bc_reading::specs::Reading::arguments_read))]
+#[tactic(auto, unfolding(bc_parse_defs::specs::Reading::arguments_read))]
 fn arguments<'s, 't>(
     alloc: Global,
     nest: usize,
@@ -384,7 +384,7 @@ fn arguments<'s, 't>(
 
 /// Expressions of at least this level, at most so many, with commas between them.
 #[cycle(parser)]
-#[tactic(auto, unfolding(bc_reading::specs::Reading::exps_read))]
+#[tactic(auto, unfolding(bc_parse_defs::specs::Reading::exps_read))]
 pub fn exps<'s, 't>(
     alloc: Global,
     nest: usize,
@@ -414,7 +414,7 @@ pub fn exps<'s, 't>(
 }
 
 #[cycle(parser)]
-#[tactic(auto, using(crate::proofs::Lists::exps_view_push), unfolding(bc_reading::specs::Reading::exps_turn))]
+#[tactic(auto, using(crate::proofs::Lists::exps_view_push), unfolding(bc_parse_defs::specs::Reading::exps_turn))]
 fn exps_step<'s, 't>(
     alloc: Global,
     nest: usize,

@@ -1,4 +1,4 @@
-//! From tokens to trees, and back by `bc_spell`.
+//! From tokens to trees, and back by `bc_parse_spell`.
 #![tactic(auto)]
 
 mod blocks;
@@ -11,8 +11,8 @@ mod fault;
 mod names;
 mod section;
 
-pub use bc_spell::{render, spell};
-pub use bc_tree::{
+pub use bc_parse_spell::{render, spell};
+pub use bc_parse_tree::{
     Block, Command, Constant, Declaration, Definition, Dyadic, Exp, Item, Label, Monadic, Section,
     Storage,
 };

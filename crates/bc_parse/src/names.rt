@@ -1,17 +1,17 @@
 //! Lists of names.
 ghost use Rattle.std.specs.Prelude.{◌≡◌, length};
-ghost use Rattle.bc_reading.specs.Reading.{piece, names_read, name_turn, parameters_read};
+ghost use Rattle.bc_parse_defs.specs.Reading.{piece, names_read, name_turn, parameters_read};
 ghost use Rattle.bc_parse.specs.Seen.{seen};
 ghost use Rattle.bc_parse.specs.Names.{names_view, ReadNames, NamesTurn};
 
 use crate::cursor;
 use crate::cursor::Rest;
 use crate::fault::ReadFault;
-use bc_token::Symbol;
+use bc_lex_tokens::Symbol;
 use std::alloc::Global;
 
 /// One more name, and whether it is the last.
-#[tactic(auto, unfolding(bc_reading::specs::Reading::name_turn), using(crate::proofs::Lists::names_view_push))]
+#[tactic(auto, unfolding(bc_parse_defs::specs::Reading::name_turn), using(crate::proofs::Lists::names_view_push))]
 fn name_step<'s, 't>(
     names: Vec<&'s [u8]>,
     rest: Rest<'s, 't>,
@@ -28,7 +28,7 @@ fn name_step<'s, 't>(
 }
 
 /// Names with commas between them.
-#[tactic(auto, unfolding(bc_reading::specs::Reading::names_read))]
+#[tactic(auto, unfolding(bc_parse_defs::specs::Reading::names_read))]
 pub fn names<'s, 't>(
     alloc: Global,
     rest: Rest<'s, 't>,
@@ -49,7 +49,7 @@ pub fn names<'s, 't>(
 }
 
 /// The parameters of a routine, behind the first bracket, and the parts behind the other.
-#[tactic(auto, unfolding(bc_reading::specs::Reading::parameters_read))]
+#[tactic(auto, unfolding(bc_parse_defs::specs::Reading::parameters_read))]
 pub fn parameters<'s, 't>(
     alloc: Global,
     rest: Rest<'s, 't>,

@@ -1,9 +1,9 @@
 ghost use Rattle.std.specs.Prelude.{◌≡◌, ℕ, ◌≤◌, ◌-◌, length, IfOk, Ok};
-ghost use Rattle.bc_token.specs.Token.{lexemes_of};
-ghost use Rattle.bc_tree.specs.View.{section_view};
-ghost use Rattle.bc_tree.specs.Height.{declarations_height};
-ghost use Rattle.bc_tree.specs.Size.{declarations_size};
-ghost use Rattle.bc_tree.specs.Tree.{Declarations};
+ghost use Rattle.bc_lex_tokens.specs.Token.{lexemes_of};
+ghost use Rattle.bc_parse_tree.specs.View.{section_view};
+ghost use Rattle.bc_parse_tree.specs.Height.{declarations_height};
+ghost use Rattle.bc_parse_tree.specs.Size.{declarations_size};
+ghost use Rattle.bc_parse_tree.specs.Tree.{Declarations};
 ghost use Rattle.bc_parse.specs.Canonical.{IsCanonical};
 ghost use Rattle.bc_parse.specs.Parsing.{TokensSpell, parsed, Answers, place_of};
 
@@ -11,9 +11,9 @@ use crate::blocks::section_in;
 use crate::cursor::Rest;
 use crate::error::ParseError;
 use crate::fault::ReadFault;
-use bc_close::CloseFault;
-use bc_token::Token;
-use bc_tree::Section;
+use bc_lex_tokens::Token;
+use bc_parse_close::CloseFault;
+use bc_parse_tree::Section;
 use std::alloc::Global;
 
 /// The index of the token of a part, by the number of parts from it to the end.
@@ -33,11 +33,11 @@ fn read<'s>(alloc: Global, tokens: &[Token<'s>]) -> Result<Section<'s>, ParseErr
     ensures size { IfOk result (λ s. declarations_size (section_view s) ≤ length tokens.now) }
     ensures exact { Answers (λ s. section_view s) result (parsed (lexemes_of tokens.now)) }
 {
-    bc_reading::laws::read_is_spelled();
-    bc_reading::laws::read_nests_little();
-    bc_tree::laws::spelling_is_as_long();
-    bc_close::laws::closed_is_short();
-    let list = match bc_close::close(alloc, tokens) {
+    bc_parse_defs::laws::read_is_spelled();
+    bc_parse_defs::laws::read_nests_little();
+    bc_parse_tree::laws::spelling_is_as_long();
+    bc_parse_close::laws::closed_is_short();
+    let list = match bc_parse_close::close(alloc, tokens) {
         Ok(list) => list,
         Err(CloseFault::NotOpen(at)) => return Err(ParseError::NotOpen(at)),
         Err(CloseFault::Unclosed) => return Err(ParseError::Unclosed),
@@ -78,7 +78,7 @@ pub fn parse<'s>(alloc: Global, tokens: &[Token<'s>]) -> Result<Section<'s>, Par
     // Whatever has a canonical spelling within the bounds is read back from it.
     ensures canonical { (ds : Declarations) → IsCanonical ds (lexemes_of tokens.now) → Answers (λ s. section_view s) result (Ok ds) }
 {
-    bc_canonical::laws::spelling_is_read();
-    bc_canonical::laws::spelling_is_closed();
+    bc_parse_laws::laws::spelling_is_read();
+    bc_parse_laws::laws::spelling_is_closed();
     read(alloc, tokens)
 }

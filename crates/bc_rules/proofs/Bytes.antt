@@ -1,13 +1,13 @@
 -- The words of a list of pieces, piece by piece.
 use Rattle.std.proofs.Common.{◌≡◌, ℕ, ◌+◌, ◌<◌, ◌≤◌, Bool, true, false, cond, nat_le, List, [], ◌∷◌, length, get_or, drop, refl, sym, ap, ◌∙◌, arith, add-one, zero-add, drop-cons}
-use Rattle.bc_item.specs.declared.item.Item.TheVariants.{Label, Data, DataLabel, Byte, Operation, Global}
-use Rattle.bc_item.specs.declared.item.Base.{Base}
-use Rattle.bc_item.specs.declared.item.Base.TheVariants as bases
-use Rattle.bc_item.specs.Sizes.{operation_size}
-use Rattle.bc_derive.specs.declared.piece.Piece.{Piece}
-use Rattle.bc_derive.specs.declared.piece.Piece.TheVariants as pieces
-use Rattle.bc_derive.specs.declared.piece.Piece.TheVariants.{Body}
-use Rattle.bc_derive.specs.Piece.{words}
+use Rattle.bc_text_items.specs.declared.item.Item.TheVariants.{Label, Data, DataLabel, Byte, Operation, Global}
+use Rattle.bc_text_items.specs.declared.item.Base.{Base}
+use Rattle.bc_text_items.specs.declared.item.Base.TheVariants as bases
+use Rattle.bc_text_items.specs.Sizes.{operation_size}
+use Rattle.bc_rules_defs.specs.declared.piece.Piece.{Piece}
+use Rattle.bc_rules_defs.specs.declared.piece.Piece.TheVariants as pieces
+use Rattle.bc_rules_defs.specs.declared.piece.Piece.TheVariants.{Body}
+use Rattle.bc_rules_defs.specs.Piece.{words}
 use Rattle.bc_rules.specs.Words.{rest_words, added_words, half_left}
 
 pub first_byte : (b : ℕ) (ps : List Piece) → words (pieces.Item (Byte b) ∷ ps) ≡ 1 + rest_words true ps

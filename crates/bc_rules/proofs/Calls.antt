@@ -7,14 +7,14 @@ use Rattle.bc_core.specs.declared.operands.Operand.{Operand}
 use Rattle.bc_core.specs.Tree.{Exp, Num, Frame, Glob, Place, Load, Neg, Not, Bin, Cond, Call, Valof}
 use Rattle.bc_core.specs.Operand.{operand_of, constant_of, content_of, moved, first_some}
 use Rattle.bc_core.specs.Value.{has_call}
-use Rattle.bc_derive.specs.declared.rule.Mode.{Mode}
-use Rattle.bc_derive.specs.declared.rule.Mode.TheVariants.{Any, Push}
-use Rattle.bc_derive.specs.declared.rule.Aim.{Aim}
-use Rattle.bc_derive.specs.declared.rule.Aim.TheVariants.{Gets, Jumps}
-use Rattle.bc_derive.specs.declared.rule.Rule.{Rule}
-use Rattle.bc_derive.specs.declared.rule.Rule.TheVariants.{V0, V1, V2, V3, V4, V6, V7, V8, V9, V10, V11, V12, V13, V14, V15, V16, V17, V18, V19, V20, V21, V22, J1, J2, J3, J4, J5, J6, J7, J8, J9}
-use Rattle.bc_derive.specs.Free.{is_zero, is_plain, without_zero}
-use Rattle.bc_derive.specs.Parts.{Parts, no_rule, leaf, single, pair, triple, called, where_true, where_some, in_any, for_sum, for_difference, for_and, for_or, for_equal, for_not_equal, single_if, value_parts, test_parts, operator_parts, number_parts, load_parts, neg_parts, not_parts, cond_parts, call_parts, valof_parts, node_parts, parts_of}
+use Rattle.bc_rules_defs.specs.declared.rule.Mode.{Mode}
+use Rattle.bc_rules_defs.specs.declared.rule.Mode.TheVariants.{Any, Push}
+use Rattle.bc_rules_defs.specs.declared.rule.Aim.{Aim}
+use Rattle.bc_rules_defs.specs.declared.rule.Aim.TheVariants.{Gets, Jumps}
+use Rattle.bc_rules_defs.specs.declared.rule.Rule.{Rule}
+use Rattle.bc_rules_defs.specs.declared.rule.Rule.TheVariants.{V0, V1, V2, V3, V4, V6, V7, V8, V9, V10, V11, V12, V13, V14, V15, V16, V17, V18, V19, V20, V21, V22, J1, J2, J3, J4, J5, J6, J7, J8, J9}
+use Rattle.bc_rules_defs.specs.Free.{is_zero, is_plain, without_zero}
+use Rattle.bc_rules_defs.specs.Parts.{Parts, no_rule, leaf, single, pair, triple, called, where_true, where_some, in_any, for_sum, for_difference, for_and, for_or, for_equal, for_not_equal, single_if, value_parts, test_parts, operator_parts, number_parts, load_parts, neg_parts, not_parts, cond_parts, call_parts, valof_parts, node_parts, parts_of}
 use Rattle.bc_rules.specs.Fits.{parts_call}
 
 -- no call stands in an operand

@@ -9,16 +9,16 @@ use Rattle.bc_core.specs.View.{exp, args}
 use Rattle.bc_core.proofs.Rows.{call_view}
 use Rattle.bc_core.specs.declared.operands.Operand.{Operand}
 use Rattle.bc_core.specs.Operand.{operand_of}
-use Rattle.bc_derive.specs.declared.rule.Rule.TheVariants.{A1, A2, A3}
-use Rattle.bc_derive.specs.declared.derivation.Derivation.{Derivation, out-Derivation}
-use Rattle.bc_derive.specs.declared.rule.Mode.TheVariants.{Any}
-use Rattle.bc_derive.specs.declared.rule.Aim.{Aim}
-use Rattle.bc_derive.specs.declared.rule.Aim.TheVariants.{Gets}
-use Rattle.bc_derive.specs.declared.rule.Rule.{Rule}
-use Rattle.bc_derive.specs.Rules.{no_part, part}
-use Rattle.bc_derive.specs.Parts.{leaf, single, pair, triple, called, parts_of, assignment_parts, where_some, where_none}
-use Rattle.bc_derive.specs.ByShape.{own_labels, labels_by, labels_of_parts, labels_of_sides, root_labels_by}
-use Rattle.bc_derive.specs.View.{derivation, derivations}
+use Rattle.bc_rules_defs.specs.declared.rule.Rule.TheVariants.{A1, A2, A3}
+use Rattle.bc_rules_defs.specs.declared.derivation.Derivation.{Derivation, out-Derivation}
+use Rattle.bc_rules_defs.specs.declared.rule.Mode.TheVariants.{Any}
+use Rattle.bc_rules_defs.specs.declared.rule.Aim.{Aim}
+use Rattle.bc_rules_defs.specs.declared.rule.Aim.TheVariants.{Gets}
+use Rattle.bc_rules_defs.specs.declared.rule.Rule.{Rule}
+use Rattle.bc_rules_defs.specs.Rules.{no_part, part}
+use Rattle.bc_rules_defs.specs.Parts.{leaf, single, pair, triple, called, parts_of, assignment_parts, where_some, where_none}
+use Rattle.bc_rules_defs.specs.ByShape.{own_labels, labels_by, labels_of_parts, labels_of_sides, root_labels_by}
+use Rattle.bc_rules_defs.specs.View.{derivation, derivations}
 use Rattle.bc_rules.specs.Levels.{cells, cells_of_all}
 use Rattle.bc_rules.proofs.Trees.{tree_view, one_tree, two_trees, three_trees, next_tree, next_argument}
 

@@ -5,20 +5,20 @@ use Rattle.std.proofs.lemmas.Bool.{cases_lt}
 use Rattle.bc_core.specs.declared.expression.CoreExp.{CoreExp}
 use Rattle.bc_core.specs.declared.operands.Operand.{Operand}
 use Rattle.bc_core.specs.Operand.{operand_of}
-use Rattle.bc_derive.specs.Free.{is_direct}
+use Rattle.bc_rules_defs.specs.Free.{is_direct}
 use Rattle.bc_core.specs.Tree.{Exp, Args, no_argument, argument}
 use Rattle.bc_core.specs.Value.{has_call}
 use Rattle.bc_core.specs.View.{exp, args}
-use Rattle.bc_derive.specs.declared.derivation.Derivation.{Derivation, out-Derivation}
-use Rattle.bc_derive.specs.declared.rule.Table.{Table}
-use Rattle.bc_derive.specs.declared.rule.Mode.TheVariants.{Any}
-use Rattle.bc_derive.specs.declared.rule.Aim.{Aim}
-use Rattle.bc_derive.specs.declared.rule.Aim.TheVariants.{Gets}
-use Rattle.bc_derive.specs.declared.rule.Rule.{Rule}
-use Rattle.bc_derive.specs.declared.rule.Rule.TheVariants.{A1, A2, A3}
-use Rattle.bc_derive.specs.Rules.{Trees, by, no_part, part}
-use Rattle.bc_derive.specs.Parts.{Parts, no_rule, leaf, single, pair, triple, called, parts_of, assignment_parts, where_none}
-use Rattle.bc_derive.specs.View.{derivation, derivations}
+use Rattle.bc_rules_defs.specs.declared.derivation.Derivation.{Derivation, out-Derivation}
+use Rattle.bc_rules_defs.specs.declared.rule.Table.{Table}
+use Rattle.bc_rules_defs.specs.declared.rule.Mode.TheVariants.{Any}
+use Rattle.bc_rules_defs.specs.declared.rule.Aim.{Aim}
+use Rattle.bc_rules_defs.specs.declared.rule.Aim.TheVariants.{Gets}
+use Rattle.bc_rules_defs.specs.declared.rule.Rule.{Rule}
+use Rattle.bc_rules_defs.specs.declared.rule.Rule.TheVariants.{A1, A2, A3}
+use Rattle.bc_rules_defs.specs.Rules.{Trees, by, no_part, part}
+use Rattle.bc_rules_defs.specs.Parts.{Parts, no_rule, leaf, single, pair, triple, called, parts_of, assignment_parts, where_none}
+use Rattle.bc_rules_defs.specs.View.{derivation, derivations}
 use Rattle.bc_rules.specs.Fits.{in_table, turns_freely, may_turn, fits, parts_fit, parts_call, found, sides_free, sides_turn, assignment_fits}
 use Rattle.bc_rules.proofs.Trees.{tree_view, one_tree, two_trees, three_trees, next_tree, next_argument}
 use Rattle.bc_rules.proofs.Calls.{whole_call}

@@ -1,11 +1,11 @@
 -- The next label.
 use Rattle.std.proofs.Common.{◌≡◌, ℕ, ◌+◌, ◌≤◌, ◌<◌, min, Some, None, ap, ◌∙◌, arith}
 use Rattle.bc_core.specs.Tree.{Root}
-use Rattle.bc_derive.specs.declared.rule.Table.{Table}
-use Rattle.bc_derive.specs.Rules.{RootDerives, root_shape, Tree}
-use Rattle.bc_derive.specs.Code.{root_labels}
-use Rattle.bc_derive.specs.ByShape.{root_labels_by}
-use Rattle.bc_derive.proofs.ByShape.{root_labels_same}
+use Rattle.bc_rules_defs.specs.declared.rule.Table.{Table}
+use Rattle.bc_rules_defs.specs.Rules.{RootDerives, root_shape, Tree}
+use Rattle.bc_rules_defs.specs.Code.{root_labels}
+use Rattle.bc_rules_defs.specs.ByShape.{root_labels_by}
+use Rattle.bc_rules_defs.proofs.ByShape.{root_labels_same}
 use Rattle.bc_rules.specs.Code.{IsNextLabel}
 
 pub labels_by_shape : (r : Root) (x : Tree) (T : Table) (d : RootDerives T r) → root_shape d ≡ x → root_labels d ≡ root_labels_by r x

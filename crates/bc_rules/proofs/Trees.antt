@@ -5,13 +5,13 @@ use Rattle.bc_core.specs.declared.expression.CoreExp as expressions
 use Rattle.bc_core.specs.Tree.{argument}
 use Rattle.bc_core.specs.View.{exp, args}
 use Rattle.bc_core.proofs.Rows.{call_view}
-use Rattle.bc_derive.specs.declared.derivation.Derivation.{Derivation, Derivation', Row_of-Derivation, end_of-Derivation, more_of-Derivation, items-the_row-Derivation, out-Derivation, the_lemmas}
-use Rattle.bc_derive.specs.declared.rule.Mode.TheVariants.{Any}
-use Rattle.bc_derive.specs.declared.rule.Aim.TheVariants.{Gets}
-use Rattle.bc_derive.specs.declared.rule.Rule.TheVariants.{V22}
-use Rattle.bc_derive.specs.Rules.{by, part, one, two, three}
-use Rattle.bc_derive.specs.Parts.{called, node_parts}
-use Rattle.bc_derive.specs.View.{derivation, derivations, derivations_of_row}
+use Rattle.bc_rules_defs.specs.declared.derivation.Derivation.{Derivation, Derivation', Row_of-Derivation, end_of-Derivation, more_of-Derivation, items-the_row-Derivation, out-Derivation, the_lemmas}
+use Rattle.bc_rules_defs.specs.declared.rule.Mode.TheVariants.{Any}
+use Rattle.bc_rules_defs.specs.declared.rule.Aim.TheVariants.{Gets}
+use Rattle.bc_rules_defs.specs.declared.rule.Rule.TheVariants.{V22}
+use Rattle.bc_rules_defs.specs.Rules.{by, part, one, two, three}
+use Rattle.bc_rules_defs.specs.Parts.{called, node_parts}
+use Rattle.bc_rules_defs.specs.View.{derivation, derivations, derivations_of_row}
 
 rows_seen : {n : _} (r : Row_of-Derivation n) → derivations_of_row r ≡ derivations (items-the_row-Derivation n r)
 rows_seen end_of-Derivation = refl

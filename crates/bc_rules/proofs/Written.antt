@@ -7,21 +7,21 @@ use Rattle.bc_core.specs.Tree.{Exp, Args, no_argument, argument, Root, Assign}
 use Rattle.bc_core.specs.Operand.{operand_of}
 use Rattle.bc_core.specs.declared.operands.Operand.{Operand}
 use Rattle.bc_core.specs.View.{args}
-use Rattle.bc_derive.specs.declared.derivation.Derivation.{Derivation, out-Derivation}
-use Rattle.bc_derive.specs.declared.piece.Piece.{Piece}
-use Rattle.bc_derive.specs.declared.rule.Mode.TheVariants.{Any}
-use Rattle.bc_derive.specs.declared.rule.Aim.{Aim}
-use Rattle.bc_derive.specs.declared.rule.Aim.TheVariants.{Gets}
-use Rattle.bc_derive.specs.declared.rule.Rule.{Rule}
-use Rattle.bc_derive.specs.Piece.{S, SP, K, J, label}
-use Rattle.bc_derive.specs.Rules.{Tree, Trees, by, no_part, part, one, two, three}
-use Rattle.bc_derive.specs.Parts.{Parts, no_rule, leaf, single, pair, triple, called, parts_of, assignment_parts}
-use Rattle.bc_derive.specs.ByShape.{own_labels, part_level, first_target, with_operand, between, leaf_code, behind_single, behind_pair, behind_sides, labels_by, labels_of_parts, labels_of_sides, code_by, code_of_parts, code_of_sides, root_labels_by, root_code_by}
-use Rattle.bc_derive.specs.View.{derivation, derivations}
+use Rattle.bc_rules_defs.specs.declared.derivation.Derivation.{Derivation, out-Derivation}
+use Rattle.bc_rules_defs.specs.declared.piece.Piece.{Piece}
+use Rattle.bc_rules_defs.specs.declared.rule.Mode.TheVariants.{Any}
+use Rattle.bc_rules_defs.specs.declared.rule.Aim.{Aim}
+use Rattle.bc_rules_defs.specs.declared.rule.Aim.TheVariants.{Gets}
+use Rattle.bc_rules_defs.specs.declared.rule.Rule.{Rule}
+use Rattle.bc_rules_defs.specs.Piece.{S, SP, K, J, label}
+use Rattle.bc_rules_defs.specs.Rules.{Tree, Trees, by, no_part, part, one, two, three}
+use Rattle.bc_rules_defs.specs.Parts.{Parts, no_rule, leaf, single, pair, triple, called, parts_of, assignment_parts}
+use Rattle.bc_rules_defs.specs.ByShape.{own_labels, part_level, first_target, with_operand, between, leaf_code, behind_single, behind_pair, behind_sides, labels_by, labels_of_parts, labels_of_sides, code_by, code_of_parts, code_of_sides, root_labels_by, root_code_by}
+use Rattle.bc_rules_defs.specs.View.{derivation, derivations}
 use Rattle.bc_rules.specs.declared.writer.Writer.{Writer}
 use Rattle.bc_rules.specs.Adds.{Writes, Adds, Takes}
 use Rattle.bc_rules.specs.Code.{IsCodeOf}
-use Rattle.bc_derive.proofs.ByShape.{root_code_same}
+use Rattle.bc_rules_defs.proofs.ByShape.{root_code_same}
 use Rattle.bc_rules.proofs.Trees.{tree_view, one_tree, two_trees, three_trees, next_tree}
 
 then_adds : {u v w : Writer} {xs ys : List Piece} {n : ℕ} → Writes u v xs n → Adds v w ys → Writes u w (xs ++ ys) n

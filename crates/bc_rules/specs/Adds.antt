@@ -1,6 +1,6 @@
 -- For proofs: what a step of writing adds to the code.
 use Rattle.std.specs.Prelude.{◌≡◌, ℕ, ◌+◌, List, ◌++◌}
-use Rattle.bc_derive.specs.declared.piece.Piece.{Piece}
+use Rattle.bc_rules_defs.specs.declared.piece.Piece.{Piece}
 use Rattle.bc_rules.specs.declared.writer.Writer.{Writer}
 
 -- these pieces at the end, and so many labels taken

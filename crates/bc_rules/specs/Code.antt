@@ -3,10 +3,10 @@ use Rattle.std.specs.Prelude.{◌≡◌, ℕ, ◌+◌, ◌≤◌, Option, List}
 use Rattle.std.specs.Option.{SomeIff}
 use Rattle.bc_core.specs.Tree.{Root, Value, Test, Assign}
 use Rattle.bc_core.specs.Layout.{cells_of_exp, cells_of_assignment}
-use Rattle.bc_derive.specs.declared.rule.Table.{Table}
-use Rattle.bc_derive.specs.declared.piece.Piece.{Piece}
-use Rattle.bc_derive.specs.Rules.{RootDerives, root_shape, Tree}
-use Rattle.bc_derive.specs.Code.{root_labels, root_code}
+use Rattle.bc_rules_defs.specs.declared.rule.Table.{Table}
+use Rattle.bc_rules_defs.specs.declared.piece.Piece.{Piece}
+use Rattle.bc_rules_defs.specs.Rules.{RootDerives, root_shape, Tree}
+use Rattle.bc_rules_defs.specs.Code.{root_labels, root_code}
 
 -- the cells of the frame up to the greatest offset that the work on a root uses, the bodies of its VALOFs aside
 abbrev pub cells_of_root : Root → ℕ

@@ -1,8 +1,8 @@
 -- Whether a tree of rules is a derivation of a root.
 use Rattle.std.specs.Prelude.{◌≡◌}
 use Rattle.bc_core.specs.Tree.{Root}
-use Rattle.bc_derive.specs.declared.rule.Table.{Table}
-use Rattle.bc_derive.specs.Rules.{RootDerives, root_shape, Tree}
+use Rattle.bc_rules_defs.specs.declared.rule.Table.{Table}
+use Rattle.bc_rules_defs.specs.Rules.{RootDerives, root_shape, Tree}
 
 -- the table has a derivation of the root with these rules
 abbrev pub IsDerivation : Table → Root → Tree → Type 0

@@ -2,16 +2,16 @@
 use Rattle.std.specs.Prelude.{◌+◌, Bool, true, false, ◌&&◌, ◌||◌, not, cond, Option, Some, None}
 use Rattle.bc_core.specs.Tree.{Exp, Bin, no_argument, argument, Root, Value, Test, Assign}
 use Rattle.bc_core.specs.Value.{has_call}
-use Rattle.bc_derive.specs.declared.rule.Table.{Table}
-use Rattle.bc_derive.specs.declared.rule.Table.TheVariants.{One, Two}
-use Rattle.bc_derive.specs.declared.rule.Mode.TheVariants.{Any}
-use Rattle.bc_derive.specs.declared.rule.Aim.{Aim}
-use Rattle.bc_derive.specs.declared.rule.Aim.TheVariants.{Gets, Jumps}
-use Rattle.bc_derive.specs.declared.rule.Rule.{Rule}
-use Rattle.bc_derive.specs.declared.rule.Rule.TheVariants.{V7, V11, V13, V14, V16, J8, J9, A2}
-use Rattle.bc_derive.specs.Rules.{Tree, Trees, by, no_part, part}
-use Rattle.bc_derive.specs.Free.{are_free, is_direct}
-use Rattle.bc_derive.specs.Parts.{Parts, no_rule, leaf, single, pair, triple, called, parts_of, assignment_parts}
+use Rattle.bc_rules_defs.specs.declared.rule.Table.{Table}
+use Rattle.bc_rules_defs.specs.declared.rule.Table.TheVariants.{One, Two}
+use Rattle.bc_rules_defs.specs.declared.rule.Mode.TheVariants.{Any}
+use Rattle.bc_rules_defs.specs.declared.rule.Aim.{Aim}
+use Rattle.bc_rules_defs.specs.declared.rule.Aim.TheVariants.{Gets, Jumps}
+use Rattle.bc_rules_defs.specs.declared.rule.Rule.{Rule}
+use Rattle.bc_rules_defs.specs.declared.rule.Rule.TheVariants.{V7, V11, V13, V14, V16, J8, J9, A2}
+use Rattle.bc_rules_defs.specs.Rules.{Tree, Trees, by, no_part, part}
+use Rattle.bc_rules_defs.specs.Free.{are_free, is_direct}
+use Rattle.bc_rules_defs.specs.Parts.{Parts, no_rule, leaf, single, pair, triple, called, parts_of, assignment_parts}
 
 abbrev pub is_two : Table → Bool
 is_two One = false

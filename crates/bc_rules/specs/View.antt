@@ -6,7 +6,7 @@ use Rattle.bc_core.specs.Tree.{Exp}
 use Rattle.bc_core.specs.View.{exp, args}
 use Rattle.bc_rules.specs.declared.parts.Parts as code
 use Rattle.bc_rules.specs.declared.parts.Parts.TheVariants as forms
-use Rattle.bc_derive.specs.Parts.{Parts, no_rule, leaf, single, pair, triple, called}
+use Rattle.bc_rules_defs.specs.Parts.{Parts, no_rule, leaf, single, pair, triple, called}
 
 abbrev pub parts : code.Parts → Parts
 parts forms.NoRule = no_rule

@@ -1,10 +1,10 @@
 -- For proofs: the words of the rest of a list of pieces, where the last byte may share its word.
 use Rattle.std.specs.Prelude.{ℕ, Bool, true, false, not, cond, List, ◌∷◌}
-use Rattle.bc_item.specs.declared.item.Item.TheVariants.{Byte}
-use Rattle.bc_derive.specs.declared.piece.Piece.{Piece}
-use Rattle.bc_derive.specs.declared.piece.Piece.TheVariants.{Item, Body}
-use Rattle.bc_item.specs.Sizes.{size}
-use Rattle.bc_derive.specs.Piece.{words}
+use Rattle.bc_text_items.specs.declared.item.Item.TheVariants.{Byte}
+use Rattle.bc_rules_defs.specs.declared.piece.Piece.{Piece}
+use Rattle.bc_rules_defs.specs.declared.piece.Piece.TheVariants.{Item, Body}
+use Rattle.bc_text_items.specs.Sizes.{size}
+use Rattle.bc_rules_defs.specs.Piece.{words}
 
 abbrev pub rest_words : (half : Bool) → List Piece → ℕ
 rest_words false ps = words ps

@@ -1,12 +1,12 @@
 ghost use Rattle.std.specs.Prelude.{◌≡◌};
 ghost use Rattle.bc_core.specs.View.{exp};
-ghost use Rattle.bc_derive.specs.Free.{is_plain, is_zero, beside_zero, without_zero as without_zero_of};
-ghost use Rattle.bc_derive.specs.Parts.{parts_of as parts_by, node_parts as node_parts_of, operator_parts, value_parts as value_parts_of, test_parts as test_parts_of, assignment_parts as assignment_parts_of, single_if, in_any, where_true, triple, pair as pair_of};
+ghost use Rattle.bc_rules_defs.specs.Free.{is_plain, is_zero, beside_zero, without_zero as without_zero_of};
+ghost use Rattle.bc_rules_defs.specs.Parts.{parts_of as parts_by, node_parts as node_parts_of, operator_parts, value_parts as value_parts_of, test_parts as test_parts_of, assignment_parts as assignment_parts_of, single_if, in_any, where_true, triple, pair as pair_of};
 ghost use Rattle.bc_rules.specs.View.{parts, expression};
 
 use crate::parts::{Part, Parts};
 use bc_core::{CoreExp, constant, operand};
-use bc_derive::{Aim, Mode, Rule};
+use bc_rules_defs::{Aim, Mode, Rule};
 use bc_word::{Op, mirror};
 
 /// Whether the test of an expression is made of its value: neither NOT nor `&` nor the bar is on top.

@@ -1,8 +1,8 @@
 ghost use Rattle.std.specs.Prelude.{◌≡◌, ◌||◌, true};
 ghost use Rattle.bc_core.specs.View.{exp, args};
 ghost use Rattle.bc_core.specs.Value.{has_call};
-ghost use Rattle.bc_derive.specs.View.{derivation, derivations};
-ghost use Rattle.bc_derive.specs.Parts.{single as single_part, pair as two_parts, triple as three_parts, called};
+ghost use Rattle.bc_rules_defs.specs.View.{derivation, derivations};
+ghost use Rattle.bc_rules_defs.specs.Parts.{single as single_part, pair as two_parts, triple as three_parts, called};
 ghost use Rattle.bc_rules.specs.View.{parts};
 ghost use Rattle.bc_rules.specs.Fits.{in_table as in_table_of, turns as turns_of, turns_freely as turns_freely_of, has_direct_side, fits, parts_fit, parts_call, found};
 
@@ -10,7 +10,7 @@ use crate::applying::parts_of;
 use crate::exchange::direct;
 use crate::parts::{Part, Parts};
 use bc_core::CoreExp;
-use bc_derive::{Aim, Derivation, Mode, Rule, Table};
+use bc_rules_defs::{Aim, Derivation, Mode, Rule, Table};
 
 /// Whether the table has a rule.
 fn in_table(table: Table, rule: Rule) -> bool

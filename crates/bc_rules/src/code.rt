@@ -1,9 +1,9 @@
 ghost use Rattle.std.specs.Prelude.{IfOk, OnOk};
 ghost use Rattle.bc_core.specs.Tree.{Assign};
 ghost use Rattle.bc_core.specs.View.{exp, root as root_of};
-ghost use Rattle.bc_derive.specs.View.{derivation as tree, derivations};
-ghost use Rattle.bc_derive.specs.Parts.{single as single_of, pair as pair_of};
-ghost use Rattle.bc_derive.specs.ByShape.{labels_of_sides, code_of_sides, root_labels_by, root_code_by};
+ghost use Rattle.bc_rules_defs.specs.View.{derivation as tree, derivations};
+ghost use Rattle.bc_rules_defs.specs.Parts.{single as single_of, pair as pair_of};
+ghost use Rattle.bc_rules_defs.specs.ByShape.{labels_of_sides, code_of_sides, root_labels_by, root_code_by};
 ghost use Rattle.bc_rules.specs.Code.{IsCodeOf, IsNextLabel};
 ghost use Rattle.bc_rules.specs.Adds.{Writes};
 ghost use Rattle.bc_rules.specs.View.{parts};
@@ -15,8 +15,8 @@ use crate::parts::{Part, Parts};
 use crate::writer::{Writer, more};
 use crate::writing::{Place, Sides, write};
 use bc_core::{CoreExp, Root, operand};
-use bc_derive::{Aim, Derivation, Mode, Piece, Rule};
-use bc_item::Function;
+use bc_rules_defs::{Aim, Derivation, Mode, Piece, Rule};
+use bc_text_items::Function;
 use bc_word::Memory;
 use std::alloc::Global;
 

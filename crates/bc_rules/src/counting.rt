@@ -1,15 +1,15 @@
 ghost use Rattle.std.specs.Prelude.{◌≡◌, ◌≤◌, ◌+◌, min};
 ghost use Rattle.bc_core.specs.Tree.{Assign};
 ghost use Rattle.bc_core.specs.View.{exp, args, root as root_of};
-ghost use Rattle.bc_derive.specs.View.{derivation, derivations};
-ghost use Rattle.bc_derive.specs.Parts.{single as single_part, pair as two_parts, triple as three_parts, called};
-ghost use Rattle.bc_derive.specs.ByShape.{own_labels as own_labels_of, labels_by, labels_of_parts, root_labels_by};
+ghost use Rattle.bc_rules_defs.specs.View.{derivation, derivations};
+ghost use Rattle.bc_rules_defs.specs.Parts.{single as single_part, pair as two_parts, triple as three_parts, called};
+ghost use Rattle.bc_rules_defs.specs.ByShape.{own_labels as own_labels_of, labels_by, labels_of_parts, root_labels_by};
 ghost use Rattle.bc_rules.specs.View.{parts};
 
 use crate::applying::{assignment_parts, parts_of};
 use crate::parts::{Part, Parts};
 use bc_core::{CoreExp, Root};
-use bc_derive::{Aim, Derivation, Mode, Rule};
+use bc_rules_defs::{Aim, Derivation, Mode, Rule};
 
 /// A sum of labels; past 65,536 always 65,537.
 fn sum(a: u32, b: u32) -> u32

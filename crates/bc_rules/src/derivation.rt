@@ -1,7 +1,7 @@
 ghost use Rattle.std.specs.Prelude.{◌≡◌, ◌↔◌, IsTrue};
 ghost use Rattle.bc_core.specs.View.{exp, root as root_of};
-ghost use Rattle.bc_derive.specs.View.{derivation as tree};
-ghost use Rattle.bc_derive.specs.declared.rule.Table.TheVariants.{Two};
+ghost use Rattle.bc_rules_defs.specs.View.{derivation as tree};
+ghost use Rattle.bc_rules_defs.specs.declared.rule.Table.TheVariants.{Two};
 ghost use Rattle.bc_rules.specs.Derivation.{IsDerivation};
 ghost use Rattle.bc_rules.specs.Fits.{root_fits, assignment_fits, sides_turn as sides_turn_of};
 
@@ -9,7 +9,7 @@ use crate::applying::assignment_parts;
 use crate::check::{derives, parts_derive, turns};
 use crate::exchange::direct;
 use bc_core::{CoreExp, Root};
-use bc_derive::{Aim, Derivation, Mode, Rule, Table};
+use bc_rules_defs::{Aim, Derivation, Mode, Rule, Table};
 
 /// Whether this is a derivation of the root by table 2.
 #[tactic(auto, using(crate::proofs::Bridge::decides))]

@@ -1,7 +1,7 @@
 ghost use Rattle.std.specs.Prelude.{◌≡◌};
 ghost use Rattle.bc_core.specs.View.{exp, args};
 ghost use Rattle.bc_core.specs.Value.{has_call};
-ghost use Rattle.bc_derive.specs.Free.{are_free, is_direct};
+ghost use Rattle.bc_rules_defs.specs.Free.{are_free, is_direct};
 
 use bc_core::{CoreExp, operand};
 

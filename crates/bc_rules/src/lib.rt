@@ -15,7 +15,7 @@ mod writer;
 mod writing;
 
 pub use bc_core::{Base, Operand, constant, operand};
-pub use bc_derive::{Aim, Derivation, Entry, Mode, Piece, Rule, Table};
+pub use bc_rules_defs::{Aim, Derivation, Entry, Mode, Piece, Rule, Table};
 pub use code::{code_of, next_label};
 pub use derivation::{is_derivation, is_derivation_by};
 pub use exchange::free;

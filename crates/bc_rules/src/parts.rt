@@ -1,5 +1,5 @@
 use bc_core::CoreExp;
-use bc_derive::Aim;
+use bc_rules_defs::Aim;
 
 /// A part of an expression, with what its code is for.
 #[derive(Clone, Copy)]

@@ -1,10 +1,10 @@
 ghost use Rattle.std.specs.Prelude.{◌≡◌, ◌<◌, ◌^◌, length};
-ghost use Rattle.bc_item.specs.Sizes.{size};
-ghost use Rattle.bc_derive.specs.Piece.{words as words_of};
+ghost use Rattle.bc_text_items.specs.Sizes.{size};
+ghost use Rattle.bc_rules_defs.specs.Piece.{words as words_of};
 ghost use Rattle.bc_rules.specs.Words.{added_words, half_left};
 
-use bc_derive::Piece;
-use bc_item::{Base, Item};
+use bc_rules_defs::Piece;
+use bc_text_items::{Base, Item};
 
 /// The words of an item that stands alone.
 fn item_words(item: &Item) -> u64

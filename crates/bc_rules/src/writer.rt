@@ -1,13 +1,13 @@
 ghost use Rattle.std.specs.Prelude.{◌≡◌, [], ◌∷◌, ◌++◌, ◌+◌, true, false, IfOk, OnOk};
-ghost use Rattle.bc_item.specs.declared.item.Item.TheVariants.{Operation};
-ghost use Rattle.bc_derive.specs.Piece.{on, X, jump_if as jump_if_of, label as label_of};
-ghost use Rattle.bc_derive.specs.declared.piece.Piece.TheVariants.{Item as item};
-ghost use Rattle.bc_item.specs.declared.item.Base.TheVariants.{P};
+ghost use Rattle.bc_text_items.specs.declared.item.Item.TheVariants.{Operation};
+ghost use Rattle.bc_rules_defs.specs.Piece.{on, X, jump_if as jump_if_of, label as label_of};
+ghost use Rattle.bc_rules_defs.specs.declared.piece.Piece.TheVariants.{Item as item};
+ghost use Rattle.bc_text_items.specs.declared.item.Base.TheVariants.{P};
 ghost use Rattle.bc_rules.specs.Adds.{Adds, Takes};
 
 use bc_core::Operand;
-use bc_derive::Piece;
-use bc_item::{Base, Function, Item};
+use bc_rules_defs::Piece;
+use bc_text_items::{Base, Function, Item};
 use bc_word::{Memory, Word};
 use std::alloc::Global;
 

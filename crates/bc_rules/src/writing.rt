@@ -2,9 +2,9 @@
 
 ghost use Rattle.std.specs.Prelude.{◌≡◌, IfOk, OnOk};
 ghost use Rattle.bc_core.specs.View.{exp, args};
-ghost use Rattle.bc_derive.specs.View.{derivation, derivations};
-ghost use Rattle.bc_derive.specs.Parts.{leaf as leaf_of, single as single_of, pair as pair_of, triple as triple_of, called};
-ghost use Rattle.bc_derive.specs.ByShape.{part_level as part_level_of, first_target as first_target_of, labels_by, labels_of_parts, code_by, code_of_parts};
+ghost use Rattle.bc_rules_defs.specs.View.{derivation, derivations};
+ghost use Rattle.bc_rules_defs.specs.Parts.{leaf as leaf_of, single as single_of, pair as pair_of, triple as triple_of, called};
+ghost use Rattle.bc_rules_defs.specs.ByShape.{part_level as part_level_of, first_target as first_target_of, labels_by, labels_of_parts, code_by, code_of_parts};
 ghost use Rattle.bc_rules.specs.View.{parts};
 ghost use Rattle.bc_rules.specs.Adds.{Writes};
 
@@ -14,8 +14,8 @@ use crate::counting::own_labels;
 use crate::parts::{Part, Parts};
 use crate::writer::{Writer, as_word, more};
 use bc_core::CoreExp;
-use bc_derive::{Aim, Derivation, Mode, Rule};
-use bc_item::Function;
+use bc_rules_defs::{Aim, Derivation, Mode, Rule};
+use bc_text_items::Function;
 use bc_word::{Memory, Word};
 
 /// Where the code of a part stands: its level, and the label that it jumps to.

@@ -1,10 +1,10 @@
 -- The primitives: eight routines that do what the language can't say.
 use Rattle.std.specs.Prelude.{ℕ, ◌≡◌, List, [], ◌∷◌, ◌++◌, false, true, refl}
-use Rattle.bc_item.specs.Sizes.{size_of_all}
-use Rattle.bc_item.specs.declared.item.Item.{Item}
-use Rattle.bc_item.specs.declared.item.Item.TheVariants.{Label, Operation, Global}
-use Rattle.bc_item.specs.declared.item.Base.TheVariants as bases
-use Rattle.bc_item.specs.declared.item.Function.TheVariants as functions
+use Rattle.bc_text_items.specs.Sizes.{size_of_all}
+use Rattle.bc_text_items.specs.declared.item.Item.{Item}
+use Rattle.bc_text_items.specs.declared.item.Item.TheVariants.{Label, Operation, Global}
+use Rattle.bc_text_items.specs.declared.item.Base.TheVariants as bases
+use Rattle.bc_text_items.specs.declared.item.Function.TheVariants as functions
 
 -- `LIP2`: the first argument
 abbrev pub argument : Item

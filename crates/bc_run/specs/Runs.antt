@@ -1,9 +1,9 @@
 -- What reading, linking and running a text answers.
 use Rattle.std.specs.Prelude.{ℕ, ◌≡◌, ◌⊎◌, List, ◌∷◌, ◌++◌, Option, None, IfSome}
-use Rattle.bc_item.specs.declared.item.Item.{Item}
-use Rattle.bc_step.specs.Streams.{Content}
-use Rattle.bc_step.specs.State.{State, start}
-use Rattle.bc_step.specs.declared.state.End.{End}
+use Rattle.bc_text_items.specs.declared.item.Item.{Item}
+use Rattle.bc_machine_defs.specs.Streams.{Content}
+use Rattle.bc_machine_defs.specs.State.{State, start}
+use Rattle.bc_machine_defs.specs.declared.state.End.{End}
 use Rattle.bc_text.specs.Texts.{IsText}
 use Rattle.bc_text.specs.Faults.{HasFault, IsUnended}
 use Rattle.bc_text.specs.declared.text_error.TextError.{TextError}

@@ -1,8 +1,8 @@
 ghost use Rattle.std.specs.Prelude.{◌≡◌, ◌<◌, ◌++◌, IfOk, OnOk};
-ghost use Rattle.bc_item.specs.declared.item.Item.TheVariants.{Label, Global};
+ghost use Rattle.bc_text_items.specs.declared.item.Item.TheVariants.{Label, Global};
 ghost use Rattle.bc_run.specs.Primitives.{argument, nought, execute, primitive_items};
 
-use bc_item::{Base, Function, GlobalNumber, Item, Segment};
+use bc_text_items::{Base, Function, GlobalNumber, Item, Segment};
 use bc_word::{Memory, Word};
 use std::alloc;
 

@@ -2,11 +2,11 @@ ghost use Rattle.std.specs.Prelude.{◌≡◌, IfOk, IfErr, OnErr};
 ghost use Rattle.bc_run.specs.Runs.{IsTextOf, IsTextFault, IsRunFault, IsRunOf, behind};
 
 use crate::primitive::primitives;
-use bc_item::Segment;
 use bc_link::{LinkError, link};
 use bc_machine::{Machine, Streams};
-use bc_step::End;
+use bc_machine_defs::End;
 use bc_text::{Reader, TextError};
+use bc_text_items::Segment;
 use bc_word::Memory;
 use std::alloc::Global;
 use std::io::Read;

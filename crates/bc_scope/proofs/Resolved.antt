@@ -5,17 +5,17 @@ use Rattle.bc_core.specs.View.{section, place_of}
 use Rattle.bc_core.specs.WellFormed.{is_core}
 use Rattle.bc_core.specs.declared.command.Place.{Place}
 use Rattle.bc_core.specs.declared.command.Valof.{Valof}
-use Rattle.bc_tree.specs.Tree.{Declarations}
-use Rattle.bc_tree.specs.Size.{declarations_size}
-use Rattle.bc_names.specs.declared.error.ScopeError.{ScopeError}
-use Rattle.bc_names.specs.declared.error.ScopeError.TheVariants as code
-use Rattle.bc_faults.specs.Judged.{IsFault}
-use Rattle.bc_scoping.specs.Found.{Thing, AValof, ARoutine, Data, section_start, found_in_section}
-use Rattle.bc_scoping.specs.Translation.{places_of, core_of}
-use Rattle.bc_scoping.specs.Faults.{Fault, ATooManyPlaces, unless, or_else, places_among, places_fault, section_fault}
-use Rattle.bc_scoping.specs.FaultsAlong.{declarations_fault, frames_fault}
-use Rattle.bc_translation.proofs.AlikeFaults.{same_section_fault}
-use Rattle.bc_translation.proofs.Fitting.{sections_fit}
+use Rattle.bc_parse_tree.specs.Tree.{Declarations}
+use Rattle.bc_parse_tree.specs.Size.{declarations_size}
+use Rattle.bc_scope_names.specs.declared.error.ScopeError.{ScopeError}
+use Rattle.bc_scope_names.specs.declared.error.ScopeError.TheVariants as code
+use Rattle.bc_scope_faults.specs.Judged.{IsFault}
+use Rattle.bc_scope_defs.specs.Found.{Thing, AValof, ARoutine, Data, section_start, found_in_section}
+use Rattle.bc_scope_defs.specs.Translation.{places_of, core_of}
+use Rattle.bc_scope_defs.specs.Faults.{Fault, ATooManyPlaces, unless, or_else, places_among, places_fault, section_fault}
+use Rattle.bc_scope_defs.specs.FaultsAlong.{declarations_fault, frames_fault}
+use Rattle.bc_scope_laws.proofs.AlikeFaults.{same_section_fault}
+use Rattle.bc_scope_laws.proofs.Fitting.{sections_fit}
 
 -- the first fault but for the number of places, as it is found
 abbrev pub judged : Declarations → Option Fault

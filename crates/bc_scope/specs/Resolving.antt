@@ -3,11 +3,11 @@ use Rattle.std.specs.Prelude.{◌≡◌, List, None, Result, Ok, Err}
 use Rattle.bc_core.specs.View.{section}
 use Rattle.bc_core.specs.declared.command.Place.{Place}
 use Rattle.bc_core.specs.declared.command.Valof.{Valof}
-use Rattle.bc_tree.specs.Tree.{Declarations}
-use Rattle.bc_names.specs.declared.error.ScopeError.{ScopeError}
-use Rattle.bc_faults.specs.Judged.{IsFault}
-use Rattle.bc_scoping.specs.Translation.{core_of}
-use Rattle.bc_scoping.specs.Faults.{section_fault}
+use Rattle.bc_parse_tree.specs.Tree.{Declarations}
+use Rattle.bc_scope_names.specs.declared.error.ScopeError.{ScopeError}
+use Rattle.bc_scope_faults.specs.Judged.{IsFault}
+use Rattle.bc_scope_defs.specs.Translation.{core_of}
+use Rattle.bc_scope_defs.specs.Faults.{section_fault}
 
 -- a section without fault is resolved to its translation; of another the answer is its first fault; or memory ran out
 abbrev pub Resolves : Result (List Place × List Valof) ScopeError → Declarations → Type 0

@@ -4,6 +4,6 @@
 mod resolving;
 
 pub use bc_core::Core;
-pub use bc_names::ScopeError;
-pub use bc_tree::Section;
+pub use bc_parse_tree::Section;
+pub use bc_scope_names::ScopeError;
 pub use resolving::resolve;

@@ -1,13 +1,13 @@
 ghost use Rattle.std.specs.Prelude.{◌≡◌, ◌≤◌};
-ghost use Rattle.bc_tree.specs.View.{section_view};
-ghost use Rattle.bc_tree.specs.Size.{declarations_size};
+ghost use Rattle.bc_parse_tree.specs.View.{section_view};
+ghost use Rattle.bc_parse_tree.specs.Size.{declarations_size};
 ghost use Rattle.bc_scope.specs.Resolving.{Resolves};
 
 use bc_core::Core;
-use bc_faults::judge;
-use bc_names::{Scope, ScopeError};
-use bc_resolving::translate;
-use bc_tree::Section;
+use bc_parse_tree::Section;
+use bc_scope_faults::judge;
+use bc_scope_names::{Scope, ScopeError};
+use bc_scope_translate::translate;
 use std::alloc::Global;
 
 /// The resolved section: its translation, where it has no fault.

@@ -5,25 +5,25 @@ use Rattle.std.proofs.lemmas.Bool.{cond_both}
 use Rattle.bc_word.specs.declared.operator.Op.{Op}
 use Rattle.bc_word.specs.declared.operator.Op.TheVariants as operators
 use Rattle.bc_word.specs.Words.{negated}
-use Rattle.bc_item.specs.declared.item.Base.{Base}
-use Rattle.bc_item.specs.declared.item.Base.TheVariants.{Number, P, G, Label}
-use Rattle.bc_item.specs.Sizes.{operation_size}
+use Rattle.bc_text_items.specs.declared.item.Base.{Base}
+use Rattle.bc_text_items.specs.declared.item.Base.TheVariants.{Number, P, G, Label}
+use Rattle.bc_text_items.specs.Sizes.{operation_size}
 use Rattle.bc_core.specs.declared.operands.Operand.{Operand}
 use Rattle.bc_core.specs.Tree.{Exp, Num, Frame, Glob, Place, Load, Neg, Not, Bin, Cond, Call, Valof, Args, no_argument, argument, count}
 use Rattle.bc_core.specs.Operand.{operand_of}
 use Rattle.bc_core.specs.WellFormed.{nodes, nodes_of_args}
-use Rattle.bc_derive.specs.declared.rule.Table.{Table}
-use Rattle.bc_derive.specs.declared.rule.Rule.{Rule}
-use Rattle.bc_derive.specs.declared.rule.Rule.TheVariants as rule
-use Rattle.bc_derive.specs.declared.rule.Aim.TheVariants.{Jumps}
-use Rattle.bc_derive.specs.Piece.{w, operand_words}
-use Rattle.bc_derive.specs.Free.{jumps_at}
-use Rattle.bc_least.specs.declared.choice.Choice.{Choice}
-use Rattle.bc_least.specs.declared.choice.Choices.{Choices}
-use Rattle.bc_least.specs.declared.choice.Candidate.{Candidate}
-use Rattle.bc_least.specs.declared.choice.Node.{Node}
-use Rattle.bc_least.specs.Options.{plus, more, sum, given, operand_cost, words_of, choice, candidate, better, least_from}
-use Rattle.bc_least.specs.Choices.{words_for, line, by_value, number_tests, not_tests, zero_number, number_cost, without, mixed, worked, pair_tests, choices, words_of_all, node_of}
+use Rattle.bc_rules_defs.specs.declared.rule.Table.{Table}
+use Rattle.bc_rules_defs.specs.declared.rule.Rule.{Rule}
+use Rattle.bc_rules_defs.specs.declared.rule.Rule.TheVariants as rule
+use Rattle.bc_rules_defs.specs.declared.rule.Aim.TheVariants.{Jumps}
+use Rattle.bc_rules_defs.specs.Piece.{w, operand_words}
+use Rattle.bc_rules_defs.specs.Free.{jumps_at}
+use Rattle.bc_select_defs.specs.declared.choice.Choice.{Choice}
+use Rattle.bc_select_defs.specs.declared.choice.Choices.{Choices}
+use Rattle.bc_select_defs.specs.declared.choice.Candidate.{Candidate}
+use Rattle.bc_select_defs.specs.declared.choice.Node.{Node}
+use Rattle.bc_select_defs.specs.Options.{plus, more, sum, given, operand_cost, words_of, choice, candidate, better, least_from}
+use Rattle.bc_select_defs.specs.Choices.{words_for, line, by_value, number_tests, not_tests, zero_number, number_cost, without, mixed, worked, pair_tests, choices, words_of_all, node_of}
 use Rattle.bc_select.specs.Small.{Small, AreSmall, UpTo}
 
 pub record Bound (x : Option ℕ) (k : ℕ) : Type 0 where

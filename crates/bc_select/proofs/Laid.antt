@@ -7,10 +7,10 @@ use Rattle.bc_core.specs.WellFormed.{nodes, nodes_of_args}
 use Rattle.bc_core.proofs.Rows.{then_argument, args_append}
 use Rattle.bc_core.specs.declared.expression.CoreExp.{CoreExp}
 use Rattle.bc_core.specs.View.{exp, args}
-use Rattle.bc_derive.specs.declared.rule.Table.TheVariants.{Two}
-use Rattle.bc_derive.specs.Piece.{w}
-use Rattle.bc_least.specs.Choices.{choices, words_of_all, cond_choices}
-use Rattle.bc_least.specs.Options.{plus, sum, words_of}
+use Rattle.bc_rules_defs.specs.declared.rule.Table.TheVariants.{Two}
+use Rattle.bc_rules_defs.specs.Piece.{w}
+use Rattle.bc_select_defs.specs.Choices.{choices, words_of_all, cond_choices}
+use Rattle.bc_select_defs.specs.Options.{plus, sum, words_of}
 use Rattle.bc_select.specs.declared.part.Part.{Part}
 use Rattle.bc_select.specs.declared.whole.Arguments.{Arguments}
 use Rattle.bc_select.specs.Cut.{IsCut}

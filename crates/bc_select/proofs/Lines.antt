@@ -1,9 +1,9 @@
 -- Folds over candidates, put together.
 use Rattle.std.proofs.Common.{◌≡◌, List, [], ◌∷◌, ◌++◌, Option, None, ap, sym, ◌∙◌, refl}
-use Rattle.bc_least.specs.declared.choice.Choice.{Choice}
-use Rattle.bc_least.specs.declared.choice.Choices.{Choices}
-use Rattle.bc_least.specs.declared.choice.Candidate.{Candidate}
-use Rattle.bc_least.specs.Options.{better, least_from}
+use Rattle.bc_select_defs.specs.declared.choice.Choice.{Choice}
+use Rattle.bc_select_defs.specs.declared.choice.Choices.{Choices}
+use Rattle.bc_select_defs.specs.declared.choice.Candidate.{Candidate}
+use Rattle.bc_select_defs.specs.Options.{better, least_from}
 
 least_from-append : (best : Option Choice) (xs ys : List Candidate) → least_from best (xs ++ ys) ≡ least_from (least_from best xs) ys
 unfolding least_from

@@ -1,9 +1,9 @@
 -- The marks of trees make these trees.
 use Rattle.std.proofs.Common.{◌≡◌, ℕ, zero, suc, ◌+◌, ◌-◌, ◌<◌, refl, ap, sym, ◌∙◌, List, [], ◌∷◌, ◌++◌, length, take, drop, append-nil, append_assoc, length-append, arith, add-one}
-use Rattle.bc_derive.specs.declared.derivation.Derivation.{Derivation}
-use Rattle.bc_derive.specs.declared.rule.Rule.{Rule}
-use Rattle.bc_derive.specs.Rules.{Tree, Trees, by, no_part, part, one, end_with}
-use Rattle.bc_derive.specs.View.{derivation, derivations}
+use Rattle.bc_rules_defs.specs.declared.derivation.Derivation.{Derivation}
+use Rattle.bc_rules_defs.specs.declared.rule.Rule.{Rule}
+use Rattle.bc_rules_defs.specs.Rules.{Tree, Trees, by, no_part, part, one, end_with}
+use Rattle.bc_rules_defs.specs.View.{derivation, derivations}
 use Rattle.bc_select.specs.declared.mark.Mark.{Mark}
 use Rattle.bc_select.specs.declared.part.Part.{Part}
 use Rattle.bc_select.specs.declared.waiting.Waiting.{Waiting}

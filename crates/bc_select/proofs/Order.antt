@@ -5,7 +5,7 @@ use Rattle.std.proofs.lemmas.List.{reverse-append, length-map, length-reverse}
 use Rattle.bc_core.specs.Tree.{Exp, Num, Frame, Glob, Place, Load, Neg, Not, Bin, Cond, Call, Valof, Args, no_argument, argument, count, Root}
 use Rattle.bc_core.specs.View.{exp}
 use Rattle.bc_core.specs.WellFormed.{nodes, nodes_of_args}
-use Rattle.bc_least.specs.Nodes.{in_order, all_in_order}
+use Rattle.bc_select_defs.specs.Nodes.{in_order, all_in_order}
 use Rattle.bc_select.specs.declared.layout.AtLevel.{AtLevel}
 use Rattle.bc_select.specs.declared.part.Part.{Part}
 use Rattle.bc_select.specs.Order.{expression_at, from_the_end, in_order_of, parts_in_order, Fits, AllFit, listed, AreOf, ArgumentsPut, PartsPut, node_at, CanFollow}

@@ -7,22 +7,22 @@ use Rattle.bc_core.specs.Operand.{operand_of}
 use Rattle.bc_core.specs.Tree.{Exp, Num, Frame, Glob, Place, Load, Neg, Not, Bin, Cond, Call, Valof, Args, no_argument, argument, count, Assign}
 use Rattle.bc_core.specs.WellFormed.{nodes, nodes_of_args}
 use Rattle.bc_core.proofs.Rows.{then_argument}
-use Rattle.bc_derive.specs.declared.rule.Table.TheVariants.{Two}
-use Rattle.bc_derive.specs.declared.rule.Mode.TheVariants.{Any, Push}
-use Rattle.bc_derive.specs.declared.rule.Aim.{Aim}
-use Rattle.bc_derive.specs.declared.rule.Aim.TheVariants.{Gets, Jumps}
-use Rattle.bc_derive.specs.declared.rule.Rule.{Rule}
-use Rattle.bc_derive.specs.declared.rule.Rule.TheVariants.{V1}
-use Rattle.bc_derive.specs.Rules.{Trees, by, no_part, part, end_with}
-use Rattle.bc_derive.specs.Code.{cost}
-use Rattle.bc_least.specs.declared.choice.Choice.{Choice}
-use Rattle.bc_least.specs.Least.{rule_number, first_rule}
-use Rattle.bc_least.specs.declared.choice.Node.{Node}
-use Rattle.bc_least.specs.Choices.{choice_for, choices, node_of}
-use Rattle.bc_least.specs.Folds.{AtMost}
-use Rattle.bc_least.specs.Lower.{lower}
-use Rattle.bc_least.specs.Chosen.{some_value, some_test, assign_choice, assign_parts, root_choice, root_reading}
-use Rattle.bc_least.specs.Readings.{tree_for, tree_of, push_parts, value_parts, test_parts, read_line, readings, readings_of_all}
+use Rattle.bc_rules_defs.specs.declared.rule.Table.TheVariants.{Two}
+use Rattle.bc_rules_defs.specs.declared.rule.Mode.TheVariants.{Any, Push}
+use Rattle.bc_rules_defs.specs.declared.rule.Aim.{Aim}
+use Rattle.bc_rules_defs.specs.declared.rule.Aim.TheVariants.{Gets, Jumps}
+use Rattle.bc_rules_defs.specs.declared.rule.Rule.{Rule}
+use Rattle.bc_rules_defs.specs.declared.rule.Rule.TheVariants.{V1}
+use Rattle.bc_rules_defs.specs.Rules.{Trees, by, no_part, part, end_with}
+use Rattle.bc_rules_defs.specs.Code.{cost}
+use Rattle.bc_select_defs.specs.declared.choice.Choice.{Choice}
+use Rattle.bc_select_defs.specs.Least.{rule_number, first_rule}
+use Rattle.bc_select_defs.specs.declared.choice.Node.{Node}
+use Rattle.bc_select_defs.specs.Choices.{choice_for, choices, node_of}
+use Rattle.bc_select_defs.specs.Folds.{AtMost}
+use Rattle.bc_select_defs.specs.Lower.{lower}
+use Rattle.bc_select_defs.specs.Chosen.{some_value, some_test, assign_choice, assign_parts, root_choice, root_reading}
+use Rattle.bc_select_defs.specs.Readings.{tree_for, tree_of, push_parts, value_parts, test_parts, read_line, readings, readings_of_all}
 use Rattle.bc_select.specs.Vector.{before_all, vector}
 use Rattle.bc_select.specs.Reads.{own_parts, parts_for, rule_or_v1}
 

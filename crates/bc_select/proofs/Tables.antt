@@ -1,9 +1,9 @@
 -- Rows and spans stand for nodes.
 use Rattle.std.proofs.Common.{◌≡◌, ℕ, List, [], ◌∷◌, ◌++◌, length, map, take, drop, Option, Some, None, refl, ap, sym, ◌∙◌}
 use Rattle.std.proofs.lemmas.List.{take-map, drop-map, map-append, length-map}
-use Rattle.bc_least.specs.declared.choice.Choice.{Choice}
-use Rattle.bc_least.specs.declared.choice.Choices.{Choices}
-use Rattle.bc_least.specs.Options.{words_of, rule_of}
+use Rattle.bc_select_defs.specs.declared.choice.Choice.{Choice}
+use Rattle.bc_select_defs.specs.declared.choice.Choices.{Choices}
+use Rattle.bc_select_defs.specs.Options.{words_of, rule_of}
 use Rattle.bc_select.specs.declared.part.Part.{Part}
 use Rattle.bc_select.specs.declared.row.Row.{Row}
 use Rattle.bc_select.specs.declared.table.Span.{Span}

@@ -1,8 +1,8 @@
 -- Trees of rules as they lie in memory.
 use Rattle.std.proofs.Common.{◌≡◌, refl, ap, rules}
-use Rattle.bc_derive.specs.declared.derivation.Derivation.{Derivation, Derivation', Row_of-Derivation, end_of-Derivation, more_of-Derivation, items-the_row-Derivation, out-Derivation, the_lemmas}
-use Rattle.bc_derive.specs.Rules.{by, part}
-use Rattle.bc_derive.specs.View.{derivation, derivations, derivations_of_row}
+use Rattle.bc_rules_defs.specs.declared.derivation.Derivation.{Derivation, Derivation', Row_of-Derivation, end_of-Derivation, more_of-Derivation, items-the_row-Derivation, out-Derivation, the_lemmas}
+use Rattle.bc_rules_defs.specs.Rules.{by, part}
+use Rattle.bc_rules_defs.specs.View.{derivation, derivations, derivations_of_row}
 
 rows_seen : {n : _} (r : Row_of-Derivation n) → derivations_of_row r ≡ derivations (items-the_row-Derivation n r)
 rows_seen end_of-Derivation = refl

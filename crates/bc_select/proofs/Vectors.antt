@@ -5,15 +5,15 @@ use Rattle.std.specs.Prelude.{true, false}
 use Rattle.std.specs.List.{AllZip}
 use Rattle.bc_core.specs.Tree.{Exp, Root, Num, Frame, Glob, Place, Load, Neg, Not, Bin, Cond, Call, Valof, Args, no_argument, argument, count, Value, Test, Assign}
 use Rattle.bc_core.specs.Level.{side_level}
-use Rattle.bc_derive.specs.declared.rule.Table.TheVariants.{Two}
-use Rattle.bc_derive.specs.declared.rule.Mode.TheVariants.{Any, Push}
-use Rattle.bc_derive.specs.declared.rule.Aim.TheVariants.{Gets, Jumps}
-use Rattle.bc_derive.specs.Code.{root_cost}
-use Rattle.bc_least.specs.declared.choice.Choice.{Choice}
-use Rattle.bc_least.specs.Options.{words_of}
-use Rattle.bc_least.specs.Nodes.{in_order, all_in_order, root_in_order}
-use Rattle.bc_least.specs.Chosen.{chosen, chosen_words, root_choice}
-use Rattle.bc_least.proofs.Words.{choices_are_least}
+use Rattle.bc_rules_defs.specs.declared.rule.Table.TheVariants.{Two}
+use Rattle.bc_rules_defs.specs.declared.rule.Mode.TheVariants.{Any, Push}
+use Rattle.bc_rules_defs.specs.declared.rule.Aim.TheVariants.{Gets, Jumps}
+use Rattle.bc_rules_defs.specs.Code.{root_cost}
+use Rattle.bc_select_defs.specs.declared.choice.Choice.{Choice}
+use Rattle.bc_select_defs.specs.Options.{words_of}
+use Rattle.bc_select_defs.specs.Nodes.{in_order, all_in_order, root_in_order}
+use Rattle.bc_select_defs.specs.Chosen.{chosen, chosen_words, root_choice}
+use Rattle.bc_select_defs.proofs.Words.{choices_are_least}
 use Rattle.bc_select.specs.declared.part.Part.{Part}
 use Rattle.bc_select.specs.declared.row.Row.{Row}
 use Rattle.bc_select.specs.Order.{node_at, parts_in_order}

@@ -1,6 +1,6 @@
 -- What is put behind expressions that wait.
 use Rattle.std.proofs.Common.{◌≡◌, ◌+◌, refl, ap, sym, ◌∙◌, List, [], ◌∷◌, ◌++◌, length, append-nil, append_assoc, arith}
-use Rattle.bc_derive.specs.Rules.{Tree, Trees, no_part, part, one, two, three, end_with}
+use Rattle.bc_rules_defs.specs.Rules.{Tree, Trees, no_part, part, one, two, three, end_with}
 use Rattle.bc_select.specs.declared.part.Part.{Part}
 use Rattle.bc_select.specs.declared.waiting.Waiting.{Waiting}
 use Rattle.bc_select.specs.Marks.{size}

@@ -8,13 +8,13 @@ use Rattle.bc_core.specs.Tree.{Exp, Args, count}
 use Rattle.bc_core.specs.View.{args}
 use Rattle.bc_core.specs.Operand.{operand_of, constant_of}
 use Rattle.bc_core.specs.WellFormed.{nodes, nodes_of_args}
-use Rattle.bc_derive.specs.declared.rule.Table.TheVariants.{Two}
-use Rattle.bc_derive.specs.declared.rule.Rule.TheVariants.{V2, V3}
-use Rattle.bc_least.specs.declared.choice.Choices.{Choices}
-use Rattle.bc_least.specs.declared.choice.Node.{Node}
-use Rattle.bc_least.specs.Options.{plus, words_of}
-use Rattle.bc_derive.specs.Piece.{w}
-use Rattle.bc_least.specs.Choices.{leaf_choices, number_choices, number_tests, by_value, unary_choices, cond_choices, call_choices, pair_choices, words_of_all, choices, node_of}
+use Rattle.bc_rules_defs.specs.declared.rule.Table.TheVariants.{Two}
+use Rattle.bc_rules_defs.specs.declared.rule.Rule.TheVariants.{V2, V3}
+use Rattle.bc_select_defs.specs.declared.choice.Choices.{Choices}
+use Rattle.bc_select_defs.specs.declared.choice.Node.{Node}
+use Rattle.bc_select_defs.specs.Options.{plus, words_of}
+use Rattle.bc_rules_defs.specs.Piece.{w}
+use Rattle.bc_select_defs.specs.Choices.{leaf_choices, number_choices, number_tests, by_value, unary_choices, cond_choices, call_choices, pair_choices, words_of_all, choices, node_of}
 use Rattle.bc_select.specs.declared.part.Part.{Part}
 use Rattle.bc_select.specs.declared.pair.Pair.{Pair}
 use Rattle.bc_select.specs.Vector.{node, pair_of, part_of_pair}

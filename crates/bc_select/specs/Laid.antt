@@ -1,10 +1,10 @@
 -- For proofs: nodes that end with those of an expression's parts, and the words of arguments from the last to the first.
 use Rattle.std.specs.Prelude.{◌≡◌, ℕ, ◌+◌, ◌*◌, List, ◌++◌, Option}
 use Rattle.bc_core.specs.Tree.{Exp, Args, no_argument, argument}
-use Rattle.bc_derive.specs.declared.rule.Table.TheVariants.{Two}
-use Rattle.bc_derive.specs.Piece.{w}
-use Rattle.bc_least.specs.Choices.{choices}
-use Rattle.bc_least.specs.Options.{plus, sum, words_of}
+use Rattle.bc_rules_defs.specs.declared.rule.Table.TheVariants.{Two}
+use Rattle.bc_rules_defs.specs.Piece.{w}
+use Rattle.bc_select_defs.specs.Choices.{choices}
+use Rattle.bc_select_defs.specs.Options.{plus, sum, words_of}
 use Rattle.bc_select.specs.declared.whole.Arguments.{Arguments}
 use Rattle.bc_select.specs.declared.part.Part.{Part}
 use Rattle.bc_select.specs.Small.{UpTo}

@@ -3,7 +3,7 @@ use Rattle.std.specs.Prelude.{◌≡◌, ℕ, ◌+◌, ◌*◌, ◌≤◌, ◌^�
 use Rattle.bc_core.specs.Tree.{Exp, Load, Neg, Not, Bin, Cond, Call, Args, count, Root}
 use Rattle.bc_core.specs.View.{exp}
 use Rattle.bc_core.specs.WellFormed.{nodes}
-use Rattle.bc_least.specs.Nodes.{in_order, all_in_order, root_in_order}
+use Rattle.bc_select_defs.specs.Nodes.{in_order, all_in_order, root_in_order}
 use Rattle.bc_select.specs.declared.layout.AtLevel.{AtLevel}
 use Rattle.bc_select.specs.declared.part.Part.{Part}
 use Rattle.bc_select.specs.Laid.{EndsInParts}

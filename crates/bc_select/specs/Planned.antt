@@ -1,7 +1,7 @@
 -- For proofs: the trees that a plan takes of two operands.
 use Rattle.std.specs.Prelude.{cond}
-use Rattle.bc_derive.specs.Rules.{Tree, Trees, no_part, one, two}
-use Rattle.bc_least.specs.Readings.{Readings, tree_for}
+use Rattle.bc_rules_defs.specs.Rules.{Tree, Trees, no_part, one, two}
+use Rattle.bc_select_defs.specs.Readings.{Readings, tree_for}
 use Rattle.bc_select.specs.declared.plan.Plan.{Plan}
 use Rattle.bc_select.specs.declared.plan.Plan.TheVariants.{Nothing, One, Two}
 use Rattle.bc_select.specs.declared.plan.Side.{Side}

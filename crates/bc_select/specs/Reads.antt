@@ -1,17 +1,17 @@
 -- For proofs: which trees stand below a rule.
 use Rattle.std.specs.Prelude.{ℕ, ◌+◌, Option, Some, None}
-use Rattle.bc_least.specs.declared.choice.Choice.{Choice}
-use Rattle.bc_derive.specs.declared.rule.Rule.TheVariants.{V1}
+use Rattle.bc_select_defs.specs.declared.choice.Choice.{Choice}
+use Rattle.bc_rules_defs.specs.declared.rule.Rule.TheVariants.{V1}
 use Rattle.bc_core.specs.Tree.{Exp, Load, Neg, Not, Bin, Cond, Call, count}
 use Rattle.bc_core.specs.Operand.{constant_of}
-use Rattle.bc_derive.specs.declared.rule.Table.TheVariants.{Two}
-use Rattle.bc_derive.specs.declared.rule.Mode.TheVariants.{Any, Push}
-use Rattle.bc_derive.specs.declared.rule.Aim.{Aim}
-use Rattle.bc_derive.specs.declared.rule.Aim.TheVariants.{Gets, Jumps}
-use Rattle.bc_derive.specs.declared.rule.Rule.{Rule}
-use Rattle.bc_derive.specs.Rules.{Trees}
-use Rattle.bc_least.specs.Choices.{zero_number}
-use Rattle.bc_least.specs.Readings.{push_parts, value_parts, test_parts, leaf_parts, part_parts, not_parts, pair_parts, cond_parts, call_parts, readings, readings_of_all}
+use Rattle.bc_rules_defs.specs.declared.rule.Table.TheVariants.{Two}
+use Rattle.bc_rules_defs.specs.declared.rule.Mode.TheVariants.{Any, Push}
+use Rattle.bc_rules_defs.specs.declared.rule.Aim.{Aim}
+use Rattle.bc_rules_defs.specs.declared.rule.Aim.TheVariants.{Gets, Jumps}
+use Rattle.bc_rules_defs.specs.declared.rule.Rule.{Rule}
+use Rattle.bc_rules_defs.specs.Rules.{Trees}
+use Rattle.bc_select_defs.specs.Choices.{zero_number}
+use Rattle.bc_select_defs.specs.Readings.{push_parts, value_parts, test_parts, leaf_parts, part_parts, not_parts, pair_parts, cond_parts, call_parts, readings, readings_of_all}
 
 -- the parts that an expression's own rules have
 abbrev pub own_parts : Exp → ℕ → Aim → Rule → Trees

@@ -1,11 +1,11 @@
 -- What the row of a node says.
 use Rattle.std.specs.Prelude.{ℕ, List, [], ◌∷◌, true, false, Option}
 use Rattle.bc_core.specs.Tree.{Exp}
-use Rattle.bc_derive.specs.declared.rule.Table.TheVariants.{Two}
-use Rattle.bc_derive.specs.declared.rule.Mode.TheVariants.{Any, Push}
-use Rattle.bc_derive.specs.declared.rule.Aim.TheVariants.{Gets, Jumps}
-use Rattle.bc_derive.specs.declared.rule.Rule.{Rule}
-use Rattle.bc_least.specs.Least.{AreLeastWords, IsLeastRule}
+use Rattle.bc_rules_defs.specs.declared.rule.Table.TheVariants.{Two}
+use Rattle.bc_rules_defs.specs.declared.rule.Mode.TheVariants.{Any, Push}
+use Rattle.bc_rules_defs.specs.declared.rule.Aim.TheVariants.{Gets, Jumps}
+use Rattle.bc_rules_defs.specs.declared.rule.Rule.{Rule}
+use Rattle.bc_select_defs.specs.Least.{AreLeastWords, IsLeastRule}
 use Rattle.bc_select.specs.declared.row.Row.{Row}
 
 -- the least words of an expression at a level: as a value, pushed, as a jump on false, as a jump on true

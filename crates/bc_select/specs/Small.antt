@@ -1,7 +1,7 @@
 -- For proofs: words that are far from any bound of the machine's numbers.
 use Rattle.std.specs.Prelude.{ℕ, ◌<◌, ◌≤◌, ◌^◌, Option, Some, None}
-use Rattle.bc_least.specs.declared.choice.Choices.{Choices}
-use Rattle.bc_least.specs.Options.{words_of}
+use Rattle.bc_select_defs.specs.declared.choice.Choices.{Choices}
+use Rattle.bc_select_defs.specs.Options.{words_of}
 
 abbrev pub Small : Option ℕ → Type 0
 Small None = Unit {0}

@@ -1,10 +1,10 @@
 -- For proofs: the nodes of an expression as one list, parts before wholes.
 use Rattle.std.specs.Prelude.{ℕ, ◌+◌, List, [], ◌∷◌, ◌++◌, ◌||◌, Option}
 use Rattle.bc_core.specs.Tree.{Exp, Load, Neg, Not, Bin, Cond, Call, Args, no_argument, argument, count}
-use Rattle.bc_derive.specs.declared.rule.Table.TheVariants.{Two}
+use Rattle.bc_rules_defs.specs.declared.rule.Table.TheVariants.{Two}
 use Rattle.bc_core.specs.Value.{has_call}
 use Rattle.bc_core.specs.WellFormed.{nodes}
-use Rattle.bc_least.specs.Choices.{choices, node_of, pair_choices}
+use Rattle.bc_select_defs.specs.Choices.{choices, node_of, pair_choices}
 use Rattle.bc_core.specs.declared.operands.Operand.{Operand}
 use Rattle.bc_word.specs.declared.operator.Op.{Op}
 use Rattle.bc_select.specs.declared.pair.Pair.{Pair}

@@ -2,10 +2,10 @@
 use Rattle.std.specs.Prelude.{◌≡◌, ◌+◌, ◌*◌, ◌≤◌, ◌^◌, List, [], ◌∷◌, ◌++◌}
 use Rattle.bc_core.specs.View.{exp}
 use Rattle.bc_core.specs.WellFormed.{nodes}
-use Rattle.bc_derive.specs.declared.rule.Table.TheVariants.{Two}
-use Rattle.bc_derive.specs.Rules.{Tree, Trees, no_part, part}
-use Rattle.bc_least.specs.Choices.{choice_for, choices}
-use Rattle.bc_least.specs.Readings.{tree_for, readings}
+use Rattle.bc_rules_defs.specs.declared.rule.Table.TheVariants.{Two}
+use Rattle.bc_rules_defs.specs.Rules.{Tree, Trees, no_part, part}
+use Rattle.bc_select_defs.specs.Choices.{choice_for, choices}
+use Rattle.bc_select_defs.specs.Readings.{tree_for, readings}
 use Rattle.bc_select.specs.declared.part.Part.{Part}
 use Rattle.bc_select.specs.declared.waiting.Waiting.{Waiting}
 use Rattle.bc_select.specs.Ends.{EndsAt}

@@ -1,16 +1,16 @@
 // Words of candidates, and the least of them.
-#![tactic(auto, unfolding(bc_least::specs::Options::plus, bc_least::specs::Options::more, bc_least::specs::Options::sum, bc_least::specs::Options::operand_cost, bc_least::specs::Options::better, bc_least::specs::Choices::number_cost))]
+#![tactic(auto, unfolding(bc_select_defs::specs::Options::plus, bc_select_defs::specs::Options::more, bc_select_defs::specs::Options::sum, bc_select_defs::specs::Options::operand_cost, bc_select_defs::specs::Options::better, bc_select_defs::specs::Choices::number_cost))]
 
 ghost use Rattle.std.specs.Prelude.{◌≡◌, ◌<◌, ◌≤◌, ◌+◌, ◌==◌, ◌^◌};
 ghost use Rattle.bc_word.specs.Words.{number_of};
-ghost use Rattle.bc_derive.specs.Piece.{w, operand_words as words_of_operand};
-ghost use Rattle.bc_least.specs.Options.{plus as plus_of, more, sum as sum_of, operand_cost, words_of, better as better_of};
-ghost use Rattle.bc_least.specs.Choices.{number_cost as cost_of_number};
+ghost use Rattle.bc_rules_defs.specs.Piece.{w, operand_words as words_of_operand};
+ghost use Rattle.bc_select_defs.specs.Options.{plus as plus_of, more, sum as sum_of, operand_cost, words_of, better as better_of};
+ghost use Rattle.bc_select_defs.specs.Choices.{number_cost as cost_of_number};
 ghost use Rattle.bc_select.specs.Small.{Small};
 
 use bc_core::{Base, Operand};
-use bc_derive::Rule;
-use bc_least::Choice;
+use bc_rules_defs::Rule;
+use bc_select_defs::Choice;
 use bc_word::{Op, Word};
 
 /// The words that a number takes in an instruction.

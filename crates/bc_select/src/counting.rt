@@ -3,7 +3,7 @@
 ghost use Rattle.std.specs.Prelude.{◌≡◌, ◌≤◌, ◌<◌, ◌+◌, ◌^◌, ◌↔◌, IsTrue};
 ghost use Rattle.bc_core.specs.View.{exp, args, root as root_of};
 ghost use Rattle.bc_core.specs.WellFormed.{nodes as nodes_in, nodes_of_args};
-ghost use Rattle.bc_least.specs.Nodes.{root_nodes};
+ghost use Rattle.bc_select_defs.specs.Nodes.{root_nodes};
 ghost use Rattle.bc_select.specs.Counted.{Counts};
 
 use bc_core::{CoreExp, Root};

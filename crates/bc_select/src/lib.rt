@@ -18,7 +18,7 @@ mod tree;
 mod waiting;
 mod whole;
 
-pub use bc_derive::{Derivation, Rule};
+pub use bc_rules_defs::{Derivation, Rule};
 pub use counting::is_selectable;
 pub use row::Row;
 pub use selection::{Selected, rows, select};

@@ -2,8 +2,8 @@
 // trees are made from the end of that list, the first part first. So neither takes stack for the depth of the tree.
 
 ghost use Rattle.std.specs.Prelude.{◌≡◌, IfOk, OnOk};
-ghost use Rattle.bc_derive.specs.View.{derivations};
-ghost use Rattle.bc_derive.specs.Rules.{Trees};
+ghost use Rattle.bc_rules_defs.specs.View.{derivations};
+ghost use Rattle.bc_rules_defs.specs.Rules.{Trees};
 ghost use Rattle.bc_select.specs.Marks.{marks_of_all, close as closed};
 ghost use Rattle.bc_select.specs.Waiting.{AreReady, trees_of};
 
@@ -11,7 +11,7 @@ use crate::reading::parts;
 use crate::table::Nodes;
 use crate::tree::tree;
 use crate::waiting::Waiting;
-use bc_derive::{Derivation, Rule};
+use bc_rules_defs::{Derivation, Rule};
 use bc_word::Memory;
 use std::alloc::Global;
 

@@ -1,14 +1,14 @@
 // The choices of a binary operator, from those of its operands.
-#![tactic(auto, unfolding(bc_least::specs::Options::given, bc_least::specs::Options::better, bc_least::specs::Options::least_from))]
+#![tactic(auto, unfolding(bc_select_defs::specs::Options::given, bc_select_defs::specs::Options::better, bc_select_defs::specs::Options::least_from))]
 
 ghost use Rattle.std.specs.Prelude.{◌≡◌, ◌<◌, ◌≤◌, ◌+◌, ◌^◌, ◌∷◌, ◌++◌, None, true, false};
-ghost use Rattle.bc_derive.specs.declared.rule.Table.TheVariants.{Two};
-ghost use Rattle.bc_derive.specs.declared.rule.Rule.TheVariants.{V0, J6};
+ghost use Rattle.bc_rules_defs.specs.declared.rule.Table.TheVariants.{Two};
+ghost use Rattle.bc_rules_defs.specs.declared.rule.Rule.TheVariants.{V0, J6};
 ghost use Rattle.bc_word.specs.declared.operator.Op.TheVariants.{Add, Subtract};
-ghost use Rattle.bc_derive.specs.Free.{direct_operand};
-ghost use Rattle.bc_least.specs.Options.{least_from as least_of, better as better_of, plus as plus_of, words_of, given as given_of, only as only_of, candidate};
-ghost use Rattle.bc_least.specs.Choices.{zero_number, beside as beside_of, free as are_free, mixed as mixed_of, worked as worked_of, pair_tests as tests_of, pair_choices as choices_of};
-ghost use Rattle.bc_least.specs.Chosen.{assign_choice as assignment_of};
+ghost use Rattle.bc_rules_defs.specs.Free.{direct_operand};
+ghost use Rattle.bc_select_defs.specs.Options.{least_from as least_of, better as better_of, plus as plus_of, words_of, given as given_of, only as only_of, candidate};
+ghost use Rattle.bc_select_defs.specs.Choices.{zero_number, beside as beside_of, free as are_free, mixed as mixed_of, worked as worked_of, pair_tests as tests_of, pair_choices as choices_of};
+ghost use Rattle.bc_select_defs.specs.Chosen.{assign_choice as assignment_of};
 ghost use Rattle.bc_select.specs.Small.{Small, AreSmall};
 
 use crate::candidates::{
@@ -16,8 +16,8 @@ use crate::candidates::{
     with_operand, with_operand_and, words,
 };
 use bc_core::Operand;
-use bc_derive::Rule;
-use bc_least::{Choice, Choices, Node};
+use bc_rules_defs::Rule;
+use bc_select_defs::{Choice, Choices, Node};
 use bc_word::{Op, Word, mirror};
 
 /// A binary operator at a level, with its operands.

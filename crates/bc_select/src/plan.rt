@@ -1,10 +1,10 @@
 // Which parts a rule takes of two operands.
 
 ghost use Rattle.std.specs.Prelude.{◌≡◌, true, false};
-ghost use Rattle.bc_least.specs.Readings.{Readings, pair_parts};
+ghost use Rattle.bc_select_defs.specs.Readings.{Readings, pair_parts};
 ghost use Rattle.bc_select.specs.Planned.{planned};
 
-use bc_derive::{Aim, Mode, Rule};
+use bc_rules_defs::{Aim, Mode, Rule};
 
 /// An operand, and what its code is for.
 #[derive(Clone, Copy)]

@@ -4,14 +4,14 @@ ghost use Rattle.std.specs.Prelude.{◌≡◌, ℕ, List, ◌≤◌, ◌+◌, �
 ghost use Rattle.bc_core.specs.Tree as tree;
 ghost use Rattle.bc_core.specs.View.{exp, args};
 ghost use Rattle.bc_core.specs.WellFormed.{nodes as nodes_in, nodes_of_args};
-ghost use Rattle.bc_derive.specs.declared.rule.Table.TheVariants.{Two};
-ghost use Rattle.bc_derive.specs.Rules.{end_with, one as one_tree};
-ghost use Rattle.bc_least.specs.Readings.{tree_for, readings, readings_of_all, pair_parts, cond_parts, turned as turned_of};
+ghost use Rattle.bc_rules_defs.specs.declared.rule.Table.TheVariants.{Two};
+ghost use Rattle.bc_rules_defs.specs.Rules.{end_with, one as one_tree};
+ghost use Rattle.bc_select_defs.specs.Readings.{tree_for, readings, readings_of_all, pair_parts, cond_parts, turned as turned_of};
 ghost use Rattle.bc_core.specs.Tree.{Exp, count};
 ghost use Rattle.bc_select.specs.Planned.{side as side_of};
-ghost use Rattle.bc_least.specs.Choices.{zero_number};
+ghost use Rattle.bc_select_defs.specs.Choices.{zero_number};
 ghost use Rattle.bc_core.specs.Operand.{constant_of};
-ghost use Rattle.bc_least.specs.Chosen.{assign_parts};
+ghost use Rattle.bc_select_defs.specs.Chosen.{assign_parts};
 ghost use Rattle.bc_select.specs.Ends.{EndsAt};
 ghost use Rattle.bc_select.specs.Waiting.{Added};
 ghost use Rattle.bc_select.specs.declared.part.Part.{Part};
@@ -23,7 +23,7 @@ use crate::plan::{Plan, Side, sides};
 use crate::table::Nodes;
 use crate::waiting::{Place, Step, Waiting, wait};
 use bc_core::{CoreExp, constant};
-use bc_derive::{Aim, Mode, Rule};
+use bc_rules_defs::{Aim, Mode, Rule};
 use bc_word::Memory;
 
 pub const ANY: Aim = Aim::Gets(Mode::Any);

@@ -1,12 +1,12 @@
 ghost use Rattle.std.specs.Prelude.{◌≡◌, List, ◌∷◌, [], ◌++◌};
 ghost use Rattle.bc_select.specs.Row.{row_of, rules_of, choice_in};
 ghost use Rattle.bc_select.specs.Reads.{rule_or_v1};
-ghost use Rattle.bc_least.specs.Options.{rule_of};
-ghost use Rattle.bc_least.specs.Choices.{choice_for as choice_of};
+ghost use Rattle.bc_select_defs.specs.Options.{rule_of};
+ghost use Rattle.bc_select_defs.specs.Choices.{choice_for as choice_of};
 
 use crate::candidates::any_words;
-use bc_derive::{Aim, Mode, Rule};
-use bc_least::{Choice, Choices};
+use bc_rules_defs::{Aim, Mode, Rule};
+use bc_select_defs::{Choice, Choices};
 
 /// The least words of a node for each aim, and the least rule that gives them: as a value, as a value
 /// that is pushed, as a jump on false, as a jump on true. There is none where there is no derivation.

@@ -2,14 +2,14 @@
 
 ghost use Rattle.std.specs.Prelude.{◌≡◌, ℕ, List, ◌++◌};
 ghost use Rattle.bc_core.specs.Tree.{Exp};
-ghost use Rattle.bc_least.specs.Choices.{choice_for as choice_of};
+ghost use Rattle.bc_select_defs.specs.Choices.{choice_for as choice_of};
 ghost use Rattle.bc_select.specs.Vector.{node, vector};
 ghost use Rattle.bc_select.specs.Cut.{IsCut};
 
 use crate::part::Part;
 use crate::table::Nodes;
-use bc_derive::{Aim, Mode};
-use bc_least::{Choice, Choices};
+use bc_rules_defs::{Aim, Mode};
+use bc_select_defs::{Choice, Choices};
 
 /// The choice for an aim.
 pub fn choice_for(choices: &Choices, aim: Aim) -> Option<Choice>

@@ -1,13 +1,13 @@
 // The nodes of expressions in two vectors: their rows, and what their wholes ask besides.
 
 ghost use Rattle.std.specs.Prelude.{◌≡◌, ◌≤◌, ◌+◌, ◌++◌, ◌∷◌, [], List, IfOk, OnOk, length, map, take, drop};
-ghost use Rattle.bc_least.specs.Choices.{choice_for as choice_of};
+ghost use Rattle.bc_select_defs.specs.Choices.{choice_for as choice_of};
 ghost use Rattle.bc_select.specs.Reads.{rule_or_v1};
 ghost use Rattle.bc_select.specs.Row.{row_of_part};
 
 use crate::part::Part;
 use crate::row::{Row, last_choices, row_from, rule_for, rules_from};
-use bc_derive::{Aim, Rule};
+use bc_rules_defs::{Aim, Rule};
 use bc_word::Memory;
 use std::alloc::Global;
 use std::marker::Model;

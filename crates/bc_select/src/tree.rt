@@ -1,10 +1,10 @@
 // Trees of rules, made from their parts.
 
 ghost use Rattle.std.specs.Prelude.{◌≡◌};
-ghost use Rattle.bc_derive.specs.View.{derivation, derivations};
-ghost use Rattle.bc_derive.specs.Rules.{by};
+ghost use Rattle.bc_rules_defs.specs.View.{derivation, derivations};
+ghost use Rattle.bc_rules_defs.specs.Rules.{by};
 
-use bc_derive::{Derivation, Rule};
+use bc_rules_defs::{Derivation, Rule};
 
 /// A rule over its parts.
 #[tactic(auto, using(crate::proofs::Trees::tree_view))]

@@ -3,16 +3,16 @@
 ghost use Rattle.std.specs.Prelude.{◌≡◌, ◌≤◌, ◌+◌, ◌*◌, ◌^◌, OnOk};
 ghost use Rattle.bc_core.specs.View.{exp};
 ghost use Rattle.bc_core.specs.WellFormed.{nodes as nodes_in};
-ghost use Rattle.bc_derive.specs.declared.rule.Table.TheVariants.{Two};
-ghost use Rattle.bc_derive.specs.Rules.{one as one_tree};
-ghost use Rattle.bc_least.specs.Readings.{tree_for, readings};
+ghost use Rattle.bc_rules_defs.specs.declared.rule.Table.TheVariants.{Two};
+ghost use Rattle.bc_rules_defs.specs.Rules.{one as one_tree};
+ghost use Rattle.bc_select_defs.specs.Readings.{tree_for, readings};
 ghost use Rattle.bc_select.specs.Ends.{EndsAt};
 ghost use Rattle.bc_select.specs.Vector.{vector};
 ghost use Rattle.bc_select.specs.Waiting.{Added};
 
 use crate::table::Nodes;
 use bc_core::CoreExp;
-use bc_derive::{Aim, Rule};
+use bc_rules_defs::{Aim, Rule};
 use bc_word::Memory;
 
 /// The level of an expression, and where its nodes end: behind so many of the root's.

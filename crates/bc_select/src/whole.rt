@@ -5,9 +5,9 @@ ghost use Rattle.bc_core.specs.Tree as tree;
 ghost use Rattle.bc_core.specs.View.{exp, args};
 ghost use Rattle.bc_core.specs.Operand.{operand_of, constant_of};
 ghost use Rattle.bc_core.specs.WellFormed.{nodes as nodes_in, nodes_of_args};
-ghost use Rattle.bc_derive.specs.declared.rule.Table.TheVariants.{Two};
-ghost use Rattle.bc_least.specs.Choices.{pair_choices as choices_of_pair, unary_choices as unary_of, not_choices as not_of, cond_choices as cond_of, call_choices as call_of};
-ghost use Rattle.bc_least.specs.Options.{words_of};
+ghost use Rattle.bc_rules_defs.specs.declared.rule.Table.TheVariants.{Two};
+ghost use Rattle.bc_select_defs.specs.Choices.{pair_choices as choices_of_pair, unary_choices as unary_of, not_choices as not_of, cond_choices as cond_of, call_choices as call_of};
+ghost use Rattle.bc_select_defs.specs.Options.{words_of};
 ghost use Rattle.bc_select.specs.Laid.{EndsInParts, EndsInArguments, AreFew, words_before};
 ghost use Rattle.bc_select.specs.Vector.{node as node_of, part_of_pair};
 ghost use Rattle.bc_select.specs.Small.{Small, AreSmall};
@@ -22,8 +22,8 @@ use crate::part::{Part, cell_operand, own_operand};
 use crate::split::{cut, last};
 use crate::table::Nodes;
 use bc_core::{CoreExp, Operand, constant};
-use bc_derive::Rule;
-use bc_least::{Choices, Node};
+use bc_rules_defs::Rule;
+use bc_select_defs::{Choices, Node};
 use bc_word::Op;
 
 /// Arguments of a call: the words of them all, each stored in its cell, and how many nodes they have.

@@ -4,12 +4,12 @@ use Rattle.std.proofs.lemmas.Bool.Decides.{nat_tests}
 use Rattle.std.proofs.lemmas.Bool.{le-ltb}
 use Rattle.std.specs.Char.{is_ascii_digit}
 use Rattle.std.specs.Str.{all_ascii_digits}
-use Rattle.bc_item.specs.declared.item.Item.{Item}
-use Rattle.bc_item.specs.declared.item.Item.TheVariants as items
-use Rattle.bc_item.specs.declared.item.Base.{Base}
-use Rattle.bc_item.specs.declared.item.Base.TheVariants as bases
-use Rattle.bc_item.specs.declared.item.Function.{Function}
-use Rattle.bc_item.specs.declared.item.Function.TheVariants as functions
+use Rattle.bc_text_items.specs.declared.item.Item.{Item}
+use Rattle.bc_text_items.specs.declared.item.Item.TheVariants as items
+use Rattle.bc_text_items.specs.declared.item.Base.{Base}
+use Rattle.bc_text_items.specs.declared.item.Base.TheVariants as bases
+use Rattle.bc_text_items.specs.declared.item.Function.{Function}
+use Rattle.bc_text_items.specs.declared.item.Function.TheVariants as functions
 use Rattle.bc_text.specs.Numbers.{value_from, IsNumber, IsSignedNumber}
 use Rattle.bc_text.specs.Letters.{letter, indirection, base_letter, operation_letters, is_blank}
 use Rattle.bc_text.specs.Spelling.{Spells, IsOperationNumber}

@@ -1,9 +1,9 @@
 -- Worked examples of the definitions: texts, their spellings and their faults.
 use Rattle.std.proofs.Common.{◌≡◌, [], ◌∷◌, inl, inr, refl, true, false, codes, arith}
-use Rattle.bc_item.specs.declared.item.Item.{Item}
-use Rattle.bc_item.specs.declared.item.Item.TheVariants.{Label, DataLabel, Operation, Global}
-use Rattle.bc_item.specs.declared.item.Base.TheVariants as bases
-use Rattle.bc_item.specs.declared.item.Function.TheVariants as functions
+use Rattle.bc_text_items.specs.declared.item.Item.{Item}
+use Rattle.bc_text_items.specs.declared.item.Item.TheVariants.{Label, DataLabel, Operation, Global}
+use Rattle.bc_text_items.specs.declared.item.Base.TheVariants as bases
+use Rattle.bc_text_items.specs.declared.item.Function.TheVariants as functions
 use Rattle.bc_text.specs.Numbers.{value_of_digits, IsNumber, IsSignedNumber}
 use Rattle.bc_text.specs.Spelling.{Spells}
 use Rattle.bc_text.specs.Texts.{IsText, nothing, blank, comment, item, segment_end}

@@ -5,8 +5,8 @@ use Rattle.std.proofs.lemmas.Bool.{lt-ltb, eqb-true}
 use Rattle.std.specs.Char.{is_ascii_digit}
 use Rattle.std.specs.Str.{all_ascii_digits}
 use Rattle.std.specs.List.{list_any}
-use Rattle.bc_item.specs.declared.item.Item.{Item}
-use Rattle.bc_item.specs.declared.item.Base.TheVariants as bases
+use Rattle.bc_text_items.specs.declared.item.Item.{Item}
+use Rattle.bc_text_items.specs.declared.item.Base.TheVariants as bases
 use Rattle.bc_text.specs.Numbers.{value_from, value_of_digits}
 use Rattle.bc_text.specs.Letters.{is_blank}
 use Rattle.bc_text.specs.Heads.{IsHead, allows, limit}

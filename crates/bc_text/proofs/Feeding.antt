@@ -4,7 +4,7 @@ use Rattle.std.proofs.lemmas.List.{take_more, take_all}
 use Rattle.std.proofs.lemmas.Grind.{flat_map-append}
 use Rattle.std.specs.Borrow.{Bor}
 use Rattle.std.specs.declared.alloc.Global.{Global}
-use Rattle.bc_item.specs.declared.item.Item.{Item}
+use Rattle.bc_text_items.specs.declared.item.Item.{Item}
 use Rattle.bc_text.specs.Faults.{HasFault, IsFaultOf}
 use Rattle.bc_text.specs.Steps.{Progress, start, run, on_ok, answer_of}
 use Rattle.bc_text.specs.Reading.{HasRead, HasFailed, IsAnswer, IsAnswerAtEnd, Feeds, Finishes, IsWholeAnswer, IsOnly, IsRefused, bytes_of}

@@ -5,7 +5,7 @@ use Rattle.std.proofs.lemmas.List.{take_min, take_all, take-append-le, take_more
 use Rattle.std.proofs.lemmas.Grind.{flat_map-append}
 use Rattle.std.proofs.KnownBytes.{Appends-trans}
 use Rattle.std.specs.Io.KnownBytes.{Appends}
-use Rattle.bc_item.specs.declared.item.Item.{Item}
+use Rattle.bc_text_items.specs.declared.item.Item.{Item}
 use Rattle.bc_text.specs.Printed.{line, printed_segment, AppendsFront}
 
 -- the slice of the bytes that are left is what is behind the first n

@@ -6,10 +6,10 @@ use Rattle.std.specs.List.{AllByRecursion}
 use Rattle.std.specs.Fmt.{decimal}
 use Rattle.std.specs.Char.{is_ascii_digit}
 use Rattle.std.specs.Str.{all_ascii_digits}
-use Rattle.bc_item.specs.declared.item.Item.{Item}
-use Rattle.bc_item.specs.declared.item.Item.TheVariants as items
-use Rattle.bc_item.specs.declared.item.Base.{Base}
-use Rattle.bc_item.specs.declared.item.Base.TheVariants as bases
+use Rattle.bc_text_items.specs.declared.item.Item.{Item}
+use Rattle.bc_text_items.specs.declared.item.Item.TheVariants as items
+use Rattle.bc_text_items.specs.declared.item.Base.{Base}
+use Rattle.bc_text_items.specs.declared.item.Base.TheVariants as bases
 use Rattle.bc_text.specs.Numbers.{value_of_digits, IsNumber}
 use Rattle.bc_text.specs.Spelling.{Spells, IsOperationNumber}
 use Rattle.bc_text.specs.Texts.{Begins, Element, an_item, end_of_segment, elements_of, nothing, blank, item, segment_end}

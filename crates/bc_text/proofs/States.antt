@@ -1,6 +1,6 @@
 -- States of the reader, with the true count of bytes.
 use Rattle.std.proofs.Common.{◌≡◌, ℕ, ◌+◌, List, [], ◌∷◌, ◌++◌, Result, Ok, Err, refl, ap, ◌∙◌, arith}
-use Rattle.bc_item.specs.declared.item.Item.{Item}
+use Rattle.bc_text_items.specs.declared.item.Item.{Item}
 use Rattle.bc_text.specs.Steps.{Progress, step, run, on_ok, at_place, answer, answer_of}
 use Rattle.bc_text.specs.Faults.{capped}
 use Rattle.bc_text.specs.declared.head.Place.{Place}

@@ -1,6 +1,6 @@
 -- Laws of texts and their faults, by what reading them answers.
 use Rattle.std.proofs.Common.{◌≡◌, ◌⊎◌, inl, inr, ℕ, List, Result, Ok, Err, refl, sym, ◌∙◌}
-use Rattle.bc_item.specs.declared.item.Item.{Item}
+use Rattle.bc_text_items.specs.declared.item.Item.{Item}
 use Rattle.bc_text.specs.Texts.{GoesOn}
 use Rattle.bc_text.specs.Faults.{HasFault}
 use Rattle.bc_text.specs.Laws.{IsOneText, HasOneFault, IsTextOrFault, IsFirst}

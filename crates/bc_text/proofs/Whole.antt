@@ -1,6 +1,6 @@
 -- What a run from the beginning says of its bytes, in both directions.
 use Rattle.std.proofs.Common.{◌≡◌, inl, inr, ℕ, List, [], ◌∷◌, ◌++◌, Result, Ok, Err, Bool, refl, sym, ap, subst, ◌∙◌, append_assoc, append-nil}
-use Rattle.bc_item.specs.declared.item.Item.{Item}
+use Rattle.bc_text_items.specs.declared.item.Item.{Item}
 use Rattle.bc_text.specs.Texts.{Begins, IsText, GoesOn, elements_of, nothing, comment}
 use Rattle.bc_text.specs.Faults.{HasFault, IsUnended, IsFaultOf}
 use Rattle.bc_text.specs.Steps.{Progress, start, step, run, on_ok, finished, finished_at, answer, answer_of}

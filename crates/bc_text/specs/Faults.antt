@@ -3,7 +3,7 @@ use Rattle.std.specs.Prelude.{ℕ, ◌+◌, ◌-◌, ◌^◌, ◌≡◌, ◌≢�
 use Rattle.std.specs.Char.{is_ascii_digit}
 use Rattle.std.specs.Str.{all_ascii_digits}
 use Rattle.std.specs.List.{list_any}
-use Rattle.bc_item.specs.declared.item.Item.{Item}
+use Rattle.bc_text_items.specs.declared.item.Item.{Item}
 use Rattle.bc_text.specs.Numbers.{IsNumber, value_of_digits}
 use Rattle.bc_text.specs.Letters.{is_blank}
 use Rattle.bc_text.specs.Texts.{Element, Begins, IsText, GoesOn}

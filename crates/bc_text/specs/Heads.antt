@@ -1,7 +1,7 @@
 -- What an item has in front of its last number: which bytes may stand behind it, and which numbers.
 use Rattle.std.specs.Prelude.{ℕ, ◌==◌, ◌≡◌, List, [], ◌∷◌, ◌++◌, Bool, true, false}
 use Rattle.std.specs.List.{list_any}
-use Rattle.bc_item.specs.declared.item.Base.TheVariants as bases
+use Rattle.bc_text_items.specs.declared.item.Base.TheVariants as bases
 use Rattle.bc_text.specs.Numbers.{IsNumber}
 use Rattle.bc_text.specs.Letters.{operation_letters}
 use Rattle.bc_text.specs.declared.head.Head.{Head}

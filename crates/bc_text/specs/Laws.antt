@@ -1,6 +1,6 @@
 -- What holds of texts and their faults.
 use Rattle.std.specs.Prelude.{ℕ, ◌≡◌, ◌⊎◌, List, ◌++◌}
-use Rattle.bc_item.specs.declared.item.Item.{Item}
+use Rattle.bc_text_items.specs.declared.item.Item.{Item}
 use Rattle.bc_text.specs.Texts.{IsText, GoesOn}
 use Rattle.bc_text.specs.Faults.{HasFault, IsFaultOf}
 use Rattle.bc_text.specs.declared.text_error.TextError.{TextError}

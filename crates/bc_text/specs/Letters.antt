@@ -1,9 +1,9 @@
 -- The letters and signs of INTCODE text, as bytes.
 use Rattle.std.specs.Prelude.{ℕ, List, [], ◌∷◌, ◌++◌, Bool, true, false, ◌==◌, ◌||◌}
-use Rattle.bc_item.specs.declared.item.Base.{Base}
-use Rattle.bc_item.specs.declared.item.Base.TheVariants as bases
-use Rattle.bc_item.specs.declared.item.Function.{Function}
-use Rattle.bc_item.specs.declared.item.Function.TheVariants as functions
+use Rattle.bc_text_items.specs.declared.item.Base.{Base}
+use Rattle.bc_text_items.specs.declared.item.Base.TheVariants as bases
+use Rattle.bc_text_items.specs.declared.item.Function.{Function}
+use Rattle.bc_text_items.specs.declared.item.Function.TheVariants as functions
 
 -- the letter of a function: L S A J T F K X
 abbrev pub letter : Function → ℕ

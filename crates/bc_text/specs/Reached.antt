@@ -1,7 +1,7 @@
 -- For proofs: how the steps of the reader show in its code.
 use Rattle.std.specs.Prelude.{◌≡◌, ◌⊎◌, List, Result, Ok, Err, Vec}
 use Rattle.std.specs.declared.alloc.Global.{Global}
-use Rattle.bc_item.specs.declared.item.Item.{Item}
+use Rattle.bc_text_items.specs.declared.item.Item.{Item}
 use Rattle.bc_text.specs.Steps as steps
 use Rattle.bc_text.specs.declared.progress.Progress.{Progress}
 use Rattle.bc_text.specs.declared.text_error.TextError.{TextError}

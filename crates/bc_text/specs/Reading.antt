@@ -2,7 +2,7 @@
 use Rattle.std.specs.Prelude.{ℕ, ◌≡◌, ◌⊎◌, List, flat_map, Vec, Option, Some, None, Result, Ok, Err, MatchResult}
 use Rattle.std.specs.declared.alloc.Global.{Global}
 use Rattle.std.specs.Borrow.{Bor}
-use Rattle.bc_item.specs.declared.item.Item.{Item}
+use Rattle.bc_text_items.specs.declared.item.Item.{Item}
 use Rattle.bc_text.specs.Texts.{IsText, GoesOn}
 use Rattle.bc_text.specs.Faults.{HasFault, IsFaultOf}
 use Rattle.bc_text.specs.Steps.{Progress, start, run, finished}

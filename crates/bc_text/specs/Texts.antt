@@ -1,7 +1,7 @@
 -- INTCODE texts, as a relation between bytes and segments.
 use Rattle.std.specs.Prelude.{ℕ, ◌≡◌, ◌≢◌, List, [], ◌∷◌, ◌++◌, map, true, false}
 use Rattle.std.specs.Char.{is_ascii_digit}
-use Rattle.bc_item.specs.declared.item.Item.{Item}
+use Rattle.bc_text_items.specs.declared.item.Item.{Item}
 use Rattle.bc_text.specs.Letters.{is_blank}
 use Rattle.bc_text.specs.Spelling.{Spells}
 

@@ -1,4 +1,4 @@
-use bc_item::{Base, Function, GlobalNumber, Item};
+use bc_text_items::{Base, Function, GlobalNumber, Item};
 
 /// What an item has in front of its last number, and so which item it is once the number is there.
 #[derive(Clone, Copy, Debug, PartialEq, Eq)]

@@ -2,7 +2,7 @@
 //! nothing: a proof cites it by the function's name, and a program that calls it gets no code.
 
 ghost use Rattle.std.specs.Prelude.{List, ℕ};
-ghost use Rattle.bc_item.specs.declared.item.Item.{Item};
+ghost use Rattle.bc_text_items.specs.declared.item.Item.{Item};
 ghost use Rattle.bc_text.specs.declared.text_error.TextError.{TextError};
 ghost use Rattle.bc_text.specs.Laws.{IsOneText, HasOneFault, IsTextOrFault, IsFirst};
 ghost use Rattle.bc_text.specs.Printed.{ReadsBack};

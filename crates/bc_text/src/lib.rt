@@ -9,7 +9,7 @@ mod progress;
 mod reader;
 mod text_error;
 
-pub use bc_item::{Base, Function, GlobalNumber, Item, Segment};
+pub use bc_text_items::{Base, Function, GlobalNumber, Item, Segment};
 pub use printing::print;
 pub use reader::{Reader, read_all};
 pub use text_error::TextError;

@@ -8,7 +8,7 @@ ghost use Rattle.bc_text.specs.Steps.{head_of, longer, greatest, with_digit, beh
 
 use crate::head::{Ended, Head, Place};
 use crate::text_error::TextError;
-use bc_item::{Base, Function, GlobalNumber, Item};
+use bc_text_items::{Base, Function, GlobalNumber, Item};
 use bc_word::Word;
 
 /// Whether the byte separates items and is none of a comment's.

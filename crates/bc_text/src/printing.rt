@@ -9,7 +9,7 @@ ghost use Rattle.bc_text.specs.Printed.{line, printed_segment, AppendsFront};
 
 use crate::text_error::TextError;
 use arrayvec::ArrayString;
-use bc_item::{Base, Function, Item, Segment};
+use bc_text_items::{Base, Function, Item, Segment};
 use itoa::Buffer;
 use std::io::Write;
 

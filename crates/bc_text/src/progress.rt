@@ -6,7 +6,7 @@ ghost use Rattle.bc_text.specs.Steps.{is_in_range, start, step, run, finished, b
 use crate::head::{Ended, Place};
 use crate::place::{behind_global, behind_head, behind_minus, between, ended_number, with_digit};
 use crate::text_error::TextError;
-use bc_item::{Item, Segment};
+use bc_text_items::{Item, Segment};
 use std::alloc::Global;
 use std::mem;
 

@@ -3,7 +3,7 @@ ghost use Rattle.bc_text.specs.Reading.{HasRead, HasFailed, IsAnswer, IsAnswerAt
 
 use crate::progress::Progress;
 use crate::text_error::TextError;
-use bc_item::Segment;
+use bc_text_items::Segment;
 use std::alloc::Global;
 use std::marker::Model;
 

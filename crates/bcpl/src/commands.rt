@@ -1,7 +1,7 @@
 //! The commands.
 
 ghost use Rattle.std.specs.Prelude.{◌≡◌, ◌≢◌, ◌≤◌, Err, IfOk, IfErr};
-ghost use Rattle.bc_step.specs.declared.state.End.TheVariants.{Finished, Device};
+ghost use Rattle.bc_machine_defs.specs.declared.state.End.TheVariants.{Finished, Device};
 ghost use Rattle.bcpl.specs.Statuses.{status_of};
 ghost use Rattle.bcpl.specs.declared.failure.Failure.TheVariants as failures;
 
@@ -13,8 +13,8 @@ use crate::failure::Failure;
 use crate::loading::image_of;
 use crate::output::print_words;
 use bc_machine::{FileStreams, Machine, Named};
+use bc_machine_defs::End;
 use bc_run::{RunFault, run_text};
-use bc_step::End;
 use std::alloc::Global;
 use std::fs;
 use std::io::{BufReader, BufWriter, Read, Write};

@@ -11,7 +11,7 @@ use bc_build::BuildError;
 use bc_cert::{CheckFault, Mismatch};
 use bc_link::LinkError;
 use bc_machine::StreamsError;
-use bc_step::End;
+use bc_machine_defs::End;
 use bc_text::TextError;
 use bc_word::Memory;
 use std::alloc::{AllocError, AllocFailed, Global};

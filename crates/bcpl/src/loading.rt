@@ -1,11 +1,11 @@
 //! Texts in files, read and linked.
 
 use crate::failure::Failure;
-use bc_image::Image;
-use bc_item::Segment;
 use bc_link::link;
+use bc_machine_image::Image;
 use bc_run::behind_primitives;
 use bc_text::Reader;
+use bc_text_items::Segment;
 use std::alloc::Global;
 use std::fs;
 use std::io::Read;

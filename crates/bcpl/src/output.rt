@@ -1,6 +1,6 @@
 //! What commands print.
 
-use bc_image::Image;
+use bc_machine_image::Image;
 use itoa::Buffer;
 use std::alloc::Global;
 use std::io;

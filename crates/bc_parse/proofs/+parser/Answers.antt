@@ -1,16 +1,16 @@
 use Rattle.std.proofs.Common.{◌≡◌, ◌∙◌, ◌+◌, ◌-◌, length, arith, ap, Err, refl, sym, eqb, true}
 use Rattle.std.proofs.lemmas.Result.{err_from_is_err_and}
-use Rattle.bc_reading.specs.Reading.{piece, exp_of, command_of, definition_of, exps_turn, grow_turn, repeat_turn, label_read, label_start, entry_turn, definition_turn, place_turn, exps_read, grow_read, repeats_read, labels_read, entries_read, definitions_read, places_read, entry_read, assigned_read}
+use Rattle.bc_parse_defs.specs.Reading.{piece, exp_of, command_of, definition_of, exps_turn, grow_turn, repeat_turn, label_read, label_start, entry_turn, definition_turn, place_turn, exps_read, grow_read, repeats_read, labels_read, entries_read, definitions_read, places_read, entry_read, assigned_read}
 use Rattle.bc_parse.specs.Seen.{seen}
 use Rattle.bc_parse.proofs.Turns.{turns_next, turns_done, turns_fails, turns_spent, fails_then}
 use Rattle.bc_parse.proofs.Lists.{length_seen, exps_view_push, labels_view_push, entries_view_push}
 use Rattle.bc_parse.proofs.Ties.{exp_runs, command_runs, definition_runs}
 use Rattle.std.proofs.lemmas.Bool.{eq-eqb}
-use Rattle.bc_tree.specs.View.{exp_view, exps_view}
-use Rattle.bc_tree.specs.Spelling.{add_exp, count}
+use Rattle.bc_parse_tree.specs.View.{exp_view, exps_view}
+use Rattle.bc_parse_tree.specs.Spelling.{add_exp, count}
 use Rattle.bc_parse.proofs.Views.{case_view, default_view, named_view, call_view, assign_view}
-use Rattle.bc_tree.specs.declared.tree.Constant.{fold-roll-Constant}
-use Rattle.bc_reading.specs.Reading as reading
+use Rattle.bc_parse_tree.specs.declared.tree.Constant.{fold-roll-Constant}
+use Rattle.bc_parse_defs.specs.Reading as reading
 use Rattle.bc_parse.proofs.+parser.Goals as goal
 
 pub expressions::exp-returns-in_err-first-clause-read : goal.expressions::exp-returns-in_err-first-clause-read

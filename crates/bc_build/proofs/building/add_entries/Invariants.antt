@@ -1,5 +1,5 @@
 use Rattle.std.proofs.Common.{◌≡◌, ◌++◌, map}
-use Rattle.bc_derive.specs.View.{entry as entry_view}
+use Rattle.bc_rules_defs.specs.View.{entry as entry_view}
 use Rattle.bc_build.specs.Code.{in_segment}
 use Rattle.bc_build.proofs.building.add_entries.Given as goal
 

@@ -1,6 +1,6 @@
 use Rattle.std.proofs.Common.{◌+◌, List, subst, sym, drop, get_or}
 use Rattle.std.proofs.lemmas.Result.{IfOk-weaker, IfErr-weaker}
-use Rattle.bc_item.specs.declared.item.Item.{Item}
+use Rattle.bc_text_items.specs.declared.item.Item.{Item}
 use Rattle.bc_lex.specs.Files.{files_of}
 use Rattle.bc_build.specs.Refused.{IsRefused}
 use Rattle.bc_build.specs.Steps.{AreCoded}

@@ -1,7 +1,7 @@
 use Rattle.std.proofs.Common.{◌≤◌, refl, ap, subst, ◌∙◌, sym, length, arith}
 use Rattle.std.proofs.lemmas.List.{length-map}
-use Rattle.bc_token.specs.Token.{lexeme_of, lexemes_of}
-use Rattle.bc_tree.specs.View.{section_view}
+use Rattle.bc_lex_tokens.specs.Token.{lexeme_of, lexemes_of}
+use Rattle.bc_parse_tree.specs.View.{section_view}
 use Rattle.bc_core.specs.View.{section}
 use Rattle.bc_lex.specs.Files.{files_of}
 use Rattle.bc_lex.specs.Tokens.{HasTokens}

@@ -1,6 +1,6 @@
 -- What the bytes so far say, and at their end.
 use Rattle.std.proofs.Common.{◌++◌, ◌≤◌, ◌+◌, [], take, length, length-take, arith}
-use Rattle.bc_verdict.specs.Judging.{start}
+use Rattle.bc_cert_laws.specs.Judging.{start}
 use Rattle.bc_cert.specs.View.{fed}
 use Rattle.bc_cert.proofs.Steps.{answer_at_end, fault_given, fed_more, consumes_more}
 use Rattle.bc_cert.proofs.checking.check.Goals as goal

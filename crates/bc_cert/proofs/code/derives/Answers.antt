@@ -1,6 +1,6 @@
 -- The test is that of the definition.
 use Rattle.bc_core.specs.View.{root}
-use Rattle.bc_derive.specs.View.{derivation}
+use Rattle.bc_rules_defs.specs.View.{derivation}
 use Rattle.bc_cert.proofs.Fitting.{fits_is}
 use Rattle.bc_cert.proofs.code.derives.Goals as goal
 

@@ -1,6 +1,6 @@
 -- The pieces so far are the same.
 use Rattle.std.proofs.Common.{◌≡◌, drop}
-use Rattle.bc_verdict.specs.Judging.{same_code}
+use Rattle.bc_cert_laws.specs.Judging.{same_code}
 use Rattle.bc_cert.proofs.code.has_code.Given as goal
 
 abbrev pub invariant-loop-at : goal.invariant-loop-at

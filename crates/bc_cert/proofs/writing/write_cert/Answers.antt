@@ -1,8 +1,8 @@
 use Rattle.std.proofs.Common.{rules, ◌^◌, ◌<◌, length, subst, sym, ap, ◌∙◌}
 use Rattle.std.proofs.lemmas.List.{length-map}
-use Rattle.bc_derive.specs.View.{entry}
-use Rattle.bc_entries.specs.Certificate.{entry_of}
-use Rattle.bc_verdict.proofs.Accepted.{certificate_is_said}
+use Rattle.bc_rules_defs.specs.View.{entry}
+use Rattle.bc_cert_write.specs.Certificate.{entry_of}
+use Rattle.bc_cert_laws.proofs.Accepted.{certificate_is_said}
 use Rattle.bc_cert.proofs.writing.write_cert.Goals as goal
 
 pub returns-clause-accepted : goal.returns-clause-accepted

@@ -1,7 +1,7 @@
 use Rattle.std.proofs.Common.{◌≡◌, ◌+◌, ◌≤◌, map, length, ap, refl, ◌∙◌, arith}
 use Rattle.bc_core.specs.View.{place_of, section}
-use Rattle.bc_emit.specs.Entries.{Plain, entries_from, marked_code}
-use Rattle.bc_emit.specs.Section.{emit_routines, routines_code}
+use Rattle.bc_gen_defs.specs.Entries.{Plain, entries_from, marked_code}
+use Rattle.bc_gen_defs.specs.Section.{emit_routines, routines_code}
 use Rattle.bc_gen.specs.Chosen.{coding}
 use Rattle.bc_gen.specs.Parts.{parts}
 use Rattle.bc_gen.specs.Surroundings.{roots_in}

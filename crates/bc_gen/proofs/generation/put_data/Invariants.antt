@@ -1,6 +1,6 @@
 use Rattle.std.proofs.Common.{◌≡◌, ◌++◌, map, drop}
 use Rattle.bc_core.specs.View.{place_of}
-use Rattle.bc_emit.specs.Section.{data_items}
+use Rattle.bc_gen_defs.specs.Section.{data_items}
 use Rattle.bc_gen.proofs.generation.put_data.Given as goal
 
 abbrev pub invariant-loop-place : goal.invariant-loop-place

@@ -1,5 +1,5 @@
 use Rattle.std.proofs.Common.{◌≡◌, ◌++◌, ◌∷◌, map, drop, length}
-use Rattle.bc_item.specs.declared.item.Item.TheVariants.{Byte}
+use Rattle.bc_text_items.specs.declared.item.Item.TheVariants.{Byte}
 use Rattle.bc_gen.proofs.generation.put_string.Given as goal
 
 abbrev pub invariant-loop-byte : goal.invariant-loop-byte

@@ -1,5 +1,5 @@
 use Rattle.std.proofs.Common.{◌≡◌, ◌++◌, map, drop}
-use Rattle.bc_item.specs.declared.item.Item.TheVariants.{Data}
+use Rattle.bc_text_items.specs.declared.item.Item.TheVariants.{Data}
 use Rattle.bc_gen.proofs.generation.put_words.Given as goal
 
 abbrev pub invariant-loop-word : goal.invariant-loop-word

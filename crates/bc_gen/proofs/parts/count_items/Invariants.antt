@@ -1,5 +1,5 @@
 use Rattle.std.proofs.Common.{◌≡◌, ◌≤◌, ◌+◌, drop}
-use Rattle.bc_emit.specs.Entries.{count_items as count_of}
+use Rattle.bc_gen_defs.specs.Entries.{count_items as count_of}
 use Rattle.bc_gen.specs.Parts.{parts as parts_view}
 use Rattle.bc_gen.proofs.parts.count_items.Given as goal
 

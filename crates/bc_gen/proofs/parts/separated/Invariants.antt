@@ -1,6 +1,6 @@
 use Rattle.std.proofs.Common.{◌≡◌, ◌++◌, map, length}
-use Rattle.bc_derive.specs.View.{entry as entry_view}
-use Rattle.bc_emit.specs.Entries.{plain_items, entries_from}
+use Rattle.bc_rules_defs.specs.View.{entry as entry_view}
+use Rattle.bc_gen_defs.specs.Entries.{plain_items, entries_from}
 use Rattle.bc_gen.specs.Parts.{parts as parts_view}
 use Rattle.bc_gen.proofs.parts.separated.Given as goal
 

@@ -1,6 +1,6 @@
 use Rattle.std.proofs.Common.{sym, length}
 use Rattle.std.proofs.lemmas.Result.{err_from_is_err_and}
-use Rattle.bc_token.specs.Token.{lexeme_of, lexemes_of}
+use Rattle.bc_lex_tokens.specs.Token.{lexeme_of, lexemes_of}
 use Rattle.bc_lex.specs.Files.{files_of, text_of}
 use Rattle.bc_lex.specs.Lexing.{End, Token, Get, deeper_of}
 use Rattle.bc_lex.proofs.Turns.{turn_found, turn_fails, bind_fails, bind_goes_on, deeper_of-zero, deeper_of-suc}

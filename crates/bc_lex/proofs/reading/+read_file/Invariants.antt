@@ -1,5 +1,5 @@
 use Rattle.std.proofs.Common.{◌≡◌, ◌≤◌, ◌-◌, length}
-use Rattle.bc_token.specs.Token.{lexemes_of}
+use Rattle.bc_lex_tokens.specs.Token.{lexemes_of}
 use Rattle.bc_lex.specs.Files.{files_of, text_of}
 use Rattle.bc_lex.specs.Lexing.{rest_of, file_to_end, deeper_of}
 use Rattle.bc_lex.proofs.reading.+read_file.Given as goal

@@ -1,4 +1,4 @@
-use Rattle.bc_token.specs.Token.{lexemes_of}
+use Rattle.bc_lex_tokens.specs.Token.{lexemes_of}
 use Rattle.bc_lex.specs.Files.{files_of}
 use Rattle.bc_lex.proofs.Answering.{answers_tokens, answers_few, answers_fault, answers_only_tokens, answers_only_fault}
 use Rattle.bc_lex.proofs.reading.lex.Goals as goal

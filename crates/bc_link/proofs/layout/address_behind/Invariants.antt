@@ -1,5 +1,5 @@
 use Rattle.std.proofs.Common.{◌≡◌, ◌+◌, ◌≤◌, drop}
-use Rattle.bc_item.specs.Sizes.{size_of_all}
+use Rattle.bc_text_items.specs.Sizes.{size_of_all}
 use Rattle.bc_link.specs.Steps.{uncounted}
 use Rattle.bc_link.proofs.layout.address_behind.Given as goal
 

@@ -1,6 +1,6 @@
 use Rattle.std.proofs.Common.{◌≡◌, ◌+◌, ◌++◌, drop}
-use Rattle.bc_item.specs.Sizes.{size_of_all}
-use Rattle.bc_item.specs.Assembled.{label_places}
+use Rattle.bc_text_items.specs.Sizes.{size_of_all}
+use Rattle.bc_text_items.specs.Assembled.{label_places}
 use Rattle.bc_link.specs.Steps.{uncounted}
 use Rattle.bc_link.proofs.layout.label_places.Given as goal
 

@@ -1,5 +1,5 @@
 use Rattle.std.proofs.Common.{◌≡◌, ◌++◌, drop}
-use Rattle.bc_item.specs.Assembled.{assembled}
+use Rattle.bc_text_items.specs.Assembled.{assembled}
 use Rattle.bc_link.specs.Labels.{label_address}
 use Rattle.bc_link.specs.Steps.{with_waiting}
 use Rattle.bc_link.proofs.store.push_items.Given as goal

@@ -1,5 +1,5 @@
 use Rattle.std.proofs.Common.{◌≡◌, drop}
-use Rattle.bc_item.specs.Assembled.{global_settings}
+use Rattle.bc_text_items.specs.Assembled.{global_settings}
 use Rattle.bc_link.specs.Labels.{label_address}
 use Rattle.bc_link.specs.Store.{with_settings}
 use Rattle.bc_link.proofs.store.set_globals.Given as goal

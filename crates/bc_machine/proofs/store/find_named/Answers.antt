@@ -1,6 +1,6 @@
 use Rattle.std.proofs.Common.{arith, ap, ◌∙◌, length-set}
-use Rattle.bc_step.specs.StreamCalls.{find_stream}
-use Rattle.bc_step.specs.Text.{bytes_from}
+use Rattle.bc_machine_defs.specs.StreamCalls.{find_stream}
+use Rattle.bc_machine_defs.specs.Text.{bytes_from}
 use Rattle.bc_machine.proofs.Copied.{copied_more, copied_all}
 use Rattle.bc_machine.proofs.store.find_named.Goals as goal
 

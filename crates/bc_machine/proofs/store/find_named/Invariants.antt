@@ -1,5 +1,5 @@
 use Rattle.std.proofs.Common.{◌≡◌, ◌-◌, ◌+◌, ◌++◌, take, length}
-use Rattle.bc_step.specs.Text.{bytes_from}
+use Rattle.bc_machine_defs.specs.Text.{bytes_from}
 use Rattle.bc_machine.proofs.store.find_named.Given as goal
 
 abbrev pub invariant-loop-k : goal.invariant-loop-k

@@ -1,6 +1,6 @@
 use Rattle.std.proofs.Common.{◌≡◌, slice_index}
-use Rattle.bc_step.specs.Operand.{next}
-use Rattle.bc_step.specs.Switch.{case_of, switch_of}
+use Rattle.bc_machine_defs.specs.Operand.{next}
+use Rattle.bc_machine_defs.specs.Switch.{case_of, switch_of}
 use Rattle.bc_machine.proofs.store.switch_target.Given as goal
 
 abbrev pub invariant-loop-left : goal.invariant-loop-left

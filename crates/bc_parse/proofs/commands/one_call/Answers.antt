@@ -1,5 +1,5 @@
 use Rattle.std.proofs.Common.{sym, arith}
-use Rattle.bc_tree.specs.View.{exps_view}
+use Rattle.bc_parse_tree.specs.View.{exps_view}
 use Rattle.bc_parse.proofs.Lists.{no_call, count_exps_view}
 use Rattle.bc_parse.proofs.commands.one_call.Goals as goal
 

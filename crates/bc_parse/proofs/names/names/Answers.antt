@@ -1,7 +1,7 @@
 use Rattle.std.proofs.Common.{◌∙◌, ◌+◌, length, arith, ap, Err}
 use Rattle.std.proofs.lemmas.Result.{err_from_is_err_and}
-use Rattle.bc_reading.specs.Reading as reading
-use Rattle.bc_reading.specs.Reading.{piece, name_turn, names_read}
+use Rattle.bc_parse_defs.specs.Reading as reading
+use Rattle.bc_parse_defs.specs.Reading.{piece, name_turn, names_read}
 use Rattle.bc_parse.specs.Seen.{seen}
 use Rattle.bc_parse.proofs.Turns.{turns_next, turns_done, turns_fails, turns_spent}
 use Rattle.bc_parse.proofs.Lists.{length_seen}

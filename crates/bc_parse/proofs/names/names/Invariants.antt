@@ -1,5 +1,5 @@
 use Rattle.std.proofs.Common.{◌≡◌, ◌-◌, ◌+◌, length}
-use Rattle.bc_reading.specs.Reading.{piece, turns, name_turn}
+use Rattle.bc_parse_defs.specs.Reading.{piece, turns, name_turn}
 use Rattle.bc_parse.specs.Seen.{seen}
 use Rattle.bc_parse.specs.Names.{names_view}
 use Rattle.bc_parse.proofs.names.names.Given as goal

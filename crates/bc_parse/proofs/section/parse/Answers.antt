@@ -1,7 +1,7 @@
 use Rattle.std.proofs.Common.{subst, Result}
-use Rattle.bc_token.specs.Token.{lexemes_of}
-use Rattle.bc_tree.specs.Tree.{Declarations}
-use Rattle.bc_tree.specs.View.{section_view}
+use Rattle.bc_lex_tokens.specs.Token.{lexemes_of}
+use Rattle.bc_parse_tree.specs.Tree.{Declarations}
+use Rattle.bc_parse_tree.specs.View.{section_view}
 use Rattle.bc_parse.specs.declared.error.ParseError.{ParseError}
 use Rattle.bc_parse.specs.Parsing.{Answers}
 use Rattle.bc_parse.proofs.Canonical.{canonical_parsed}

@@ -1,7 +1,7 @@
 use Rattle.std.proofs.Common.{◌≡◌, drop}
 use Rattle.bc_core.specs.View.{exp, args}
-use Rattle.bc_derive.specs.Parts.{called}
-use Rattle.bc_derive.specs.View.{derivations}
+use Rattle.bc_rules_defs.specs.Parts.{called}
+use Rattle.bc_rules_defs.specs.View.{derivations}
 use Rattle.bc_rules.specs.Fits.{parts_fit}
 use Rattle.bc_rules.proofs.check.+deriving.Given as goal
 

@@ -1,8 +1,8 @@
 use Rattle.std.proofs.Common.{◌≡◌, ◌≤◌, ◌+◌, min, drop}
 use Rattle.bc_core.specs.View.{exp, args}
-use Rattle.bc_derive.specs.Parts.{called}
-use Rattle.bc_derive.specs.ByShape.{labels_of_parts}
-use Rattle.bc_derive.specs.View.{derivations}
+use Rattle.bc_rules_defs.specs.Parts.{called}
+use Rattle.bc_rules_defs.specs.ByShape.{labels_of_parts}
+use Rattle.bc_rules_defs.specs.View.{derivations}
 use Rattle.bc_rules.proofs.counting.+counting.Given as goal
 
 abbrev pub invariant-call-loop-i : goal.invariant-call-loop-i

@@ -1,8 +1,8 @@
 use Rattle.std.proofs.Common.{min, sym, ap, ◌∙◌}
 use Rattle.bc_core.specs.View.{exp}
-use Rattle.bc_derive.specs.ByShape.{labels_of_parts}
-use Rattle.bc_derive.specs.View.{derivations}
-use Rattle.bc_derive.specs.declared.derivation.Derivation.{out-Derivation}
+use Rattle.bc_rules_defs.specs.ByShape.{labels_of_parts}
+use Rattle.bc_rules_defs.specs.View.{derivations}
+use Rattle.bc_rules_defs.specs.declared.derivation.Derivation.{out-Derivation}
 use Rattle.bc_rules.specs.View.{parts}
 use Rattle.bc_rules.proofs.Counts.{sides_labels}
 use Rattle.bc_rules.proofs.counting.sides.Goals as goal

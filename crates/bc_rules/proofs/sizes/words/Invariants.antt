@@ -1,5 +1,5 @@
 use Rattle.std.proofs.Common.{◌≡◌, ◌≤◌, ◌+◌, ◌*◌, drop}
-use Rattle.bc_derive.specs.Piece.{words}
+use Rattle.bc_rules_defs.specs.Piece.{words}
 use Rattle.bc_rules.specs.Words.{rest_words}
 use Rattle.bc_rules.proofs.sizes.words.Given as goal
 

@@ -1,8 +1,8 @@
 use Rattle.std.proofs.Common.{◌≡◌, ◌+◌, ◌++◌, drop}
 use Rattle.bc_core.specs.View.{exp, args}
-use Rattle.bc_derive.specs.Parts.{called}
-use Rattle.bc_derive.specs.ByShape.{labels_of_parts, code_of_parts}
-use Rattle.bc_derive.specs.View.{derivations}
+use Rattle.bc_rules_defs.specs.Parts.{called}
+use Rattle.bc_rules_defs.specs.ByShape.{labels_of_parts, code_of_parts}
+use Rattle.bc_rules_defs.specs.View.{derivations}
 use Rattle.bc_rules.proofs.writing.+writing.Given as goal
 
 -- the level of the next argument; the rest of the labels and of the code make those of the whole

@@ -2,8 +2,8 @@ use Rattle.std.proofs.Common.{◌≡◌, ◌∙◌, ap, sym, subst, refl, None, 
 use Rattle.bc_link.specs.Linked.{image_of}
 use Rattle.bc_link.specs.Refusals.{refusal_of}
 use Rattle.bc_machine.specs.Ran.{Ran, RanFrom, held_state}
-use Rattle.bc_step.specs.State.{State, start}
-use Rattle.bc_step.specs.declared.state.End.{End}
+use Rattle.bc_machine_defs.specs.State.{State, start}
+use Rattle.bc_machine_defs.specs.declared.state.End.{End}
 use Rattle.bc_run.specs.Runs.{behind}
 use Rattle.bc_run.proofs.running.run_text.Goals as goal
 

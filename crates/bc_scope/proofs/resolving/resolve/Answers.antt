@@ -1,6 +1,6 @@
 use Rattle.std.proofs.Common.{arith}
 use Rattle.std.proofs.lemmas.Result.{err_from_is_err_and}
-use Rattle.bc_tree.specs.View.{section_view}
+use Rattle.bc_parse_tree.specs.View.{section_view}
 use Rattle.bc_scope.proofs.Resolved.{fault_stays, too_many, no_fault, fits}
 use Rattle.bc_scope.proofs.resolving.resolve.Goals as goal
 

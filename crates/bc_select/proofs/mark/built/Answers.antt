@@ -1,6 +1,6 @@
 use Rattle.std.proofs.Common.{◌≡◌, ◌∷◌, [], ◌++◌, ap, sym, ◌∙◌, arith}
 use Rattle.std.proofs.lemmas.Grind.{common_steps}
-use Rattle.bc_derive.specs.View.{derivations}
+use Rattle.bc_rules_defs.specs.View.{derivations}
 use Rattle.bc_select.specs.Marks.{unwind}
 use Rattle.bc_select.proofs.Marked.{unwind_last, made}
 use Rattle.bc_select.proofs.mark.built.Goals as goal

@@ -1,6 +1,6 @@
 use Rattle.std.proofs.Common.{◌≡◌, length}
-use Rattle.bc_derive.specs.Rules.{no_part}
-use Rattle.bc_derive.specs.View.{derivations}
+use Rattle.bc_rules_defs.specs.Rules.{no_part}
+use Rattle.bc_rules_defs.specs.View.{derivations}
 use Rattle.bc_select.specs.Marks.{unwind}
 use Rattle.bc_select.proofs.mark.built.Given as goal
 

@@ -1,6 +1,6 @@
 use Rattle.std.proofs.Common.{◌≡◌, ◌-◌, ap, ◌∙◌, arith}
-use Rattle.bc_derive.specs.Rules.{by, end_with}
-use Rattle.bc_derive.specs.View.{derivation, derivations}
+use Rattle.bc_rules_defs.specs.Rules.{by, end_with}
+use Rattle.bc_rules_defs.specs.View.{derivation, derivations}
 use Rattle.bc_select.specs.Marks.{size, first, rest}
 use Rattle.bc_select.proofs.Marked.{derivations_end, derivations_first, derivations_rest, derivations_size}
 use Rattle.bc_select.proofs.mark.close.Goals as goal

@@ -1,6 +1,6 @@
 use Rattle.std.proofs.Common.{◌≡◌, ◌+◌, ◌∷◌, [], ◌++◌, length, ap, sym, subst, ◌∙◌, arith, length-append, rules}
 use Rattle.bc_core.specs.View.{exp}
-use Rattle.bc_derive.specs.Rules.{by}
+use Rattle.bc_rules_defs.specs.Rules.{by}
 use Rattle.bc_select.specs.Marks.{marks_of_all}
 use Rattle.bc_select.specs.Reads.{parts_for}
 use Rattle.bc_select.specs.Waiting.{tree_of, trees_of, AreReady}

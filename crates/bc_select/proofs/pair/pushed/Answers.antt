@@ -1,7 +1,7 @@
 use Rattle.std.proofs.Common.{None, ap, ◌∙◌}
-use Rattle.bc_derive.specs.declared.rule.Rule.TheVariants.{V1}
-use Rattle.bc_least.specs.Choices.{mixed}
-use Rattle.bc_least.specs.Options.{operand_cost, words_of, candidate, better, least_from}
+use Rattle.bc_rules_defs.specs.declared.rule.Rule.TheVariants.{V1}
+use Rattle.bc_select_defs.specs.Choices.{mixed}
+use Rattle.bc_select_defs.specs.Options.{operand_cost, words_of, candidate, better, least_from}
 use Rattle.bc_select.proofs.Lines.{first_then}
 use Rattle.bc_select.proofs.pair.pushed.Goals as goal
 

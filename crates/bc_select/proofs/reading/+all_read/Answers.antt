@@ -2,9 +2,9 @@ use Rattle.std.proofs.Common.{rules, ◌≡◌, ◌+◌, ◌++◌, length, ap, s
 use Rattle.bc_core.specs.View.{exp, args}
 use Rattle.bc_core.specs.WellFormed.{nodes, nodes_of_args}
 use Rattle.bc_core.proofs.Rows.{then_argument, args_append}
-use Rattle.bc_derive.specs.declared.rule.Table.TheVariants.{Two}
-use Rattle.bc_derive.specs.Rules.{end_with}
-use Rattle.bc_least.specs.Readings.{readings, readings_of_all}
+use Rattle.bc_rules_defs.specs.declared.rule.Table.TheVariants.{Two}
+use Rattle.bc_rules_defs.specs.Rules.{end_with}
+use Rattle.bc_select_defs.specs.Readings.{readings, readings_of_all}
 use Rattle.bc_select.specs.Ends.{EndsAt}
 use Rattle.bc_select.specs.Waiting.{Added}
 use Rattle.bc_select.specs.Vector.{before_all, vector}

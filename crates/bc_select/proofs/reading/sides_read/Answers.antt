@@ -1,9 +1,9 @@
 use Rattle.std.proofs.Common.{rules, ◌≡◌, subst}
 use Rattle.bc_core.specs.View.{exp}
-use Rattle.bc_derive.specs.declared.rule.Table.TheVariants.{Two}
-use Rattle.bc_derive.specs.Rules.{no_part}
-use Rattle.bc_least.specs.Chosen.{assign_parts}
-use Rattle.bc_least.specs.Readings.{readings}
+use Rattle.bc_rules_defs.specs.declared.rule.Table.TheVariants.{Two}
+use Rattle.bc_rules_defs.specs.Rules.{no_part}
+use Rattle.bc_select_defs.specs.Chosen.{assign_parts}
+use Rattle.bc_select_defs.specs.Readings.{readings}
 use Rattle.bc_select.specs.Waiting.{Added}
 use Rattle.bc_select.proofs.Waits.{added_nothing}
 use Rattle.bc_select.proofs.reading.sides_read.Goals as goal

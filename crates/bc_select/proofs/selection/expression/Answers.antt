@@ -1,7 +1,7 @@
 use Rattle.std.proofs.Common.{◌≡◌, [], ◌++◌, ap, sym, subst, ◌∙◌}
 use Rattle.bc_core.specs.View.{exp}
-use Rattle.bc_derive.specs.Rules.{by}
-use Rattle.bc_least.specs.Choices.{choice_for}
+use Rattle.bc_rules_defs.specs.Rules.{by}
+use Rattle.bc_select_defs.specs.Choices.{choice_for}
 use Rattle.bc_select.specs.Selection.{words_or_none}
 use Rattle.bc_select.specs.Vector.{node, before}
 use Rattle.bc_select.specs.Waiting.{AreReady, trees_of}

@@ -1,7 +1,7 @@
 use Rattle.std.proofs.Common.{sym, ◌∙◌}
 use Rattle.bc_core.specs.View.{root}
-use Rattle.bc_derive.specs.declared.rule.Table.TheVariants.{Two}
-use Rattle.bc_least.specs.Chosen.{chosen_reads}
+use Rattle.bc_rules_defs.specs.declared.rule.Table.TheVariants.{Two}
+use Rattle.bc_select_defs.specs.Chosen.{chosen_reads}
 use Rattle.bc_select.proofs.Vectors.{words_are, rows_of_root}
 use Rattle.bc_select.proofs.selection.select.Goals as goal
 

@@ -1,5 +1,5 @@
 use Rattle.std.proofs.Common.{rules}
-use Rattle.bc_derive.specs.declared.derivation.Derivation.{roll-Derivation, the_lemmas}
+use Rattle.bc_rules_defs.specs.declared.derivation.Derivation.{roll-Derivation, the_lemmas}
 use Rattle.bc_select.proofs.Trees.{tree_view}
 use Rattle.bc_select.proofs.tree.tree.Goals as goal
 

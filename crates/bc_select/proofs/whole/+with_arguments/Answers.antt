@@ -1,8 +1,8 @@
 use Rattle.std.proofs.Common.{rules, ◌≡◌, ◌+◌, length, ap, sym, ◌∙◌, arith}
 use Rattle.bc_core.specs.View.{exp, args}
 use Rattle.bc_core.specs.WellFormed.{nodes}
-use Rattle.bc_derive.specs.declared.rule.Table.TheVariants.{Two}
-use Rattle.bc_least.specs.Options.{sum}
+use Rattle.bc_rules_defs.specs.declared.rule.Table.TheVariants.{Two}
+use Rattle.bc_select_defs.specs.Options.{sum}
 use Rattle.bc_select.specs.Laid.{words_before}
 use Rattle.bc_select.proofs.Bounds.{choices_small, stored_small}
 use Rattle.bc_select.proofs.Laid.{last_argument, last_nodes, last_words, few_more}

@@ -4,7 +4,7 @@ use Rattle.bc_core.specs.Tree.{count}
 use Rattle.bc_core.specs.View.{exp, args}
 use Rattle.bc_core.specs.WellFormed.{nodes, nodes_of_args}
 use Rattle.bc_core.proofs.Rows.{call_view}
-use Rattle.bc_derive.specs.declared.rule.Table.TheVariants.{Two}
+use Rattle.bc_rules_defs.specs.declared.rule.Table.TheVariants.{Two}
 use Rattle.bc_select.specs.Laid.{EndsInParts}
 use Rattle.bc_select.specs.Vector.{node, before_all, vector}
 use Rattle.bc_select.proofs.Bounds.{choices_small, words_small}

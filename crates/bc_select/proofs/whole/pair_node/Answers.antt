@@ -1,7 +1,7 @@
 use Rattle.std.proofs.Common.{◌≡◌, ◌+◌, ◌++◌, ap, arith}
 use Rattle.bc_core.specs.View.{exp}
 use Rattle.bc_core.specs.WellFormed.{nodes}
-use Rattle.bc_derive.specs.declared.rule.Table.TheVariants.{Two}
+use Rattle.bc_rules_defs.specs.declared.rule.Table.TheVariants.{Two}
 use Rattle.bc_select.specs.Vector.{vector}
 use Rattle.bc_select.proofs.Bounds.{choices_small}
 use Rattle.bc_select.proofs.Laid.{right_of, front_of_right}

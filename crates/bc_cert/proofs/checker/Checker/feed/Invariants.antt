@@ -1,7 +1,7 @@
 -- What is left of the bytes goes on from what was found so far.
 use Rattle.std.proofs.Common.{◌≡◌, ◌≤◌, ◌+◌, drop}
-use Rattle.bc_stack.specs.Stacks.{AreParallel}
-use Rattle.bc_verdict.specs.Judging.{feed_from}
+use Rattle.bc_cert_trees.specs.Stacks.{AreParallel}
+use Rattle.bc_cert_laws.specs.Judging.{feed_from}
 use Rattle.bc_cert.specs.View.{state, fed}
 use Rattle.bc_cert.proofs.checker.Checker.feed.Given as goal
 

@@ -6,9 +6,9 @@ use Rattle.bc_core.specs.Commands.{no_item, block}
 use Rattle.bc_core.specs.Tree.{Value, Test, Assign, Frame}
 use Rattle.bc_core.specs.View.{exp, command, items, items_before, block_of, declarations, variable, root}
 use Rattle.bc_core.proofs.Rows.{if_view, test_view, while_view, repeat_view, repeat_while_view, for_view, switchon_view, nested_view}
-use Rattle.bc_emit.specs.Emit.{cases_in, emit_items, emit_declarations, emit_variables, emit, emit_block, labels_in, entries_in}
-use Rattle.bc_emit.specs.Bodies.{fill, level_of, label_ahead}
-use Rattle.bc_emit.specs.Entries.{Plain, count_items, marked_over}
+use Rattle.bc_gen_defs.specs.Emit.{cases_in, emit_items, emit_declarations, emit_variables, emit, emit_block, labels_in, entries_in}
+use Rattle.bc_gen_defs.specs.Bodies.{fill, level_of, label_ahead}
+use Rattle.bc_gen_defs.specs.Entries.{Plain, count_items, marked_over}
 use Rattle.bc_gen.specs.Chosen.{coding}
 use Rattle.bc_gen.specs.declared.parts.Part.{Part}
 use Rattle.bc_gen.specs.Parts.{parts}

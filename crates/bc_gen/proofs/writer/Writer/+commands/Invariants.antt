@@ -2,9 +2,9 @@ use Rattle.std.proofs.Common.{◌≡◌, ◌+◌, ◌*◌, ◌++◌, map, drop}
 use Rattle.bc_core.specs.Commands.{no_item}
 use Rattle.bc_core.specs.View.{block_of, items, items_before, command, declarations as declarations_view, variable as variable_view}
 use Rattle.bc_core.specs.Level.{cells_declared}
-use Rattle.bc_emit.specs.Emit.{emit_items, emit_variables, emit_declarations}
-use Rattle.bc_emit.specs.Bodies.{level_of, fill}
-use Rattle.bc_emit.specs.Entries.{Plain, count_items}
+use Rattle.bc_gen_defs.specs.Emit.{emit_items, emit_variables, emit_declarations}
+use Rattle.bc_gen_defs.specs.Bodies.{level_of, fill}
+use Rattle.bc_gen_defs.specs.Entries.{Plain, count_items}
 use Rattle.bc_gen.specs.Parts.{parts}
 use Rattle.bc_gen.specs.Surroundings.{roots_in, exits_of, bodies_of, valofs_in}
 use Rattle.bc_gen.proofs.Weights.{weight, weight_of_block, weight_of_items, weight_around}

@@ -1,6 +1,6 @@
 use Rattle.std.proofs.Common.{◌≡◌, ◌+◌, ◌++◌, ◌≤◌, drop, length}
 use Rattle.bc_core.specs.View.{items}
-use Rattle.bc_emit.specs.Emit.{defaulted, cases_in, entries_in}
+use Rattle.bc_gen_defs.specs.Emit.{defaulted, cases_in, entries_in}
 use Rattle.bc_gen.specs.Surroundings.{case_pairs}
 use Rattle.bc_gen.proofs.Labels.{default_then}
 use Rattle.bc_gen.proofs.writer.Writer.case_labels.Given as goal

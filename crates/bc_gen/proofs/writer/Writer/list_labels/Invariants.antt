@@ -1,6 +1,6 @@
 use Rattle.std.proofs.Common.{◌≡◌, ◌+◌, ◌++◌, drop}
 use Rattle.bc_core.specs.View.{items}
-use Rattle.bc_emit.specs.Emit.{labels_in}
+use Rattle.bc_gen_defs.specs.Emit.{labels_in}
 use Rattle.bc_gen.specs.Surroundings.{label_pairs}
 use Rattle.bc_gen.proofs.writer.Writer.list_labels.Given as goal
 

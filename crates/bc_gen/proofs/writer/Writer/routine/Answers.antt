@@ -1,9 +1,9 @@
 use Rattle.std.proofs.Common.{ap}
 use Rattle.bc_core.specs.Level.{level_behind_parameters}
 use Rattle.bc_core.specs.View.{body_of, block_of}
-use Rattle.bc_emit.specs.Emit.{emit_block}
-use Rattle.bc_emit.specs.Bodies.{emit_body}
-use Rattle.bc_emit.specs.Entries.{Plain}
+use Rattle.bc_gen_defs.specs.Emit.{emit_block}
+use Rattle.bc_gen_defs.specs.Bodies.{emit_body}
+use Rattle.bc_gen_defs.specs.Entries.{Plain}
 use Rattle.bc_gen.specs.Surroundings.{roots_in, exits_of}
 use Rattle.bc_gen.proofs.Forms.{does_writes}
 use Rattle.bc_gen.proofs.Outs.{fails, does_out}

@@ -1,9 +1,9 @@
 use Rattle.std.proofs.Common.{map}
 use Rattle.bc_core.specs.Level.{level_behind_parameters}
 use Rattle.bc_core.specs.View.{body_of, place_of}
-use Rattle.bc_emit.specs.Bodies.{emit_body}
-use Rattle.bc_emit.specs.Section.{emit_routines}
-use Rattle.bc_emit.specs.Entries.{Plain}
+use Rattle.bc_gen_defs.specs.Bodies.{emit_body}
+use Rattle.bc_gen_defs.specs.Section.{emit_routines}
+use Rattle.bc_gen_defs.specs.Entries.{Plain}
 use Rattle.bc_gen.specs.Surroundings.{roots_in}
 use Rattle.bc_gen.proofs.Outs.{fails, rising, routines_out}
 use Rattle.bc_gen.proofs.writer.Writer.routines.Goals as goal

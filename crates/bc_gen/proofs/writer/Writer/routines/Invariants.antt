@@ -1,7 +1,7 @@
 use Rattle.std.proofs.Common.{◌≡◌, ◌++◌, map, drop}
 use Rattle.bc_core.specs.View.{place_of}
-use Rattle.bc_emit.specs.Entries.{Plain}
-use Rattle.bc_emit.specs.Section.{emit_routines}
+use Rattle.bc_gen_defs.specs.Entries.{Plain}
+use Rattle.bc_gen_defs.specs.Section.{emit_routines}
 use Rattle.bc_gen.specs.Parts.{parts}
 use Rattle.bc_gen.specs.Surroundings.{roots_in}
 use Rattle.bc_gen.proofs.writer.Writer.routines.Given as goal

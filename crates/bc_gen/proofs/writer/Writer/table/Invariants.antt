@@ -1,7 +1,7 @@
 use Rattle.std.proofs.Common.{◌≡◌, ◌++◌, drop}
 use Rattle.bc_core.specs.View.{items}
-use Rattle.bc_emit.specs.Emit.{table_of}
-use Rattle.bc_emit.specs.Entries.{Plain}
+use Rattle.bc_gen_defs.specs.Emit.{table_of}
+use Rattle.bc_gen_defs.specs.Entries.{Plain}
 use Rattle.bc_gen.specs.Parts.{parts}
 use Rattle.bc_gen.specs.Surroundings.{exits_of}
 use Rattle.bc_gen.proofs.writer.Writer.table.Given as goal

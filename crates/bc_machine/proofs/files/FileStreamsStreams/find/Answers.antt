@@ -2,7 +2,7 @@ use Rattle.std.proofs.Common.{◌≡◌, length, map, refl, sym, ap, ◌∙◌}
 use Rattle.std.proofs.lemmas.List.{length-map}
 use Rattle.std.specs.List.{position_from}
 use Rattle.std.specs.Str.{bytes_eq}
-use Rattle.bc_step.specs.StreamCalls.{number_or_none}
+use Rattle.bc_machine_defs.specs.StreamCalls.{number_or_none}
 use Rattle.bc_machine.specs.FileContent.{file_input}
 use Rattle.bc_machine.proofs.Tables.{names_of_inputs}
 use Rattle.bc_machine.proofs.FileOutputs.{names_of_outputs}

@@ -1,5 +1,5 @@
 use Rattle.std.proofs.Common.{◌≡◌, ℕ, List, map, ap, ◌∙◌}
-use Rattle.bc_step.specs.StreamStart.{first_number, fresh_input, fresh_output}
+use Rattle.bc_machine_defs.specs.StreamStart.{first_number, fresh_input, fresh_output}
 use Rattle.bc_machine.specs.Names.{named_bytes, bytes_of}
 use Rattle.bc_machine.specs.MemoryContent.{memory_input}
 use Rattle.bc_machine.proofs.MemoryOutputs.{opens}

@@ -1,7 +1,7 @@
 use Rattle.std.proofs.Common.{refl, sym, ap}
 use Rattle.std.specs.List.{position_from}
 use Rattle.std.specs.Str.{bytes_eq}
-use Rattle.bc_step.specs.StreamCalls.{number_or_none}
+use Rattle.bc_machine_defs.specs.StreamCalls.{number_or_none}
 use Rattle.bc_machine.specs.MemoryContent.{memory_input}
 use Rattle.bc_machine.specs.declared.memory.MemoryInput.{MemoryInput}
 use Rattle.bc_machine.proofs.Tables.{names_of_inputs}

@@ -1,6 +1,6 @@
 use Rattle.std.proofs.Common.{refl, false}
 use Rattle.std.proofs.lemmas.List.{map-append}
-use Rattle.bc_step.specs.StreamStart.{fresh_output}
+use Rattle.bc_machine_defs.specs.StreamStart.{fresh_output}
 use Rattle.bc_machine.specs.Names.{Bytes}
 use Rattle.bc_machine.proofs.MemoryOutputs.{memory_outputs-fresh}
 use Rattle.bc_machine.proofs.names.NamedOutput.table.Goals as goal

@@ -1,5 +1,5 @@
 use Rattle.std.proofs.Common.{◌≡◌, [], map}
-use Rattle.bc_step.specs.StreamStart.{fresh_output}
+use Rattle.bc_machine_defs.specs.StreamStart.{fresh_output}
 use Rattle.bc_machine.specs.MemoryContent.{memory_outputs}
 use Rattle.bc_machine.specs.Names.{bytes_of}
 use Rattle.bc_machine.proofs.names.NamedOutput.table.Given as goal

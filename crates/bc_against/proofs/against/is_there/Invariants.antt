@@ -1,7 +1,0 @@
--- The pieces that are left stand in the items that are left just where all stand in all.
-use Rattle.std.proofs.Common.{◌↔◌, drop}
-use Rattle.bc_certificate.specs.Against.{Stands}
-use Rattle.bc_against.proofs.against.is_there.Given as goal
-
-abbrev pub invariant-loop-piece : goal.invariant-loop-piece
-invariant-loop-piece l = Stands (drop l.piece-index l.code) l.rest ↔ Stands l.code l.items

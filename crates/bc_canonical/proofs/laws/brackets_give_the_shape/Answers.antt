@@ -1,5 +1,0 @@
-use Rattle.bc_canonical.proofs.Held.{whole_few, section_few}
-use Rattle.bc_canonical.proofs.laws.brackets_give_the_shape.Goals as goal
-
-pub returns : goal.returns
-returns c = record { brackets = section_few; alone = whole_few }

@@ -1,5 +1,0 @@
-use Rattle.bc_canonical.proofs.Tokens.{spelling_closed}
-use Rattle.bc_canonical.proofs.laws.spelling_is_closed.Goals as goal
-
-pub returns : goal.returns
-returns c = spelling_closed

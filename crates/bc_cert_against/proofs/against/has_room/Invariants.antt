@@ -1,0 +1,7 @@
+-- The pieces that are left have room just where all have.
+use Rattle.std.proofs.Common.{◌≤◌, ◌↔◌, drop}
+use Rattle.bc_cert_defs.specs.Against.{extent}
+use Rattle.bc_cert_against.proofs.against.has_room.Given as goal
+
+abbrev pub invariant-loop-piece : goal.invariant-loop-piece
+invariant-loop-piece l = (extent (drop l.piece-index l.code) ≤ l.left) ↔ (extent l.code ≤ l.items)

@@ -1,0 +1,149 @@
+ghost use Rattle.std.specs.Prelude.{◌≡◌, ◌<◌, ◌≤◌, ◌⊎◌, ◌↔◌, IsTrue, MatchResult, MatchOption};
+ghost use Rattle.bc_text_items.specs.declared.item.Item.{Item};
+ghost use Rattle.std.specs.Prelude.{List, length, drop};
+ghost use Rattle.bc_rules_defs.specs.declared.piece.Piece.TheVariants as pieces;
+ghost use Rattle.bc_cert_defs.specs.Against.{Fit, Misfit, IsBehind, LiesIn, StandsIn, Stands, Passes, taken, extent};
+ghost use Rattle.bc_cert_defs.specs.View.{judged as judged_of, verdict as verdict_of};
+
+use bc_cert_defs::{Judged, Mismatch, Verdict};
+use bc_rules_defs::Piece;
+use bc_text_items::{Item, Segment};
+
+/// Whether the verdict's entries stand in the segments: each not in front of the one before it (else `Order`), its
+/// items within its segment (else `OutsideText`), and they are its code, the items of a VALOF's body being passed
+/// over (else `CodeDiffers`).
+///
+/// A refusal is that of the first entry with a fault, counted from 0, and the first of its faults in this order. It
+/// takes no memory.
+pub fn check_against(verdict: &Verdict, segments: &[Segment]) -> Result<(), Mismatch>
+    ensures { MatchResult result (λ done. Fit segments.now 0 0 (verdict_of verdict.now).entries) (λ fault. Misfit segments.now 0 0 0 (verdict_of verdict.now).entries fault) }
+{
+    let mut segment = 0;
+    let mut item = 0;
+    for (entry, judged) in verdict.entries.iter().enumerate() {
+        if !is_behind(judged, segment, item) {
+            return Err(Mismatch::Order(entry as u64));
+        }
+        if !lies_in(judged, segments) {
+            return Err(Mismatch::OutsideText(entry as u64));
+        }
+        if !stands_in(judged, segments) {
+            return Err(Mismatch::CodeDiffers(entry as u64));
+        }
+        segment = judged.segment;
+        item = judged.item;
+    }
+    Ok(())
+}
+
+/// Whether the entry stands at this place or behind it.
+fn is_behind(judged: &Judged, segment: u64, item: u64) -> bool
+    ensures { IsTrue result ↔ IsBehind segment item (judged_of judged.now) }
+{
+    segment < judged.segment || segment == judged.segment && item <= judged.item
+}
+
+/// Whether the entry's items lie in the segments.
+fn lies_in(judged: &Judged, segments: &[Segment]) -> bool
+    ensures { IsTrue result ↔ LiesIn segments.now (judged_of judged.now) }
+{
+    if judged.segment >= segments.len() as u64 {
+        return false;
+    }
+    let items = segments[judged.segment as usize].items();
+    judged.item <= items.len() as u64
+        && has_room(judged.code.as_slice(), items.len() as u64 - judged.item)
+}
+
+/// Whether code takes no more than so many items.
+fn has_room(code: &[Piece], items: u64) -> bool
+    ensures { IsTrue result ↔ (extent code.now ≤ items) }
+{
+    let mut left = items;
+    for piece in code {
+        let count = items_taken(piece);
+        if count > left {
+            return false;
+        }
+        left -= count;
+    }
+    true
+}
+
+/// How many items a piece takes.
+fn items_taken(piece: &Piece) -> u64
+    ensures { result ≡ taken piece.now }
+{
+    match piece {
+        Piece::Item(_) => 1,
+        Piece::Body(count) => *count,
+    }
+}
+
+/// Whether the entry's code stands at its place in the segments, in which its items lie.
+fn stands_in(judged: &Judged, segments: &[Segment]) -> bool
+    requires { LiesIn segments.now (judged_of judged.now) }
+    ensures { IsTrue result ↔ StandsIn segments.now (judged_of judged.now) }
+{
+    let items = segments[judged.segment as usize].items();
+    is_there(judged.code.as_slice(), after(items, judged.item as usize))
+}
+
+/// Whether code stands in front of these items.
+fn is_there(code: &[Piece], items: &[Item]) -> bool
+    ensures { IsTrue result ↔ Stands code.now items.now }
+{
+    let mut rest = items;
+    for piece in code {
+        match behind(piece, rest) {
+            Some(more) => rest = more,
+            None => return false,
+        }
+    }
+    true
+}
+
+/// The items behind a piece, where it stands in front of these.
+fn behind<'s>(piece: &Piece, items: &'s [Item]) -> Option<&'s [Item]>
+    ensures { MatchOption result ((more : List Item) → Passes piece.now items.now more → ⊥) (λ more. Passes piece.now items.now more.now) }
+{
+    match piece {
+        Piece::Item(item) => {
+            if begins_with(items, *item) {
+                Some(after(items, 1))
+            } else {
+                None
+            }
+        }
+        Piece::Body(count) => {
+            if *count <= items.len() as u64 {
+                Some(after(items, *count as usize))
+            } else {
+                None
+            }
+        }
+    }
+}
+
+/// Whether this is the first of the items.
+fn begins_with(items: &[Item], item: Item) -> bool
+    ensures { IsTrue result ↔ Passes (pieces.Item item) items.now (drop 1 items.now) }
+{
+    !items.is_empty() && is_same(items[0], item)
+}
+
+/// Whether two items are the same.
+fn is_same(item: Item, other: Item) -> bool
+    ensures same { IsTrue result → item ≡ other }
+    ensures only { item ≡ other → IsTrue result }
+{
+    item == other
+}
+
+/// The items from a place on.
+fn after(items: &[Item], place: usize) -> &[Item]
+    requires { place ≤ length items.now }
+    ensures { result.now ≡ drop place items.now }
+{
+    &items[place..]
+}

@@ -1,0 +1,81 @@
+ghost use Rattle.std.specs.Prelude.{◌≡◌, ◌≤◌};
+ghost use Rattle.bc_rules_defs.specs.Piece.{w, operand_words as words_of_operand};
+ghost use Rattle.bc_cert_node.specs.Costs.{cost_of, least_of, are_costs, same_words};
+
+use bc_core::Operand;
+use bc_rules_defs::{Aim, Mode};
+use bc_text_items::Base;
+
+/// The least words of a node's derivations, for each aim. A value that is pushed may have no derivation.
+#[derive(Clone, Copy)]
+pub struct Costs {
+    pub any: u64,
+    pub push: Option<u64>,
+    pub on_false: u64,
+    pub on_true: u64,
+}
+
+impl Costs {
+    /// The words for this aim.
+    pub fn of(&self, aim: Aim) -> Option<u64>
+        ensures { result ≡ cost_of aim self.now }
+    {
+        match aim {
+            Aim::Gets(Mode::Any) => Some(self.any),
+            Aim::Gets(Mode::Push) => self.push,
+            Aim::Jumps(false) => Some(self.on_false),
+            Aim::Jumps(true) => Some(self.on_true),
+        }
+    }
+}
+
+/// The least words of a node's derivations for each aim, where it has any.
+#[derive(Clone, Copy)]
+pub struct LeastWords {
+    pub any: Option<u128>,
+    pub push: Option<u128>,
+    pub on_false: Option<u128>,
+    pub on_true: Option<u128>,
+}
+
+impl LeastWords {
+    /// Whether these are the numbers of a node line.
+    pub fn are(&self, costs: &Costs) -> bool
+        ensures { result ≡ are_costs self.now costs.now }
+    {
+        is_same(self.any, Some(costs.any))
+            && is_same(self.push, costs.push)
+            && is_same(self.on_false, Some(costs.on_false))
+            && is_same(self.on_true, Some(costs.on_true))
+    }
+}
+
+/// Whether these are one number, or both none.
+fn is_same(words: Option<u128>, number: Option<u64>) -> bool
+    ensures { result ≡ same_words words number }
+{
+    match (words, number) {
+        (Some(words), Some(number)) => words == u128::from(number),
+        (None, None) => true,
+        (Some(_), None) | (None, Some(_)) => false,
+    }
+}
+
+/// The words of an instruction with this number.
+pub fn number_words(number: u64) -> u8
+    ensures exact { result ≡ w number }
+    ensures few { result ≤ 2 }
+{
+    if number <= 511 { 1 } else { 2 }
+}
+
+/// The words of an instruction with this operand.
+pub fn operand_words(operand: Operand) -> u8
+    ensures exact { result ≡ words_of_operand operand }
+    ensures few { result ≤ 2 }
+{
+    match operand.base {
+        Base::Label => 2,
+        Base::Number | Base::P | Base::G => number_words(u64::from(operand.n.get())),
+    }
+}

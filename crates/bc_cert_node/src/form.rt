@@ -1,0 +1,90 @@
+ghost use Rattle.std.specs.Prelude.{◌≡◌};
+ghost use Rattle.bc_cert_node.specs.Form.{parts_of, calls_itself, is_plain as is_plain_form};
+
+use bc_word::{Op, Word};
+
+/// What a node is, without its parts.
+#[derive(Clone, Copy)]
+pub enum Form {
+    Num(Word),
+    Frame(u16),
+    Glob(u16),
+    Place(u16),
+    Valof(u16),
+    Load,
+    Neg,
+    Not,
+    Bin(Op),
+    Cond,
+    /// A call with so many arguments.
+    Call(u16),
+}
+
+impl Form {
+    /// How many parts such a node has.
+    pub fn parts(self) -> usize
+        ensures { result ≡ parts_of self }
+    {
+        match self {
+            Form::Num(_) | Form::Frame(_) | Form::Glob(_) | Form::Place(_) | Form::Valof(_) => 0,
+            Form::Load | Form::Neg | Form::Not => 1,
+            Form::Bin(_) => 2,
+            Form::Cond => 3,
+            Form::Call(count) => usize::from(count) + 1,
+        }
+    }
+
+    /// Whether such a node is a call or a VALOF.
+    pub fn calls(self) -> bool
+        ensures { result ≡ calls_itself self }
+    {
+        match self {
+            Form::Valof(_) | Form::Call(_) => true,
+            Form::Num(_)
+            | Form::Frame(_)
+            | Form::Glob(_)
+            | Form::Place(_)
+            | Form::Load
+            | Form::Neg
+            | Form::Not
+            | Form::Bin(_)
+            | Form::Cond => false,
+        }
+    }
+
+    /// Whether neither NOT, `&` nor the bar is on top, so that a test may go by the value.
+    pub fn is_plain(self) -> bool
+        ensures { result ≡ is_plain_form self }
+    {
+        match self {
+            Form::Not => false,
+            Form::Bin(op) => match op {
+                Op::And | Op::Or => false,
+                Op::Multiply
+                | Op::Divide
+                | Op::Remainder
+                | Op::Add
+                | Op::Subtract
+                | Op::Equal
+                | Op::NotEqual
+                | Op::Less
+                | Op::GreaterEqual
+                | Op::Greater
+                | Op::LessEqual
+                | Op::ShiftLeft
+                | Op::ShiftRight
+                | Op::NotEquivalent
+                | Op::Equivalent => true,
+            },
+            Form::Num(_)
+            | Form::Frame(_)
+            | Form::Glob(_)
+            | Form::Place(_)
+            | Form::Valof(_)
+            | Form::Load
+            | Form::Neg
+            | Form::Cond
+            | Form::Call(_) => true,
+        }
+    }
+}

@@ -1,0 +1,168 @@
+// The derivation that the rules of a line make of those of its parts.
+
+ghost use Rattle.std.specs.Prelude.{◌≡◌, map, take, IfOk};
+ghost use Rattle.bc_rules_defs.specs.View.{derivation as tree, derivations};
+ghost use Rattle.bc_rules_defs.specs.Rules.{by, one as one_tree};
+ghost use Rattle.bc_cert_trees.specs.Derived.{order_of, two_turned, last_turned as last_two_turned, taken as taken_of, trees, chained as chained_of, derived as derived_of};
+
+use bc_cert_lines::{Chain, Rules};
+use bc_rules_defs::{Derivation, Rule};
+use bc_word::Memory;
+use std::alloc::Global;
+
+/// Which of its parts a rule derives, and in which order.
+#[derive(Clone, Copy)]
+pub enum Order {
+    Nothing,
+    First,
+    Second,
+    InOrder,
+    Turned,
+    /// The last two turned.
+    LastTurned,
+}
+
+/// Which parts a rule derives; the rules of a sum, a difference or a test with 0 derive the other part.
+fn order_for(rule: Rule, second_is_zero: bool) -> Order
+    ensures { result ≡ order_of rule second_is_zero }
+{
+    match rule {
+        Rule::V1 | Rule::J7 => Order::Nothing,
+        Rule::V2 | Rule::V3 | Rule::V4 | Rule::V6 | Rule::V9 | Rule::V10 | Rule::J1 => Order::First,
+        Rule::V7 | Rule::V11 => Order::Second,
+        Rule::V8 | Rule::J8 | Rule::J9 => {
+            if second_is_zero {
+                Order::First
+            } else {
+                Order::Second
+            }
+        }
+        Rule::V13 | Rule::V14 | Rule::V16 => Order::Turned,
+        Rule::V21 => Order::LastTurned,
+        Rule::V0
+        | Rule::V12
+        | Rule::V15
+        | Rule::V17
+        | Rule::V18
+        | Rule::V19
+        | Rule::V20
+        | Rule::V22
+        | Rule::J2
+        | Rule::J3
+        | Rule::J4
+        | Rule::J5
+        | Rule::J6
+        | Rule::A1
+        | Rule::A2
+        | Rule::A3 => Order::InOrder,
+    }
+}
+
+/// Two parts turned round.
+#[tactic(auto, using(crate::proofs::Derived::two_seen, crate::proofs::Derived::not_two_seen))]
+fn turned(mut parts: Vec<Derivation>) -> Vec<Derivation>
+    ensures { map tree result.items ≡ two_turned (map tree parts.items) }
+{
+    if parts.len() == 2 {
+        parts.swap(0, 1);
+    }
+    parts
+}
+
+/// The last two of three parts turned round.
+#[tactic(auto, using(crate::proofs::Derived::three_seen, crate::proofs::Derived::not_three_seen))]
+fn last_turned(mut parts: Vec<Derivation>) -> Vec<Derivation>
+    ensures { map tree result.items ≡ last_two_turned (map tree parts.items) }
+{
+    if parts.len() == 3 {
+        parts.swap(1, 2);
+    }
+    parts
+}
+
+/// The first part alone.
+#[tactic(auto, using(crate::proofs::Derived::take_seen))]
+fn first(mut parts: Vec<Derivation>) -> Vec<Derivation>
+    ensures { map tree result.items ≡ take 1 (map tree parts.items) }
+{
+    parts.truncate(1);
+    parts
+}
+
+/// The parts that are derived.
+pub fn taken(order: Order, mut parts: Vec<Derivation>) -> Vec<Derivation>
+    ensures { map tree result.items ≡ taken_of order (map tree parts.items) }
+{
+    match order {
+        Order::Nothing => {
+            parts.truncate(0);
+            parts
+        }
+        Order::First => first(parts),
+        Order::Second => first(turned(parts)),
+        Order::InOrder => parts,
+        Order::Turned => turned(parts),
+        Order::LastTurned => last_turned(parts),
+    }
+}
+
+/// A rule over its parts.
+fn rule_over(rule: Rule, parts: Vec<Derivation>) -> Derivation
+    ensures { tree result ≡ by rule (derivations parts.items) }
+{
+    Derivation { rule, parts }
+}
+
+/// A rule over its parts.
+pub fn by_rule(rule: Rule, parts: Vec<Derivation>) -> Derivation
+    ensures { tree result ≡ by rule (trees (map tree parts.items)) }
+{
+    rule_over(rule, parts)
+}
+
+/// A rule over one part.
+fn over(alloc: Global, rule: Rule, part: Derivation) -> Result<Derivation, Memory>
+    ensures { IfOk result (λ d. tree d ≡ by rule (one_tree (tree part))) }
+{
+    let mut parts = Vec::new(alloc);
+    parts.push(part)?;
+    Ok(by_rule(rule, parts))
+}
+
+/// The derivation that a chain makes of those of the parts.
+fn chained(alloc: Global, chain: Chain, parts: Vec<Derivation>) -> Result<Derivation, Memory>
+    ensures { IfOk result (λ d. tree d ≡ chained_of chain (map tree parts.items)) }
+{
+    let rule = by_rule(chain.rule, parts);
+    let freed = if chain.is_freed {
+        over(alloc, Rule::V0, rule)?
+    } else {
+        rule
+    };
+    if chain.is_tested {
+        over(alloc, Rule::J6, freed)
+    } else {
+        Ok(freed)
+    }
+}
+
+/// The derivation of a node line over those of its parts; of no meaning where the line shows no rules.
+pub fn derived(
+    alloc: Global,
+    rules: Rules,
+    second_is_zero: bool,
+    parts: Vec<Derivation>,
+) -> Result<Derivation, Memory>
+    ensures { IfOk result (λ d. tree d ≡ derived_of rules second_is_zero (map tree parts.items)) }
+{
+    match rules {
+        Rules::Named(chain) => {
+            chained(
+                alloc,
+                chain,
+                taken(order_for(chain.rule, second_is_zero), parts),
+            )
+        }
+        Rules::Taken | Rules::Wrong => Ok(by_rule(Rule::V1, Vec::new(alloc))),
+    }
+}

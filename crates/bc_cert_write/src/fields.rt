@@ -1,0 +1,134 @@
+//! Fields of lines: each adds a blank and then its text.
+
+ghost use Rattle.std.specs.Prelude.{◌≡◌, ◌++◌, ◌∷◌, OnOk, []};
+ghost use Rattle.bc_text.specs.Letters.{letter as letter_of, indirection as indirection_of, base_letter as base_letter_of};
+ghost use Rattle.bc_text.specs.Printed.{printed};
+ghost use Rattle.bc_cert_write.specs.Lines.{rule_name, words_field as words_text};
+ghost use Rattle.bc_cert_write.specs.Printed.{form_text, chain_text};
+
+use crate::chain::Chain;
+use crate::form::Form;
+use crate::rule_names::{letter, number};
+use crate::text::Text;
+use bc_rules_defs::Rule;
+use bc_text_items::{Base, Function, Item};
+use bc_word::Memory;
+
+/// The form of a node.
+pub fn form_field(text: &mut Text, form: Form) -> Result<(), Memory>
+    ensures { OnOk result (text.new.bytes.items ≡ text.old.bytes.items ++ 32 ∷ form_text form) }
+{
+    match form {
+        Form::Num(n) => text.lettered(b" N", u64::from(n)),
+        Form::Frame(offset) => text.lettered(b" P", u64::from(offset)),
+        Form::Glob(n) => text.lettered(b" G", u64::from(n)),
+        Form::Place(label) => text.lettered(b" L", u64::from(label)),
+        Form::Load => text.push(b" !"),
+        Form::Neg => text.push(b" M"),
+        Form::Not => text.push(b" ~"),
+        Form::Operator(n) => text.lettered(b" X", u64::from(n)),
+        Form::Cond => text.push(b" ?"),
+        Form::Call(arguments) => text.lettered(b" K", arguments),
+        Form::Valof(n) => text.lettered(b" V", u64::from(n)),
+    }
+}
+
+/// A number of words, or `-`.
+pub fn words_field(text: &mut Text, words: Option<u64>) -> Result<(), Memory>
+    ensures { OnOk result (text.new.bytes.items ≡ text.old.bytes.items ++ 32 ∷ words_text words) }
+{
+    match words {
+        Some(words) => text.lettered(b" ", words),
+        None => text.push(b" -"),
+    }
+}
+
+/// A mark and the name of a rule.
+pub fn named(text: &mut Text, mark: &[u8], rule: Rule) -> Result<(), Memory>
+    ensures { OnOk result (text.new.bytes.items ≡ text.old.bytes.items ++ (mark.now ++ rule_name rule)) }
+{
+    text.push(mark)?;
+    text.push(&[letter(rule)])?;
+    text.number(number(rule))
+}
+
+/// The names of the rules at a node, or `-`.
+pub fn rules_field(text: &mut Text, rules: Chain) -> Result<(), Memory>
+    ensures { OnOk result (text.new.bytes.items ≡ text.old.bytes.items ++ 32 ∷ chain_text rules) }
+{
+    match rules {
+        Chain::Nothing => text.push(b" -"),
+        Chain::One(rule) => named(text, b" ", rule),
+        Chain::Two(first, second) => {
+            named(text, b" ", first)?;
+            named(text, b".", second)
+        }
+        Chain::Three(first, second, third) => {
+            named(text, b" ", first)?;
+            named(text, b".", second)?;
+            named(text, b".", third)
+        }
+    }
+}
+
+/// An item as it is printed.
+pub fn item_field(text: &mut Text, item: &Item) -> Result<(), Memory>
+    ensures { OnOk result (text.new.bytes.items ≡ text.old.bytes.items ++ 32 ∷ printed item.now) }
+{
+    match *item {
+        Item::Label(number) => text.lettered(b" ", u64::from(number.get())),
+        Item::Data(number) => text.lettered(b" D", u64::from(number.get())),
+        Item::DataLabel(label) => text.lettered(b" DL", u64::from(label.get())),
+        Item::Byte(byte) => text.lettered(b" C", u64::from(byte)),
+        Item::Operation {
+            function,
+            indirect,
+            base,
+            number,
+        } => {
+            text.push(b" ")?;
+            text.push(function_letter(function))?;
+            text.push(indirection(indirect))?;
+            text.lettered(base_letter(base), u64::from(number.get()))
+        }
+        Item::Global { number, label } => {
+            text.lettered(b" G", u64::from(number.get()))?;
+            text.lettered(b"L", u64::from(label.get()))
+        }
+    }
+}
+
+/// The letter of a function.
+fn function_letter(function: Function) -> &'static [u8]
+    ensures { result.now ≡ letter_of function ∷ [] }
+{
+    match function {
+        Function::Load => b"L",
+        Function::Store => b"S",
+        Function::Add => b"A",
+        Function::Jump => b"J",
+        Function::JumpIfTrue => b"T",
+        Function::JumpIfFalse => b"F",
+        Function::Call => b"K",
+        Function::Execute => b"X",
+    }
+}
+
+/// The `I` of an indirect operation, or nothing.
+fn indirection(indirect: bool) -> &'static [u8]
+    ensures { result.now ≡ indirection_of indirect }
+{
+    if indirect { b"I" } else { b"" }
+}
+
+/// The letter of a base, or nothing.
+fn base_letter(base: Base) -> &'static [u8]
+    ensures { result.now ≡ base_letter_of base }
+{
+    match base {
+        Base::Number => b"",
+        Base::P => b"P",
+        Base::G => b"G",
+        Base::Label => b"L",
+    }
+}

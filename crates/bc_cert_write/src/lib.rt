@@ -1,0 +1,21 @@
+//! Certificates are written.
+#![tactic(auto)]
+
+mod cert_fault;
+mod chain;
+mod entry_text;
+mod fields;
+mod form;
+pub mod laws;
+mod lines;
+mod mark;
+mod rule_names;
+mod slot;
+mod text;
+mod trees;
+mod walk;
+mod writing;
+
+pub use bc_rules_defs::Entry;
+pub use cert_fault::CertFault;
+pub use writing::write_cert;

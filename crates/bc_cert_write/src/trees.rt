@@ -1,0 +1,233 @@
+//! Parts of trees of rules.
+
+ghost use Rattle.std.specs.Prelude.{◌≡◌, drop};
+ghost use Rattle.bc_rules_defs.specs.Rules.{by};
+ghost use Rattle.bc_rules_defs.specs.View.{derivation, derivations};
+ghost use Rattle.bc_cert_write.specs.Walked.{tree_of, first, parts as parts_of, top_of, is_v0 as is_v0_of, is_j6 as is_j6_of, behind, own as own_of, at_slot as slot_of, chain_of, chain_of_value, behind_value, behind_test, placed, only_slot, left_slot as left_of, right_slot as right_of, this_slot as this_of, that_slot as that_of, value_slot as value_of, address_slot as address_of};
+
+use crate::chain::Chain;
+use crate::slot::{Slot, address_slot, left_slot, right_slot, that_slot, this_slot, value_slot};
+use bc_rules_defs::{Derivation, Rule};
+
+/// The tree at an index.
+#[tactic(auto, using(crate::proofs::Seen::tree_at))]
+pub fn at(trees: &[Derivation], index: usize) -> Option<&Derivation>
+    ensures { tree_of result ≡ first (derivations (drop index trees.now)) }
+{
+    trees.get(index)
+}
+
+/// The parts of a tree.
+#[tactic(auto, using(crate::proofs::Seen::parts_seen))]
+pub fn parts(tree: Option<&Derivation>) -> &[Derivation]
+    ensures { derivations result.now ≡ parts_of (tree_of tree.entry) }
+{
+    match tree {
+        Some(tree) => &tree.parts,
+        None => &[],
+    }
+}
+
+/// The rule of a tree.
+#[tactic(auto, using(crate::proofs::Seen::top_seen))]
+pub fn top(tree: Option<&Derivation>) -> Option<Rule>
+    ensures { result ≡ top_of (tree_of tree.entry) }
+{
+    match tree {
+        Some(tree) => Some(tree.rule),
+        None => None,
+    }
+}
+
+fn is_v0(rule: Rule) -> bool
+    ensures { result ≡ is_v0_of rule }
+{
+    match rule {
+        Rule::V0 => true,
+        _ => false,
+    }
+}
+
+fn is_j6(rule: Rule) -> bool
+    ensures { result ≡ is_j6_of rule }
+{
+    match rule {
+        Rule::J6 => true,
+        _ => false,
+    }
+}
+
+/// What stands behind a `V0`.
+#[tactic(auto, using(crate::proofs::Seen::behind_seen))]
+fn behind_v0(tree: Option<&Derivation>) -> Option<&Derivation>
+    ensures { tree_of result ≡ behind is_v0_of (tree_of tree.entry) }
+{
+    let own = tree?;
+    if is_v0(own.rule) {
+        at(&own.parts, 0)
+    } else {
+        Some(own)
+    }
+}
+
+/// What stands behind a `J6`.
+#[tactic(auto, using(crate::proofs::Seen::behind_seen))]
+fn behind_j6(tree: Option<&Derivation>) -> Option<&Derivation>
+    ensures { tree_of result ≡ behind is_j6_of (tree_of tree.entry) }
+{
+    let own = tree?;
+    if is_j6(own.rule) {
+        at(&own.parts, 0)
+    } else {
+        Some(own)
+    }
+}
+
+/// The tree without the rules that go on at the same node.
+pub fn own(tree: Option<&Derivation>) -> Option<&Derivation>
+    ensures { tree_of result ≡ own_of (tree_of tree.entry) }
+{
+    behind_v0(behind_j6(tree))
+}
+
+/// The tree at a place among a rule's parts.
+#[tactic(auto, using(crate::proofs::Seen::rest_seen))]
+pub fn at_slot(trees: &[Derivation], slot: Slot) -> Option<&Derivation>
+    ensures { tree_of result ≡ slot_of slot (derivations trees.now) }
+{
+    match slot {
+        Slot::Nowhere => None,
+        Slot::First => at(trees, 0),
+        Slot::Second => at(trees, 1),
+        Slot::Third => at(trees, 2),
+    }
+}
+
+/// The rules at the node of a value that begins with this one, over these trees.
+fn value_rules(rule: Rule, trees: &[Derivation]) -> Chain
+    ensures { result ≡ chain_of_value (Some (by rule (derivations trees.now))) }
+{
+    if !is_v0(rule) {
+        return Chain::One(rule);
+    }
+    match top(at(trees, 0)) {
+        Some(pushed) => Chain::Two(Rule::V0, pushed),
+        None => Chain::One(Rule::V0),
+    }
+}
+
+/// `J6` in front of the rules of the value that a test is made of.
+fn test_rules(value: Chain) -> Chain
+    ensures { result ≡ behind_test value }
+{
+    match value {
+        Chain::Nothing => Chain::One(Rule::J6),
+        Chain::One(rule) => Chain::Two(Rule::J6, rule),
+        Chain::Two(rule, pushed) => Chain::Three(Rule::J6, rule, pushed),
+        Chain::Three(_, _, _) => value,
+    }
+}
+
+/// The rules at the node of a value.
+#[tactic(auto, using(crate::proofs::Seen::value_seen))]
+fn value_chain(tree: Option<&Derivation>) -> Chain
+    ensures { result ≡ chain_of_value (tree_of tree.entry) }
+{
+    match tree {
+        Some(tree) => value_rules(tree.rule, &tree.parts),
+        None => Chain::Nothing,
+    }
+}
+
+/// The rules at the node of a tree.
+#[tactic(auto, using(crate::proofs::Seen::chain_seen))]
+pub fn rules_at(tree: Option<&Derivation>) -> Chain
+    ensures { result ≡ chain_of (tree_of tree.entry) }
+{
+    match tree {
+        Some(tree) => rules_over(tree.rule, &tree.parts),
+        None => Chain::Nothing,
+    }
+}
+
+/// The rules at a node that begin with this one, over these trees.
+fn rules_over(rule: Rule, trees: &[Derivation]) -> Chain
+    ensures { result ≡ chain_of (Some (by rule (derivations trees.now))) }
+{
+    if is_j6(rule) {
+        test_rules(value_chain(at(trees, 0)))
+    } else {
+        value_rules(rule, trees)
+    }
+}
+
+/// The tree of the only part.
+#[tactic(auto, using(crate::proofs::Seen::placed_seen))]
+pub fn only(tree: Option<&Derivation>) -> Option<&Derivation>
+    ensures { tree_of result ≡ placed only_slot (tree_of tree.entry) }
+{
+    match tree {
+        Some(own) => at_slot(&own.parts, Slot::First),
+        None => None,
+    }
+}
+
+/// The tree of the left operand, where the right one is a 0 or not.
+#[tactic(auto, using(crate::proofs::Seen::placed_seen))]
+pub fn left(tree: Option<&Derivation>, zero: bool) -> Option<&Derivation>
+    ensures { tree_of result ≡ placed (left_of zero) (tree_of tree.entry) }
+{
+    match tree {
+        Some(own) => at_slot(&own.parts, left_slot(zero, own.rule)),
+        None => None,
+    }
+}
+
+/// The tree of the right operand, where it is a 0 or not.
+#[tactic(auto, using(crate::proofs::Seen::placed_seen))]
+pub fn right(tree: Option<&Derivation>, zero: bool) -> Option<&Derivation>
+    ensures { tree_of result ≡ placed (right_of zero) (tree_of tree.entry) }
+{
+    match tree {
+        Some(own) => at_slot(&own.parts, right_slot(zero, own.rule)),
+        None => None,
+    }
+}
+
+/// The tree of what `->` gives where the condition is true.
+#[tactic(auto, using(crate::proofs::Seen::placed_seen))]
+pub fn this(tree: Option<&Derivation>) -> Option<&Derivation>
+    ensures { tree_of result ≡ placed this_of (tree_of tree.entry) }
+{
+    match tree {
+        Some(own) => at_slot(&own.parts, this_slot(own.rule)),
+        None => None,
+    }
+}
+
+/// The tree of what `->` gives where the condition is false.
+#[tactic(auto, using(crate::proofs::Seen::placed_seen))]
+pub fn that(tree: Option<&Derivation>) -> Option<&Derivation>
+    ensures { tree_of result ≡ placed that_of (tree_of tree.entry) }
+{
+    match tree {
+        Some(own) => at_slot(&own.parts, that_slot(own.rule)),
+        None => None,
+    }
+}
+
+/// The tree of the value of an assignment.
+#[tactic(auto, using(crate::proofs::Seen::placed_seen))]
+pub fn value(tree: &Derivation) -> Option<&Derivation>
+    ensures { tree_of result ≡ placed value_of (Some (derivation tree.now)) }
+{
+    at_slot(&tree.parts, value_slot(tree.rule))
+}
+
+/// The tree of the address of an assignment.
+#[tactic(auto, using(crate::proofs::Seen::placed_seen))]
+pub fn address(tree: &Derivation) -> Option<&Derivation>
+    ensures { tree_of result ≡ placed address_of (Some (derivation tree.now)) }
+{
+    at_slot(&tree.parts, address_slot(tree.rule))
+}

@@ -1,0 +1,216 @@
+//! The nodes of a root in order, each with the rules that a tree has there.
+
+ghost use Rattle.std.specs.Prelude.{◌≡◌, ◌≤◌, ◌+◌, ◌*◌, ◌^◌, ◌++◌, OnOk, IfOk, drop};
+ghost use Rattle.bc_core.specs.Tree.{count};
+ghost use Rattle.bc_core.specs.Level.{side_level as side_level_of};
+ghost use Rattle.bc_core.specs.View.{exp, args, root as root_of};
+ghost use Rattle.bc_core.specs.WellFormed.{nodes as nodes_in, nodes_of_args};
+ghost use Rattle.bc_select_defs.specs.Nodes.{root_nodes};
+ghost use Rattle.bc_rules_defs.specs.Free.{is_zero as is_zero_of};
+ghost use Rattle.bc_rules_defs.specs.View.{derivation, derivations};
+ghost use Rattle.bc_cert_write.specs.Walked.{tree_of, first, parts as parts_of, mark, placed, only_slot, left_slot, right_slot, this_slot, that_slot, value_slot, address_slot, behind_arguments, below_with, all_with, whole_with, root_with};
+
+use crate::form::without_parts;
+use crate::mark::Mark;
+use crate::trees::{address, at, left, only, own, parts, right, rules_at, that, this, value};
+use bc_core::{CoreExp, Root, operand};
+use bc_rules_defs::Derivation;
+use bc_word::Memory;
+use std::alloc::Global;
+
+/// Whether an expression is the number 0.
+fn is_zero(e: &CoreExp) -> bool
+    ensures { result ≡ is_zero_of (exp e.now) }
+{
+    match e {
+        CoreExp::Num(number) => number.get() == 0,
+        CoreExp::Frame(_)
+        | CoreExp::Glob(_)
+        | CoreExp::Place(_)
+        | CoreExp::Load(_)
+        | CoreExp::Neg(_)
+        | CoreExp::Not(_)
+        | CoreExp::Bin(_, _, _)
+        | CoreExp::Cond(_, _, _)
+        | CoreExp::Call(_, _)
+        | CoreExp::Valof(_) => false,
+    }
+}
+
+/// Two operands, with the trees of the rule that stands above them.
+#[cycle(walking)]
+fn pair(
+    a: &CoreExp,
+    b: &CoreExp,
+    level: u64,
+    own: Option<&Derivation>,
+    marks: &mut Vec<Mark>,
+) -> Result<(), Memory>
+    requires { level + 2 * (1 + nodes_in (exp a.now) + nodes_in (exp b.now)) ≤ 2 ^ 40 }
+    ensures { OnOk result (marks.new.items ≡ marks.old.items ++ (whole_with mark (exp a.now) (level + 1) (placed (left_slot (is_zero_of (exp b.now))) (tree_of own.entry)) ++ whole_with mark (exp b.now) (level + 1) (placed (right_slot (is_zero_of (exp b.now))) (tree_of own.entry)))) }
+{
+    let zero = is_zero(b);
+    let other = own;
+    lay(a, level + 1, left(own, zero), marks)?;
+    lay(b, level + 1, right(other, zero), marks)
+}
+
+/// The condition of `->` and its two values.
+#[cycle(walking)]
+fn triple(
+    c: &CoreExp,
+    x: &CoreExp,
+    y: &CoreExp,
+    level: u64,
+    own: Option<&Derivation>,
+    marks: &mut Vec<Mark>,
+) -> Result<(), Memory>
+    requires { level + 2 * (1 + nodes_in (exp c.now) + nodes_in (exp x.now) + nodes_in (exp y.now)) ≤ 2 ^ 40 }
+    ensures { OnOk result (marks.new.items ≡ marks.old.items ++ ((whole_with mark (exp c.now) level (placed only_slot (tree_of own.entry)) ++ whole_with mark (exp x.now) level (placed this_slot (tree_of own.entry))) ++ whole_with mark (exp y.now) level (placed that_slot (tree_of own.entry)))) }
+{
+    let second = own;
+    let third = own;
+    lay(c, level, only(own), marks)?;
+    lay(x, level, this(second), marks)?;
+    lay(y, level, that(third), marks)
+}
+
+/// The arguments of a call, with the first of these trees.
+#[cycle(walking)]
+fn all(
+    arguments: &[CoreExp],
+    level: u64,
+    trees: &[Derivation],
+    marks: &mut Vec<Mark>,
+) -> Result<(), Memory>
+    requires { level + 2 * nodes_of_args (args arguments.now) ≤ 2 ^ 40 }
+    ensures { OnOk result (marks.new.items ≡ marks.old.items ++ all_with mark (args arguments.now) level (derivations trees.now)) }
+{
+    for (i, argument) in arguments.iter().enumerate() {
+        lay(argument, level + i as u64, at(trees, i), marks)?;
+    }
+    Ok(())
+}
+
+/// The arguments of a call, and its routine.
+#[cycle(walking)]
+fn call(
+    arguments: &[CoreExp],
+    routine: &CoreExp,
+    level: u64,
+    trees: &[Derivation],
+    marks: &mut Vec<Mark>,
+) -> Result<(), Memory>
+    requires { level + 2 * (1 + nodes_of_args (args arguments.now) + nodes_in (exp routine.now)) ≤ 2 ^ 40 }
+    ensures { OnOk result (marks.new.items ≡ marks.old.items ++ (all_with mark (args arguments.now) (level + 2) (derivations trees.now) ++ whole_with mark (exp routine.now) (level + 2 + count (args arguments.now)) (first (behind_arguments (args arguments.now) (derivations trees.now))))) }
+{
+    let count = arguments.len();
+    all(arguments, level + 2, trees, marks)?;
+    lay(routine, level + 2 + count as u64, at(trees, count), marks)
+}
+
+/// The nodes below that of an expression.
+#[cycle(walking)]
+#[tactic(auto, using(bc_core::proofs::Rows::call_view))]
+fn below(
+    e: &CoreExp,
+    level: u64,
+    own: Option<&Derivation>,
+    marks: &mut Vec<Mark>,
+) -> Result<(), Memory>
+    requires { level + 2 * nodes_in (exp e.now) ≤ 2 ^ 40 }
+    ensures { OnOk result (marks.new.items ≡ marks.old.items ++ below_with mark (exp e.now) level (tree_of own.entry)) }
+{
+    match e {
+        CoreExp::Num(_)
+        | CoreExp::Frame(_)
+        | CoreExp::Glob(_)
+        | CoreExp::Place(_)
+        | CoreExp::Valof(_) => Ok(()),
+        CoreExp::Load(part) => lay(part, level, only(own), marks),
+        CoreExp::Neg(part) => lay(part, level, only(own), marks),
+        CoreExp::Not(part) => lay(part, level, only(own), marks),
+        CoreExp::Bin(_, a, b) => pair(a, b, level, own, marks),
+        CoreExp::Cond(c, x, y) => triple(c, x, y, level, own, marks),
+        CoreExp::Call(arguments, routine) => call(arguments, routine, level, parts(own), marks),
+    }
+}
+
+/// The nodes of an expression, with the tree that it has.
+///
+/// `Memory` comes where the vector could not grow.
+#[cycle(walking)]
+fn lay(
+    e: &CoreExp,
+    level: u64,
+    tree: Option<&Derivation>,
+    marks: &mut Vec<Mark>,
+) -> Result<(), Memory>
+    requires { level + 2 * nodes_in (exp e.now) ≤ 2 ^ 40 }
+    ensures { OnOk result (marks.new.items ≡ marks.old.items ++ whole_with mark (exp e.now) level (tree_of tree.entry)) }
+{
+    let rules = rules_at(tree);
+    let whole = tree;
+    below(e, level, own(whole), marks)?;
+    marks.push(Mark {
+        level,
+        form: without_parts(e),
+        rules,
+    })?;
+    Ok(())
+}
+
+/// The level of both sides of an assignment to this address.
+fn side_level(address: &CoreExp, level: u16) -> u64
+    ensures exact { result ≡ side_level_of (exp address.now) level }
+    ensures small { result ≤ 65536 }
+{
+    match operand(address) {
+        Some(_) => u64::from(level),
+        None => u64::from(level) + 1,
+    }
+}
+
+/// The two sides of an assignment, the value's first.
+fn sides(
+    value_side: &CoreExp,
+    address_side: &CoreExp,
+    level: u64,
+    tree: &Derivation,
+    marks: &mut Vec<Mark>,
+) -> Result<(), Memory>
+    requires { level + 2 * (nodes_in (exp value_side.now) + nodes_in (exp address_side.now)) ≤ 2 ^ 40 }
+    ensures { OnOk result (marks.new.items ≡ marks.old.items ++ (whole_with mark (exp value_side.now) level (placed value_slot (Some (derivation tree.now))) ++ whole_with mark (exp address_side.now) level (placed address_slot (Some (derivation tree.now))))) }
+{
+    lay(value_side, level, value(tree), marks)?;
+    lay(address_side, level, address(tree), marks)
+}
+
+/// The nodes of a root, with the rules of its tree.
+///
+/// `Memory` comes where an allocation was refused.
+pub fn marks_of(alloc: Global, root: &Root, tree: &Derivation) -> Result<Vec<Mark>, Memory>
+    requires { root_nodes (root_of root.now) ≤ 2 ^ 32 }
+    ensures { IfOk result (λ marks. marks.items ≡ root_with mark (root_of root.now) (derivation tree.now)) }
+{
+    let mut marks = Vec::new(alloc);
+    match root {
+        Root::Value { level, expression } => {
+            lay(expression, u64::from(*level), Some(tree), &mut marks)?
+        }
+        Root::Test {
+            level,
+            expression,
+            ..
+        } => lay(expression, u64::from(*level), Some(tree), &mut marks)?,
+        Root::Assign {
+            level,
+            value,
+            address,
+        } => {
+            let side = side_level(address, *level);
+            sides(value, address, side, tree, &mut marks)?
+        }
+    }
+    Ok(marks)
+}

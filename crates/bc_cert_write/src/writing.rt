@@ -1,0 +1,64 @@
+//! Writing a certificate.
+
+ghost use Rattle.std.specs.Prelude.{◌≡◌, List, OnOk, IfOk, IfErr, map};
+ghost use Rattle.std.specs.Io.KnownBytes.{Appends};
+ghost use Rattle.bc_text.specs.Printed.{AppendsFront};
+ghost use Rattle.bc_rules_defs.specs.View.{entry as entry_seen};
+ghost use Rattle.bc_cert_defs.specs.Text.{end_line};
+ghost use Rattle.bc_cert_write.specs.Certificate.{Derived, entry_of, certificate};
+ghost use Rattle.bc_cert_write.specs.declared.cert_fault.CertFault.TheVariants as faults;
+
+use crate::cert_fault::CertFault;
+use crate::entry_text::entry_text;
+use crate::text::Text;
+use bc_rules_defs::Entry;
+use std::alloc::Global;
+use std::io::Write;
+
+/// Writes the certificate of the entries, by table 2: the header, the lines of each entry, and the last line.
+///
+/// The derivation of each entry is one of its root by table 2; of other entries nothing is said. The writer is handed the
+/// lines of an entry at a time.
+///
+/// `Write` comes where the writer failed: it answered an error, or took nothing. `Memory` comes where an allocation was
+/// refused, where an offset or a label in the code of an entry would be over 65,535, and where a root has more than 2^32
+/// nodes. After either the writer has taken a front of the text.
+pub fn write_cert<W: Write>(alloc: Global, entries: &[Entry], out: &mut W) -> Result<(), CertFault>
+    ensures written { (ds : List Derived) → map entry_seen entries.now ≡ map entry_of ds → OnOk result (Appends (W.contents out.old) (W.contents out.new) (certificate ds)) }
+    ensures front { (ds : List Derived) → map entry_seen entries.now ≡ map entry_of ds → AppendsFront (W.contents out.old) (W.contents out.new) (certificate ds) }
+{
+    put(out, b"BCPLCERT 2\n")?;
+    for entry in entries {
+        let text = entry_text(alloc, entry)?;
+        put(out, text.as_slice())?;
+    }
+    let text = last_line(alloc, entries.len() as u64)?;
+    put(out, text.as_slice())
+}
+
+/// The last line of a certificate.
+fn last_line(alloc: Global, entries: u64) -> Result<Vec<u8>, CertFault>
+    ensures { IfOk result (λ text. text.items ≡ end_line entries) }
+{
+    let mut text = Text::new(alloc);
+    text.push(b"Z ")?;
+    text.number(entries)?;
+    text.push(b"\n")?;
+    Ok(text.into_bytes())
+}
+
+/// Hands the writer all of the bytes, or what it takes of them.
+fn put<W: Write>(out: &mut W, bytes: &[u8]) -> Result<(), CertFault>
+    ensures written { OnOk result (Appends (W.contents out.old) (W.contents out.new) bytes.now) }
+    ensures front { AppendsFront (W.contents out.old) (W.contents out.new) bytes.now }
+    ensures fault { IfErr result (λ fault. fault ≡ faults.Write) }
+{
+    let mut taken = 0;
+    while taken < bytes.len() {
+        match out.write(&bytes[taken..]) {
+            Ok(0) | Err(_) => return Err(CertFault::Write),
+            Ok(more) => taken += more,
+        }
+    }
+    Ok(())
+}

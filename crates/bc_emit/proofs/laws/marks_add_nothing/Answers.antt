@@ -1,5 +1,0 @@
-use Rattle.bc_emit.proofs.Standing.{marks_add_nothing}
-use Rattle.bc_emit.proofs.laws.marks_add_nothing.Goals as goal
-
-pub returns : goal.returns
-returns c = marks_add_nothing

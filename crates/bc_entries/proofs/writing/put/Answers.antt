@@ -1,9 +1,0 @@
--- What was taken before, and what was taken now.
-use Rattle.bc_text.proofs.Fronts.{taken_more, fits_more}
-use Rattle.bc_entries.proofs.writing.put.Goals as goal
-
-pub loop-taken-preserved : goal.loop-taken-preserved
-loop-taken-preserved g c = record {
-  within = fits_more _ _ _ c.loop-taken.invariant.within c.in-Ok.ensures.bound;
-  so_far = taken_more _ _ _ _ _ _ c.loop-taken.invariant.so_far c.in-Ok.ensures.bytes;
-}

@@ -1,0 +1,46 @@
+-- Worked examples: where a SWITCHON has a CASE twice, a label stands twice; so the labels need this rule too.
+use Rattle.std.specs.Prelude.{◌≡◌, ℕ, true, false, List, [], ◌∷◌, Some, refl}
+use Rattle.bc_core.specs.Tree.{Num}
+use Rattle.bc_core.specs.Commands.{block, Items, no_item, command, case, default, label, Core, Does}
+use Rattle.bc_core.specs.Commands as commands
+use Rattle.bc_core.specs.WellFormed.{is_core}
+use Rattle.bc_rules_defs.specs.declared.rule.Rule.TheVariants as rule
+use Rattle.bc_rules_defs.specs.Rules.{by, no_part}
+use Rattle.bc_gen_defs.specs.Bodies.{Coding}
+use Rattle.bc_gen_defs.specs.Section.{section_items}
+use Rattle.bc_link.specs.Labels.{labels_of, uses_of}
+use Rattle.bc_link.specs.Refusals.{first_repeated}
+use Rattle.bc_gen_labels.specs.Cases.{cases_differ}
+
+-- roots without code
+abbrev no_code : Coding
+no_code = record { pieces = λ r target first. []; labels = λ r. 0; derivation = λ r. by rule.V1 no_part }
+
+-- a routine that is a SWITCHON
+abbrev switch : Items → Core
+switch is = record { places = commands.Code (record { global = Some 1; parameters = 0; body = Does (block [] (command (commands.SwitchOn (Num 1) is) no_item)) }) ∷ []; valofs = [] }
+
+abbrev labels : Core → List ℕ
+labels core = labels_of (section_items no_code core)
+
+-- the routine's label is 1, that behind the SWITCHON 2; then come those of CASE 3, DEFAULT and CASE 4
+pub stand_once : labels (switch (case 3 (default (case 4 no_item)))) ≡ 1 ∷ 3 ∷ 4 ∷ 5 ∷ 2 ∷ []
+stand_once = refl
+
+pub spoken_of : uses_of (section_items no_code (switch (case 3 (command commands.EndCase (default no_item))))) ≡ 4 ∷ 3 ∷ 2 ∷ 1 ∷ []
+spoken_of = refl
+
+abbrev case_twice : Core
+case_twice = switch (case 3 (case 3 no_item))
+
+pub twice_is_core : is_core case_twice ≡ true
+twice_is_core = refl
+
+pub twice_differs : cases_differ case_twice ≡ false
+twice_differs = refl
+
+pub label_twice : first_repeated (labels case_twice) ≡ Some 3
+label_twice = refl
+
+pub default_twice : first_repeated (labels (switch (default (default no_item)))) ≡ Some 3
+default_twice = refl

@@ -1,6 +1,0 @@
--- The law is a lemma on the definitions.
-use Rattle.bc_item.proofs.Parts.{parts}
-use Rattle.bc_item.proofs.laws.parts_stand_apart.Goals as goal
-
-pub returns : goal.returns
-returns c = parts

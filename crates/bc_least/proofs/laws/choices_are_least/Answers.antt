@@ -1,5 +1,0 @@
-use Rattle.bc_least.proofs.Words.{choices_are_least}
-use Rattle.bc_least.proofs.laws.choices_are_least.Goals as goal
-
-pub returns : goal.returns
-returns c = choices_are_least

@@ -1,0 +1,14 @@
+-- The operators' numbers are their numbers as operations of X.
+use Rattle.std.specs.Prelude.{ℕ, ◌≡◌}
+use Rattle.bc_word.specs.Words.{number_of}
+use Rattle.bc_word.specs.declared.operator.Op.{Op}
+use Rattle.bc_machine_defs.specs.Operation.{operation_of}
+use Rattle.bc_machine_defs.specs.declared.operation.Operation.TheVariants.{Operate}
+
+-- the operation of X with an operator's number is to work out that operator
+abbrev pub OperatorsAreOperations : Type 0
+OperatorsAreOperations = (op : Op) → operation_of (number_of op) ≡ Operate op
+
+-- an operation of X that works out an operator has that operator's number
+abbrev pub OperationsAreOperators : Type 0
+OperationsAreOperators = (d : ℕ) (op : Op) → operation_of d ≡ Operate op → d ≡ number_of op

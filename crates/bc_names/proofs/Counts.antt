@@ -1,9 +1,0 @@
--- Lists are as long as what they are seen as.
-use Rattle.std.proofs.Common.{◌≡◌, refl, List, [], ◌∷◌, length, arith}
-use Rattle.bc_tree.specs.declared.tree.Exp.{Exp}
-use Rattle.bc_tree.specs.View.{exps_view}
-use Rattle.bc_scoping.specs.Scoping.{count}
-
-pub count_seen : (es : List Exp) → count (exps_view es) ≡ length es
-count_seen [] = refl
-count_seen (e ∷ es) = let h = count_seen es in omega arith

@@ -1,0 +1,96 @@
+-- Trees without where they lie in memory.
+use Rattle.std.specs.Prelude.{ℕ, List}
+use Rattle.bc_parse_tree.specs.declared.tree.Storage.{Storage}
+use Rattle.bc_parse_tree.specs.declared.tree.Monadic as monadic
+use Rattle.bc_parse_tree.specs.declared.tree.Dyadic as dyadic
+
+mutual
+  pub data Exp : Type 0 where
+    Name : List ℕ → Exp
+    Number : ℕ → Exp
+    Character : ℕ → Exp
+    Text : List ℕ → Exp
+    True : Exp
+    False : Exp
+    Table : Exps → Exp
+    Valof : Block → Exp
+    Monadic : monadic.Monadic → Exp → Exp
+    Dyadic : dyadic.Dyadic → Exp → Exp → Exp
+    Condition : Exp → Exp → Exp → Exp
+    Call : Exp → Exps → Exp
+
+  pub data Exps : Type 0 where
+    none : Exps
+    more : Exp → Exps → Exps
+
+  -- declarations, then items
+  pub data Block : Type 0 where
+    block : Declarations → Items → Block
+
+  pub data Declaration : Type 0 where
+    Constants : Storage → Entries → Declaration
+    Let : Definitions → Declaration
+
+  pub data Declarations : Type 0 where
+    no_declarations : Declarations
+    declaration : Declaration → Declarations → Declarations
+
+  -- names with their constants
+  pub data Entries : Type 0 where
+    no_entries : Entries
+    entry : List ℕ → Exp → Entries → Entries
+
+  -- the names come first, and a routine's parameters next
+  pub data Definition : Type 0 where
+    Variables : List (List ℕ) → Exps → Definition
+    Vector : List ℕ → Exp → Definition
+    Function : List ℕ → List (List ℕ) → Exp → Definition
+    Routine : List ℕ → List (List ℕ) → Block → Definition
+
+  pub data Definitions : Type 0 where
+    no_definitions : Definitions
+    definition : Definition → Definitions → Definitions
+
+  -- labels with a command, or labels alone
+  pub data Item : Type 0 where
+    Labelled : Labels → Command → Item
+    Labels_alone : Labels → Item
+
+  pub data Items : Type 0 where
+    no_items : Items
+    item : Item → Items → Items
+
+  pub data Label : Type 0 where
+    Case : Exp → Label
+    Default : Label
+    Named : List ℕ → Label
+
+  pub data Labels : Type 0 where
+    no_labels : Labels
+    label : Label → Labels → Labels
+
+  pub data Command : Type 0 where
+    Assign : Exps → Exps → Command
+    -- a call that is a command
+    Do : Exp → Exps → Command
+    -- a block that is a command
+    Compound : Block → Command
+    Break : Command
+    Loop : Command
+    EndCase : Command
+    Return : Command
+    Finish : Command
+    ResultIs : Exp → Command
+    Goto : List ℕ → Command
+    Repeat : Command → Command
+    RepeatWhile : Command → Exp → Command
+    RepeatUntil : Command → Exp → Command
+    If : Exp → Block → Command
+    Unless : Exp → Block → Command
+    While : Exp → Block → Command
+    Until : Exp → Block → Command
+    Test : Exp → Block → Block → Command
+    For : List ℕ → Exp → Exp → Block → Command
+    -- with BY
+    ForBy : List ℕ → Exp → Exp → Exp → Block → Command
+    SwitchOn : Exp → Items → Command

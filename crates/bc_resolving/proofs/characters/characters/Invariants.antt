@@ -1,6 +1,0 @@
-use Rattle.std.proofs.Common.{◌≡◌, ◌++◌, drop, false}
-use Rattle.bc_scoping.specs.Characters.{characters}
-use Rattle.bc_resolving.proofs.characters.characters.Given as goal
-
-abbrev pub invariant-loop-byte : goal.invariant-loop-byte
-invariant-loop-byte l = l.bytes.items ++ characters l.escape (drop l.byte-index l.text) ≡ characters false l.text

@@ -1,5 +1,0 @@
-use Rattle.bc_core.proofs.Rows.{test_view}
-use Rattle.bc_resolving.proofs.commands.chosen.Goals as goal
-
-pub returns : goal.returns
-returns c = test_view c.args.test c.args.this c.args.that

@@ -1,5 +1,0 @@
-use Rattle.bc_core.proofs.Rows.{for_view}
-use Rattle.bc_resolving.proofs.commands.counting.Goals as goal
-
-pub returns : goal.returns
-returns c = for_view c.args.start c.args.limit c.args.by c.args.body

@@ -1,5 +1,0 @@
-use Rattle.bc_core.proofs.Rows.{repeat_view}
-use Rattle.bc_resolving.proofs.commands.forever.Goals as goal
-
-pub returns : goal.returns
-returns c = repeat_view c.args.block

@@ -1,5 +1,0 @@
-use Rattle.bc_core.proofs.Rows.{repeat_while_view}
-use Rattle.bc_resolving.proofs.commands.repeated.Goals as goal
-
-pub returns : goal.returns
-returns c = repeat_while_view c.args.block c.args.test

@@ -1,5 +1,0 @@
-use Rattle.bc_core.proofs.Rows.{switchon_view}
-use Rattle.bc_resolving.proofs.commands.switch.Goals as goal
-
-pub returns : goal.returns
-returns c = switchon_view c.args.of c.args.list

@@ -1,5 +1,0 @@
-use Rattle.bc_core.proofs.Rows.{call_view}
-use Rattle.bc_resolving.proofs.expressions.called.Goals as goal
-
-pub returns : goal.returns
-returns c = call_view c.args.values c.args.routine

@@ -1,5 +1,0 @@
-use Rattle.bc_roundtrip.proofs.Rereading.{reread}
-use Rattle.bc_roundtrip.proofs.laws.renderings_are_reread.Goals as goal
-
-pub returns : goal.returns
-returns c = reread

@@ -1,0 +1,22 @@
+-- What the program's trees of rules and entries stand for.
+use Rattle.std.specs.Prelude.{List, [], ◌∷◌}
+use Rattle.bc_core.specs.View.{root}
+use Rattle.bc_rules_defs.specs.declared.derivation.Derivation.{Derivation, Derivation', Row_of-Derivation, end_of-Derivation, more_of-Derivation}
+use Rattle.bc_rules_defs.specs.declared.entry.Entry as code
+use Rattle.bc_rules_defs.specs.Rules.{Tree, Trees, by, no_part, part}
+use Rattle.bc_rules_defs.specs.Entry.{Entry}
+
+abbrev mutual
+  pub derivation : Derivation → Tree
+  derivation (Derivation' r shape ps) = by r (derivations_of_row ps)
+
+  pub derivations_of_row : {n : _} → Row_of-Derivation n → Trees
+  derivations_of_row end_of-Derivation = no_part
+  derivations_of_row (more_of-Derivation d ds) = part (derivation d) (derivations_of_row ds)
+
+abbrev pub derivations : List Derivation → Trees
+derivations [] = no_part
+derivations (d ∷ ds) = part (derivation d) (derivations ds)
+
+abbrev pub entry : code.Entry → Entry
+entry e = record { segment = e.segment; item = e.item; target = e.target; first = e.first; root = root e.root; derivation = derivation e.derivation; bodies = e.bodies.items }

@@ -1,0 +1,255 @@
+-- The first fault of a section, in text order.
+use Rattle.std.specs.Prelude.{ℕ, ◌+◌, ◌==◌, ◌||◌, not, nat_le, nat_lt, ◌&&◌, Bool, true, false, List, [], ◌∷◌, ◌++◌, Option, Some, None, is_some}
+use Rattle.bc_parse_tree.specs.declared.tree.Storage.{Storage}
+use Rattle.bc_parse_tree.specs.declared.tree.Storage.TheVariants as storage
+use Rattle.bc_parse_tree.specs.declared.tree.Dyadic.TheVariants as dyadic
+use Rattle.bc_parse_tree.specs.declared.tree.Monadic.{Monadic}
+use Rattle.bc_parse_tree.specs.declared.tree.Monadic.TheVariants as monadic
+use Rattle.bc_parse_tree.specs.Tree.{Exp, Exps, none, more, Block, block, Declaration, Declarations, no_declarations, declaration, Entries, no_entries, entry, Definition, Definitions, no_definitions, definition, Item, Labelled, Labels_alone, Items, no_items, item, Label, Labels, no_labels, label, Command}
+use Rattle.bc_parse_tree.specs.Tree as tree
+use Rattle.bc_scope_defs.specs.Scope.{Meant, Constant, Pending, Static, Global, Routine, Variable, OuterVariable, OuterLabel, LabelOutside, Undeclared, Env, Name, is_name, meant_by}
+use Rattle.bc_scope_defs.specs.Scope as scope
+use Rattle.bc_scope_defs.specs.Scoping.{constant, constant_in, pending, in_entry, names_of, before_let, in_for, in_list, in_valof}
+use Rattle.bc_scope_defs.specs.Found.{in_parameters, Thing, AValof, ARoutine, Data, section_start, found_in_section}
+use Rattle.bc_scope_defs.specs.Frames.{known_behind, known_behind_all, frame_of}
+
+pub data Fault : Type 0 where
+  AnUndeclared : Name → Fault
+  ADeclaredTwice : Name → Fault
+  ADynamicFree : Name → Fault
+  ANotConstant : Fault
+  AGlobalNumber : Name → Fault
+  ANotAssignable : Fault
+  AMisplaced : Fault
+  AFrameTooLarge : Fault
+  ACaseTwice : Fault
+  ATooManyPlaces : Fault
+
+abbrev pub or_else : Option Fault → Option Fault → Option Fault
+or_else (Some f) other = Some f
+or_else None other = other
+
+abbrev pub unless : Bool → Fault → Option Fault
+unless true f = None
+unless false f = Some f
+
+-- what a command may do where it stands
+pub record Allowed : Type 0 where
+  pub in_loop : Bool
+  pub in_cases : Bool
+  pub in_valof : Bool
+  pub may_return : Bool
+
+abbrev pub in_a_loop : Allowed → Allowed
+in_a_loop W = record W { in_loop = true }
+
+abbrev pub in_a_switch : Allowed → Allowed
+in_a_switch W = record W { in_cases = true }
+
+abbrev pub allowed_in_routine : Allowed
+allowed_in_routine = record { in_loop = false; in_cases = false; in_valof = false; may_return = true }
+
+abbrev pub allowed_in_valof : Allowed
+allowed_in_valof = record { in_loop = false; in_cases = false; in_valof = true; may_return = false }
+
+-- Names
+
+-- a name in an expression; in a constant what has no value yet, or isn't known before the run, makes the whole no constant
+abbrev pub name_fault : (constant : Bool) → Name → Meant → Option Fault
+name_fault c n Undeclared = Some (AnUndeclared n)
+name_fault c n OuterVariable = Some (ADynamicFree n)
+name_fault c n OuterLabel = Some (ADynamicFree n)
+name_fault c n (scope.Label l) = unless c AMisplaced
+name_fault c n LabelOutside = unless c AMisplaced
+name_fault c n _ = None
+
+abbrev pub jump_fault : Name → Meant → Option Fault
+jump_fault n (scope.Label l) = None
+jump_fault n Undeclared = Some (AnUndeclared n)
+jump_fault n OuterLabel = Some (ADynamicFree n)
+jump_fault n _ = Some AMisplaced
+
+-- what a whole constant has behind the faults in it
+abbrev pub not_constant : Env → Exp → Option Fault
+not_constant E k = unless (is_some (constant_in E k)) ANotConstant
+
+abbrev pub is_cell : Meant → Bool
+is_cell (Static m) = true
+is_cell (Global n) = true
+is_cell (Variable k) = true
+is_cell _ = false
+
+abbrev pub has_cell : Env → Exp → Bool
+has_cell E (tree.Name n) = is_cell (meant_by E n)
+has_cell E (tree.Monadic monadic.Load e) = true
+has_cell E (tree.Dyadic dyadic.Index l r) = true
+has_cell E _ = false
+
+abbrev pub address_fault : Env → Monadic → Exp → Option Fault
+address_fault E monadic.Address e = unless (has_cell E e) ANotAssignable
+address_fault E _ e = None
+
+abbrev pub all_have_cells : Env → Exps → Bool
+all_have_cells E none = true
+all_have_cells E (more x xs) = has_cell E x && all_have_cells E xs
+
+-- Names that stand twice
+
+abbrev pub is_among : List Name → Name → Bool
+is_among [] n = false
+is_among (m ∷ ms) n = is_name m n || is_among ms n
+
+-- a name behind these
+abbrev pub twice_fault : List Name → Name → Option Fault
+twice_fault before n = unless (not (is_among before n)) (ADeclaredTwice n)
+
+abbrev pub all_twice_fault : (before : List Name) → List Name → Option Fault
+all_twice_fault before [] = None
+all_twice_fault before (n ∷ ns) = or_else (twice_fault before n) (all_twice_fault (before ++ (n ∷ [])) ns)
+
+-- Labels: the names, CASE values and DEFAULT of a list that stand before
+
+pub record Met : Type 0 where
+  pub names : List Name
+  pub values : List ℕ
+  pub default : Bool
+
+abbrev pub none_met : Met
+none_met = record { names = []; values = []; default = false }
+
+abbrev pub has_value : List ℕ → ℕ → Bool
+has_value [] w = false
+has_value (v ∷ vs) w = v == w || has_value vs w
+
+abbrev pub met_label : Env → Met → Label → Met
+met_label E M (tree.Case k) = record M { values = M.values ++ (constant E k ∷ []) }
+met_label E M tree.Default = record M { default = true }
+met_label E M (tree.Named n) = record M { names = M.names ++ (n ∷ []) }
+
+abbrev pub met_labels : Env → Met → Labels → Met
+met_labels E M no_labels = M
+met_labels E M (label l ls) = met_labels E (met_label E M l) ls
+
+-- behind the faults of a CASE's constant: a CASE stands in a SWITCHON's own list, and no value twice
+abbrev pub case_fault : (cases : Bool) → Met → ℕ → Option Fault
+case_fault cases M w = or_else (unless cases AMisplaced) (unless (not (has_value M.values w)) ACaseTwice)
+
+abbrev pub default_fault : (cases : Bool) → Met → Option Fault
+default_fault cases M = or_else (unless cases AMisplaced) (unless (not M.default) ACaseTwice)
+
+-- behind the faults of an entry's constant
+abbrev pub entry_fault : Storage → Env → Name → Exp → Option Fault
+entry_fault storage.Global E n k = unless (nat_lt (constant E k) 512) (AGlobalNumber n)
+entry_fault _ E n k = None
+
+abbrev mutual
+  -- constant: whether the expression is part of a constant
+  pub fault : (constant : Bool) → Env → Exp → Option Fault
+  fault c E (tree.Name n) = name_fault c n (meant_by E n)
+  fault c E (tree.Table ks) = constants_fault E ks
+  fault c E (tree.Valof b) = block_fault allowed_in_valof (in_valof E) b
+  fault c E (tree.Monadic m e) = or_else (fault c E e) (address_fault E m e)
+  fault c E (tree.Dyadic o l r) = or_else (fault c E l) (fault c E r)
+  fault c E (tree.Condition t x y) = or_else (fault c E t) (or_else (fault c E x) (fault c E y))
+  fault c E (tree.Call f es) = or_else (fault c E f) (all_fault c E es)
+  fault c E _ = None
+
+  pub all_fault : (constant : Bool) → Env → Exps → Option Fault
+  all_fault c E none = None
+  all_fault c E (more e es) = or_else (fault c E e) (all_fault c E es)
+
+  pub constants_fault : Env → Exps → Option Fault
+  constants_fault E none = None
+  constants_fault E (more k ks) = or_else (or_else (fault true E k) (not_constant E k)) (constants_fault E ks)
+
+  pub entries_fault : Storage → (before : List Name) → Entries → Env → Option Fault
+  entries_fault s ns no_entries E = None
+  entries_fault s ns (entry n k es) E =
+      or_else (twice_fault ns n) (or_else (or_else (fault true E k) (not_constant E k)) (or_else (entry_fault s E n k)
+      (entries_fault s (ns ++ (n ∷ [])) es (in_entry s section_start n k E))))
+
+  -- inside: whether this is inside a block, where variables may stand; before: the names of the LET before these
+  pub definition_fault : (inside : Bool) → (before : List Name) → (constants names : Env) → Definition → Option Fault
+  definition_fault i ns B E (tree.Variables xs es) = or_else (all_twice_fault ns xs) (or_else (all_fault false E es) (unless i AMisplaced))
+  definition_fault i ns B E (tree.Vector n k) = or_else (twice_fault ns n) (or_else (or_else (fault true B k) (not_constant B k)) (unless i AMisplaced))
+  definition_fault i ns B E (tree.Function n ps e) = or_else (twice_fault ns n) (or_else (all_twice_fault [] ps) (fault false (in_parameters ps E) e))
+  definition_fault i ns B E (tree.Routine n ps b) =
+      or_else (twice_fault ns n) (or_else (all_twice_fault [] ps) (block_fault allowed_in_routine (in_parameters ps E) b))
+
+  pub definitions_fault : (inside : Bool) → (before : List Name) → (constants names : Env) → Definitions → Option Fault
+  definitions_fault i ns B E no_definitions = None
+  definitions_fault i ns B E (definition d ds) = or_else (definition_fault i ns B E d) (definitions_fault i (ns ++ names_of d) B E ds)
+
+  pub declaration_fault : (inside : Bool) → Env → Declaration → Option Fault
+  declaration_fault i E (tree.Constants k es) = entries_fault k [] es (pending es E)
+  declaration_fault i E (tree.Let ds) = definitions_fault i [] (before_let ds E) (known_behind E (tree.Let ds)) ds
+
+  pub declarations_fault : (inside : Bool) → Env → Declarations → Option Fault
+  declarations_fault i E no_declarations = None
+  declarations_fault i E (declaration d ds) = or_else (declaration_fault i E d) (declarations_fault i (known_behind E d) ds)
+
+  pub block_fault : Allowed → Env → Block → Option Fault
+  block_fault W E (block ds is) = or_else (declarations_fault true E ds) (items_fault false none_met W (in_list 0 is (known_behind_all E ds)) is)
+
+  pub label_fault : (cases : Bool) → Met → Env → Label → Option Fault
+  label_fault cases M E (tree.Case k) = or_else (or_else (fault true E k) (not_constant E k)) (case_fault cases M (constant E k))
+  label_fault cases M E tree.Default = default_fault cases M
+  label_fault cases M E (tree.Named n) = twice_fault M.names n
+
+  pub labels_fault : (cases : Bool) → Met → Env → Labels → Option Fault
+  labels_fault cases M E no_labels = None
+  labels_fault cases M E (label l ls) = or_else (label_fault cases M E l) (labels_fault cases (met_label E M l) E ls)
+
+  -- cases: whether this is a SWITCHON's own list; met: the labels of the list before these items
+  pub items_fault : (cases : Bool) → (met : Met) → Allowed → Env → Items → Option Fault
+  items_fault cases M W E no_items = None
+  items_fault cases M W E (item (Labelled ls c) is) =
+      or_else (labels_fault cases M E ls) (or_else (command_fault W E c) (items_fault cases (met_labels E M ls) W E is))
+  items_fault cases M W E (item (Labels_alone ls) is) = or_else (labels_fault cases M E ls) (items_fault cases (met_labels E M ls) W E is)
+
+  pub command_fault : Allowed → Env → Command → Option Fault
+  command_fault W E (tree.Assign xs es) = or_else (all_fault false E xs) (or_else (all_fault false E es) (unless (all_have_cells E xs) ANotAssignable))
+  command_fault W E (tree.Do f es) = or_else (fault false E f) (all_fault false E es)
+  command_fault W E (tree.Compound b) = block_fault W E b
+  command_fault W E tree.Break = unless W.in_loop AMisplaced
+  command_fault W E tree.Loop = unless W.in_loop AMisplaced
+  command_fault W E tree.EndCase = unless W.in_cases AMisplaced
+  command_fault W E tree.Return = unless W.may_return AMisplaced
+  command_fault W E tree.Finish = None
+  command_fault W E (tree.ResultIs e) = or_else (fault false E e) (unless W.in_valof AMisplaced)
+  command_fault W E (tree.Goto n) = jump_fault n (meant_by E n)
+  command_fault W E (tree.Repeat c) = command_fault (in_a_loop W) E c
+  command_fault W E (tree.RepeatWhile c e) = or_else (command_fault (in_a_loop W) E c) (fault false E e)
+  command_fault W E (tree.RepeatUntil c e) = or_else (command_fault (in_a_loop W) E c) (fault false E e)
+  command_fault W E (tree.If e b) = or_else (fault false E e) (block_fault W E b)
+  command_fault W E (tree.Unless e b) = or_else (fault false E e) (block_fault W E b)
+  command_fault W E (tree.While e b) = or_else (fault false E e) (block_fault (in_a_loop W) E b)
+  command_fault W E (tree.Until e b) = or_else (fault false E e) (block_fault (in_a_loop W) E b)
+  command_fault W E (tree.Test e b c) = or_else (fault false E e) (or_else (block_fault W E b) (block_fault W E c))
+  command_fault W E (tree.For n a z b) = or_else (fault false E a) (or_else (fault false E z) (block_fault (in_a_loop W) (in_for E n 0) b))
+  command_fault W E (tree.ForBy n a z k b) =
+      or_else (fault false E a) (or_else (fault false E z) (or_else (or_else (fault true E k) (not_constant E k)) (block_fault (in_a_loop W) (in_for E n 0) b)))
+  command_fault W E (tree.SwitchOn e is) = or_else (fault false E e) (items_fault true none_met (in_a_switch W) (in_list 0 is E) is)
+
+-- behind all others
+abbrev pub frames_fault : List Thing → Option Fault
+frames_fault [] = None
+frames_fault (AValof f ∷ things) = frames_fault things
+frames_fault (ARoutine r ∷ things) = or_else (unless (nat_le (frame_of r) 32768) AFrameTooLarge) (frames_fault things)
+frames_fault (Data m d ∷ things) = frames_fault things
+
+-- how many routines, statics, tables and strings there are
+abbrev pub places_among : List Thing → ℕ
+places_among [] = 0
+places_among (AValof f ∷ things) = places_among things
+places_among (ARoutine r ∷ things) = 1 + places_among things
+places_among (Data m d ∷ things) = 1 + places_among things
+
+-- at most 8,000
+abbrev pub places_fault : List Thing → Option Fault
+places_fault things = unless (nat_le (places_among things) 8000) ATooManyPlaces
+
+abbrev pub section_fault : Declarations → Option Fault
+section_fault ds =
+    let things = found_in_section ds in
+    or_else (declarations_fault false [] ds) (or_else (frames_fault things) (places_fault things))

@@ -1,0 +1,107 @@
+-- How many cells of its frame a routine of a section takes: one more than the greatest offset that it uses.
+use Rattle.std.specs.Prelude.{ℕ, ◌+◌, max, cond, List, [], ◌∷◌}
+use Rattle.bc_parse_tree.specs.Tree.{Exp, Exps, none, more, Block, block, Declaration, Declarations, no_declarations, declaration, Definition, Definitions, no_definitions, definition, Item, Labelled, Labels_alone, Items, no_items, item, Command}
+use Rattle.bc_parse_tree.specs.Tree as tree
+use Rattle.bc_core.specs.Level.{operand_level, argument_level, routine_level, level_in_for, level_behind_parameters}
+use Rattle.bc_scope_defs.specs.Scope.{Env}
+use Rattle.bc_scope_defs.specs.Scoping.{count, cells_of_all, before_let, in_declaration, in_declarations, cells_in, level_behind, in_for, in_list, in_valof}
+use Rattle.bc_scope_defs.specs.Sides.{kinds, is_operand_kind, side_levels}
+use Rattle.bc_scope_defs.specs.Found.{FoundRoutine, RoutineBody, Gives, Does, section_start}
+
+-- Of what names mean, the constants and the kinds of meaning tell which cells are taken and what is at fault, and no label, number or offset
+-- does. So names are declared here, and in `Faults`, with any numbers.
+
+abbrev pub known_behind : Env → Declaration → Env
+known_behind E d = in_declaration E section_start 0 d
+
+abbrev pub known_behind_all : Env → Declarations → Env
+known_behind_all E ds = in_declarations E section_start 0 ds
+
+-- an assignment whose address is no operand holds its value at s
+abbrev pub held : Env → Exp → (s : ℕ) → ℕ
+held E x s = cond (is_operand_kind (kinds E x).address) 0 (s + 2)
+
+abbrev pub all_held : Env → Exps → (s : ℕ) → List ℕ
+all_held E none s = []
+all_held E (more x xs) s = held E x s ∷ all_held E xs s
+
+abbrev pub widest : (held addresses values : List ℕ) → ℕ
+widest (h ∷ hs) (x ∷ xs) (e ∷ es) = max (max h (max e x)) (widest hs xs es)
+widest _ _ _ = 0
+
+-- an operator at level s may hold a value at s and one at s + 1, a call at s holds its links and n arguments
+abbrev mutual
+  pub width : Env → Exp → (s : ℕ) → ℕ
+  width E (tree.Valof b) s = width_of_block (in_valof E) b s
+  width E (tree.Monadic m e) s = width E e s
+  width E (tree.Dyadic o l r) s = max (s + 2) (max (width E l (operand_level s)) (width E r (operand_level s)))
+  width E (tree.Condition c x y) s = max (width E c s) (max (width E x s) (width E y s))
+  width E (tree.Call f es) s = max (s + 2 + count es) (max (width_of_all E es (argument_level s) 1) (width E f (routine_level s (count es))))
+  width E _ s = 0
+
+  -- the first at level s, each other a step above the one before it
+  pub width_of_all : Env → Exps → (s step : ℕ) → ℕ
+  width_of_all E none s step = 0
+  width_of_all E (more e es) s step = max (width E e s) (width_of_all E es (s + step) step)
+
+  pub widths : Env → Exps → List ℕ → List ℕ
+  widths E (more e es) (s ∷ ss) = width E e s ∷ widths E es ss
+  widths E _ _ = []
+
+  -- a routine in it has a frame of its own
+  pub width_of_definition : Env → Definition → (s : ℕ) → ℕ
+  width_of_definition E (tree.Variables ns es) s = width_of_all E es s 0
+  width_of_definition E _ s = 0
+
+  pub width_of_definitions : Env → Definitions → (s : ℕ) → ℕ
+  width_of_definitions E no_definitions s = 0
+  width_of_definitions E (definition d ds) s = max (width_of_definition E d s) (width_of_definitions E ds s)
+
+  -- each declaration takes its cells first, and its initialisers stand at the level behind it
+  pub width_of_declaration : Env → Declaration → (s : ℕ) → ℕ
+  width_of_declaration E (tree.Constants k es) s = 0
+  width_of_declaration E (tree.Let ds) s =
+      let s1 = s + cells_of_all (before_let ds E) ds in max s1 (width_of_definitions (known_behind E (tree.Let ds)) ds s1)
+
+  pub width_of_declarations : Env → Declarations → (s : ℕ) → ℕ
+  width_of_declarations E no_declarations s = 0
+  width_of_declarations E (declaration d ds) s = max (width_of_declaration E d s) (width_of_declarations (known_behind E d) ds (s + cells_in E d))
+
+  pub width_of_block : Env → Block → (s : ℕ) → ℕ
+  width_of_block E (block ds is) s =
+      max (width_of_declarations E ds s) (width_of_items (in_list 0 is (known_behind_all E ds)) is (level_behind E section_start s ds))
+
+  pub width_of_items : Env → Items → (s : ℕ) → ℕ
+  width_of_items E no_items s = 0
+  width_of_items E (item (Labelled ls c) is) s = max (width_of_command E c s) (width_of_items E is s)
+  width_of_items E (item (Labels_alone ls) is) s = width_of_items E is s
+
+  pub width_of_command : Env → Command → (s : ℕ) → ℕ
+  width_of_command E (tree.Assign xs es) s = let ss = side_levels E xs s in widest (all_held E xs s) (widths E xs ss) (widths E es ss)
+  width_of_command E (tree.Do f es) s =
+      max (s + 2 + count es) (max (width_of_all E es (argument_level s) 1) (width E f (routine_level s (count es))))
+  width_of_command E (tree.Compound b) s = width_of_block E b s
+  width_of_command E (tree.ResultIs e) s = width E e s
+  width_of_command E (tree.Repeat c) s = width_of_command E c s
+  width_of_command E (tree.RepeatWhile c e) s = max (width_of_command E c s) (width E e s)
+  width_of_command E (tree.RepeatUntil c e) s = max (width_of_command E c s) (width E e s)
+  width_of_command E (tree.If e b) s = max (width E e s) (width_of_block E b s)
+  width_of_command E (tree.Unless e b) s = max (width E e s) (width_of_block E b s)
+  width_of_command E (tree.While e b) s = max (width E e s) (width_of_block E b s)
+  width_of_command E (tree.Until e b) s = max (width E e s) (width_of_block E b s)
+  width_of_command E (tree.Test e b c) s = max (width E e s) (max (width_of_block E b s) (width_of_block E c s))
+  -- the FOR's own test and sum are operators at the level behind its two cells
+  width_of_command E (tree.For n a z b) s =
+      let s1 = level_in_for s in max (s1 + 2) (max (width E a s1) (max (width E z s1) (width_of_block (in_for E n 0) b s1)))
+  width_of_command E (tree.ForBy n a z k b) s =
+      let s1 = level_in_for s in max (s1 + 2) (max (width E a s1) (max (width E z s1) (width_of_block (in_for E n 0) b s1)))
+  width_of_command E (tree.SwitchOn e is) s = max (width E e s) (width_of_items (in_list 0 is E) is s)
+  width_of_command E _ s = 0
+
+abbrev pub width_of_body : Env → RoutineBody → (s : ℕ) → ℕ
+width_of_body E (Gives e) s = width E e s
+width_of_body E (Does b) s = width_of_block E b s
+
+-- the links and the parameters have cells in any case
+abbrev pub frame_of : FoundRoutine → ℕ
+frame_of r = let s = level_behind_parameters r.parameters in max s (width_of_body r.names r.body s)

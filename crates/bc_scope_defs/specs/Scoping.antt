@@ -1,0 +1,199 @@
+-- Which names are known where.
+use Rattle.std.specs.Prelude.{ℕ, ◌+◌, List, [], ◌∷◌, Option, Some, None}
+use Rattle.bc_word.specs.declared.operator.Op.{Op}
+use Rattle.bc_word.specs.declared.operator.Op.TheVariants as operators
+use Rattle.bc_word.specs.Words.{value_of, negated, complemented}
+use Rattle.bc_parse_tree.specs.declared.tree.Storage.{Storage}
+use Rattle.bc_parse_tree.specs.declared.tree.Storage.TheVariants as storage
+use Rattle.bc_parse_tree.specs.declared.tree.Dyadic.{Dyadic}
+use Rattle.bc_parse_tree.specs.declared.tree.Dyadic.TheVariants as dyadic
+use Rattle.bc_parse_tree.specs.declared.tree.Monadic.{Monadic}
+use Rattle.bc_parse_tree.specs.declared.tree.Monadic.TheVariants as monadic
+use Rattle.bc_parse_tree.specs.Tree.{Exp, Exps, none, more, Declaration, Declarations, no_declarations, declaration, Entries, no_entries, entry, Definition, Definitions, no_definitions, definition, Item, Labelled, Labels_alone, Items, no_items, item, Label, Labels, no_labels, label}
+use Rattle.bc_parse_tree.specs.Tree as tree
+use Rattle.bc_scope_defs.specs.Scope.{Meant, Constant, Pending, Static, Global, Routine, Variable, OuterVariable, OuterLabel, LabelOutside, Env, Name, meant_by, Numbers}
+use Rattle.bc_scope_defs.specs.Scope as scope
+use Rattle.bc_scope_defs.specs.Numbering.{behind_entry, behind_declaration, behind_definition, labels_named, labels_of_item}
+
+-- the operator of a word for each but `!`
+abbrev pub operator : Dyadic → Option Op
+operator dyadic.Equivalent = Some operators.Equivalent
+operator dyadic.NotEquivalent = Some operators.NotEquivalent
+operator dyadic.Or = Some operators.Or
+operator dyadic.And = Some operators.And
+operator dyadic.ShiftLeft = Some operators.ShiftLeft
+operator dyadic.ShiftRight = Some operators.ShiftRight
+operator dyadic.Equal = Some operators.Equal
+operator dyadic.NotEqual = Some operators.NotEqual
+operator dyadic.Less = Some operators.Less
+operator dyadic.GreaterEqual = Some operators.GreaterEqual
+operator dyadic.Greater = Some operators.Greater
+operator dyadic.LessEqual = Some operators.LessEqual
+operator dyadic.Add = Some operators.Add
+operator dyadic.Subtract = Some operators.Subtract
+operator dyadic.Multiply = Some operators.Multiply
+operator dyadic.Divide = Some operators.Divide
+operator dyadic.Remainder = Some operators.Remainder
+operator dyadic.Index = None
+
+-- Constants
+
+abbrev pub constant_name : Meant → Option ℕ
+constant_name (Constant w) = Some w
+constant_name _ = None
+
+abbrev pub constant_monadic : Monadic → Option ℕ → Option ℕ
+constant_monadic monadic.Negate (Some w) = Some (negated w)
+constant_monadic monadic.Not (Some w) = Some (complemented w)
+constant_monadic _ w = None
+
+abbrev pub constant_dyadic : Option Op → Option ℕ → Option ℕ → Option ℕ
+constant_dyadic (Some op) (Some a) (Some b) = value_of op a b
+constant_dyadic _ _ _ = None
+
+abbrev pub constant_in : Env → Exp → Option ℕ
+constant_in E (tree.Name n) = constant_name (meant_by E n)
+constant_in E (tree.Number w) = Some w
+constant_in E (tree.Character w) = Some w
+constant_in E tree.True = Some 65535
+constant_in E tree.False = Some 0
+constant_in E (tree.Monadic m e) = constant_monadic m (constant_in E e)
+constant_in E (tree.Dyadic o l r) = constant_dyadic (operator o) (constant_in E l) (constant_in E r)
+constant_in E _ = None
+
+-- what is no constant counts as 0
+abbrev pub or_zero : Option ℕ → ℕ
+or_zero None = 0
+or_zero (Some w) = w
+
+abbrev pub constant : Env → Exp → ℕ
+constant E k = or_zero (constant_in E k)
+
+-- MANIFEST, STATIC and GLOBAL: all names of the declaration are known in its constants, and none of them is a constant yet
+
+abbrev pub pending : Entries → Env → Env
+pending no_entries E = E
+pending (entry n k es) E = pending es ((n, Pending) ∷ E)
+
+abbrev pub meant_as : Storage → Numbers → Option ℕ → Meant
+meant_as storage.Manifest at None = Pending
+meant_as storage.Manifest at (Some w) = Constant w
+meant_as storage.Static at w = Static at.place
+meant_as storage.Global at w = Global (or_zero w)
+
+abbrev pub in_entry : Storage → Numbers → Name → Exp → Env → Env
+in_entry s at n k E = (n, meant_as s at (constant_in E k)) ∷ E
+
+-- each constant sees those of the same declaration before it
+abbrev pub in_entries : Storage → Numbers → Entries → Env → Env
+in_entries s at no_entries E = E
+in_entries s at (entry n k es) E = in_entries s (behind_entry s at) es (in_entry s at n k E)
+
+-- LET
+
+abbrev pub count : Exps → ℕ
+count none = 0
+count (more e es) = 1 + count es
+
+abbrev pub cells_of : Env → Definition → ℕ
+cells_of E (tree.Variables ns es) = count es
+cells_of E (tree.Vector n k) = constant E k + 2
+cells_of E (tree.Function n ps e) = 0
+cells_of E (tree.Routine n ps b) = 0
+
+abbrev pub cells_of_all : Env → Definitions → ℕ
+cells_of_all E no_definitions = 0
+cells_of_all E (definition d ds) = cells_of E d + cells_of_all E ds
+
+abbrev pub pending_names : List Name → Env → Env
+pending_names [] E = E
+pending_names (n ∷ ns) E = pending_names ns ((n, Pending) ∷ E)
+
+abbrev pub names_of : Definition → List Name
+names_of (tree.Variables ns es) = ns
+names_of (tree.Vector n k) = n ∷ []
+names_of (tree.Function n ps e) = n ∷ []
+names_of (tree.Routine n ps b) = n ∷ []
+
+-- in the constants of a LET its own names are known, and none of them is a constant
+abbrev pub before_let : Definitions → Env → Env
+before_let no_definitions E = E
+before_let (definition d ds) E = before_let ds (pending_names (names_of d) E)
+
+-- variables from offset k on
+abbrev pub variables : List Name → ℕ → Env → Env
+variables [] k E = E
+variables (n ∷ ns) k E = variables ns (k + 1) ((n, Variable k) ∷ E)
+
+-- a routine whose name means a global makes no new name
+abbrev pub routine_name : Meant → Name → ℕ → Env → Env
+routine_name (Global g) n m E = E
+routine_name _ n m E = (n, Routine m) ∷ E
+
+-- before: what names mean before the LET
+abbrev pub in_definition : (before : Env) → Numbers → (k : ℕ) → Definition → Env → Env
+in_definition B at k (tree.Variables ns es) E = variables ns k E
+in_definition B at k (tree.Vector n c) E = (n, Variable k) ∷ E
+in_definition B at k (tree.Function n ps e) E = routine_name (meant_by B n) n at.place E
+in_definition B at k (tree.Routine n ps b) E = routine_name (meant_by B n) n at.place E
+
+abbrev pub in_definitions : (before constants : Env) → Numbers → (k : ℕ) → Definitions → Env → Env
+in_definitions B K at k no_definitions E = E
+in_definitions B K at k (definition d ds) E = in_definitions B K (behind_definition at d) (k + cells_of K d) ds (in_definition B at k d E)
+
+-- with the next free offset s
+abbrev pub in_let : Env → Numbers → (s : ℕ) → Definitions → Env
+in_let E at s ds = in_definitions E (before_let ds E) at s ds E
+
+abbrev pub in_declaration : Env → Numbers → (s : ℕ) → Declaration → Env
+in_declaration E at s (tree.Constants k es) = in_entries k at es (pending es E)
+in_declaration E at s (tree.Let ds) = in_let E at s ds
+
+abbrev pub cells_in : Env → Declaration → ℕ
+cells_in E (tree.Constants k es) = 0
+cells_in E (tree.Let ds) = cells_of_all (before_let ds E) ds
+
+abbrev pub in_declarations : Env → Numbers → (s : ℕ) → Declarations → Env
+in_declarations E at s no_declarations = E
+in_declarations E at s (declaration d ds) = in_declarations (in_declaration E at s d) (behind_declaration at d) (s + cells_in E d) ds
+
+-- the next free offset behind declarations
+abbrev pub level_behind : Env → Numbers → (s : ℕ) → Declarations → ℕ
+level_behind E at s no_declarations = s
+level_behind E at s (declaration d ds) = level_behind (in_declaration E at s d) (behind_declaration at d) (s + cells_in E d) ds
+
+-- a FOR's variable stands at offset s
+abbrev pub in_for : Env → Name → (s : ℕ) → Env
+in_for E n s = (n, Variable s) ∷ E
+
+-- the labels of a list, from number k on
+
+abbrev pub in_label : (k : ℕ) → Label → Env → Env
+in_label k (tree.Named n) E = (n, scope.Label k) ∷ E
+in_label k _ E = E
+
+abbrev pub in_labels : (k : ℕ) → Labels → Env → Env
+in_labels k no_labels E = E
+in_labels k (label l ls) E = in_labels (k + labels_named l) ls (in_label k l E)
+
+abbrev pub in_item : (k : ℕ) → Item → Env → Env
+in_item k (Labelled ls c) E = in_labels k ls E
+in_item k (Labels_alone ls) E = in_labels k ls E
+
+abbrev pub in_list : (k : ℕ) → Items → Env → Env
+in_list k no_items E = E
+in_list k (item i is) E = in_list (k + labels_of_item i) is (in_item k i E)
+
+-- the variables and labels of a routine are another's to the routines in it
+
+abbrev pub in_routine : Env → Env
+in_routine [] = []
+in_routine ((n, Variable k) ∷ E) = (n, OuterVariable) ∷ in_routine E
+in_routine ((n, scope.Label l) ∷ E) = (n, OuterLabel) ∷ in_routine E
+in_routine ((n, LabelOutside) ∷ E) = (n, OuterLabel) ∷ in_routine E
+in_routine (e ∷ E) = e ∷ in_routine E
+
+abbrev pub in_valof : Env → Env
+in_valof [] = []
+in_valof ((n, scope.Label l) ∷ E) = (n, LabelOutside) ∷ in_valof E
+in_valof (e ∷ E) = e ∷ in_valof E

@@ -1,0 +1,184 @@
+use Rattle.std.proofs.Common.{sym, ◌∙◌, ◌+◌, drop, append_assoc, arith}
+use Rattle.std.proofs.lemmas.Result.{err_from_is_err_and}
+use Rattle.bc_parse_tree.specs.View.{exp_view, exps_view, item_view, items_view}
+use Rattle.bc_scope_names.proofs.Extends.{extends_on}
+use Rattle.bc_scope_names.specs.View.{scope_view, numbers_view}
+use Rattle.bc_scope_defs.specs.Numbering.{behind}
+use Rattle.bc_scope_defs.specs.FramesAlong.{width, widths}
+use Rattle.bc_scope_faults.specs.Parts.{head_level, side_width}
+use Rattle.bc_scope_faults.specs.Seen.{allowed_view, met_view}
+use Rattle.bc_scope_faults.proofs.Frames.{frames_along, max_along}
+use Rattle.bc_scope_faults.proofs.Held.{exp_held, entry_held, declaration_held, definition_held, item_held, label_held}
+use Rattle.bc_scope_faults.proofs.Lets.{one_more_found}
+use Rattle.bc_scope_faults.proofs.Lists.{exps_on, constant_seen, entries_on, declarations_on, definitions_on, items_on, drop_one}
+use Rattle.bc_scope_faults.proofs.Scopes.{left_both}
+use Rattle.bc_scope_faults.proofs.Turns.{fault_whole, entry_fits, item_fault_on, item_found_on, item_width_on, side_fault_on, side_found_on, side_widths_on}
+use Rattle.bc_scope_faults.proofs.faults.+faults.Goals as goal
+
+pub arguments-expression-requires : goal.arguments-expression-requires
+arguments-expression-requires t c = (omega (arith, exp_held c.args.list.now c.loop-e.e-index c.e-item.result c.loop-e-test.true c.e-item.is, c.decreases), tt)
+
+pub constants-constant_fault-requires : goal.constants-constant_fault-requires
+constants-constant_fault-requires t c = (omega (arith, exp_held c.args.list.now c.loop-e.e-index c.e-item.result c.loop-e-test.true c.e-item.is, c.decreases), tt)
+
+pub sides-expression-requires : goal.sides-expression-requires
+sides-expression-requires t c = (omega (arith, exp_held c.args.list.now c.loop-e.e-index c.e-item.result c.loop-e-test.true c.e-item.is, c.decreases), tt)
+
+pub initials-expression-requires : goal.initials-expression-requires
+initials-expression-requires t c = (omega (arith, exp_held c.args.list.now c.loop-e.e-index c.e-item.result c.loop-e-test.true c.e-item.is, c.decreases), tt)
+
+pub entries-constant_fault-requires : goal.entries-constant_fault-requires
+entries-constant_fault-requires t c = (omega (arith, entry_held c.args.list.now c.loop-entry.entry-index c.entry-item.result c.loop-entry-test.true c.entry-item.is, c.decreases), tt)
+
+pub definitions-definition-requires : goal.definitions-definition-requires
+definitions-definition-requires t c = (omega (arith, definition_held c.args.list.now c.loop-tree.tree-index c.tree-item.result c.loop-tree-test.true c.tree-item.is, c.decreases), tt)
+
+pub declarations-declaration-requires : goal.declarations-declaration-requires
+declarations-declaration-requires t c = (omega (arith, declaration_held c.args.list.now c.loop-tree.tree-index c.tree-item.result c.loop-tree-test.true c.tree-item.is, c.decreases), tt)
+
+pub vector_faults-vector_fault-requires : goal.vector_faults-vector_fault-requires
+vector_faults-vector_fault-requires t c = (omega (arith, definition_held c.args.list.now c.loop-tree.tree-index c.tree-item.result c.loop-tree-test.true c.tree-item.is, c.decreases), tt)
+
+pub labels-label-requires : goal.labels-label-requires
+labels-label-requires t c = (omega (arith, label_held c.args.list.now c.loop-tree.tree-index c.tree-item.result c.loop-tree-test.true c.tree-item.is, c.decreases), tt)
+
+pub items-one_item-requires : goal.items-one_item-requires
+items-one_item-requires t c = (omega (arith, item_held c.args.trees.now c.loop-tree.tree-index c.tree-item.result c.loop-tree-test.true c.tree-item.is, c.decreases), tt)
+
+pub arguments-loop-e-preserved : goal.arguments-loop-e-preserved
+arguments-loop-e-preserved t c =
+    let n = exps_on c.args.list.now c.loop-e.e-index c.e-item.result c.loop-e-test.true c.e-item.is in
+    let v = rw n at c.loop-e.invariant in
+    let w = c.in_ok-expression.ensures.answer in
+    let k = c.in_ok-expression.ensures.kept in
+    let a = c.in_ok-above.ensures in (
+      rw (w.2, k, a) (rw w.0 at v.0),
+      rw (w.2, k, a, c.max-width.ensures, w.1) (max_along _ _ _ ∙ v.1),
+      rw w.2 v.2,
+      rw (w.2, k, a, w.3) (simp frames_along at v.3),
+      k ∙ v.4,
+    )
+
+pub initials-loop-e-preserved : goal.initials-loop-e-preserved
+initials-loop-e-preserved t c =
+    let n = exps_on c.args.list.now c.loop-e.e-index c.e-item.result c.loop-e-test.true c.e-item.is in
+    let v = rw n at c.loop-e.invariant in
+    let w = c.in_ok-expression.ensures.answer in
+    let k = c.in_ok-expression.ensures.kept in (
+      rw (w.2, k) (rw w.0 at v.0),
+      rw (w.2, k, c.max-width.ensures, w.1) (max_along _ _ _ ∙ v.1),
+      rw w.2 v.2,
+      rw (w.2, k, w.3) (simp frames_along at v.3),
+      k ∙ v.4,
+    )
+
+pub definitions-loop-tree-preserved : goal.definitions-loop-tree-preserved
+definitions-loop-tree-preserved t c =
+    let d = drop_one c.args.faults.now c.loop-tree.i in
+    let n = definitions_on c.args.list.now c.loop-tree.tree-index c.tree-item.result c.loop-tree-test.true c.tree-item.is in
+    let v = rw n at c.loop-tree.invariant in
+    let w = rw c.fault_at-fault.ensures at c.in_ok-own.ensures.answer in
+    let k = c.in_ok-own.ensures.kept in
+    let a = c.in_ok-i.ensures in (
+      rw (w.2, w.4, k, a, sym d) (rw w.0 at v.0),
+      rw (w.2, k, c.max-width.ensures, w.1) (max_along _ _ _ ∙ v.1),
+      rw w.2 v.2,
+      rw (w.2, k, w.3) (simp frames_along at v.3),
+      k ∙ v.4,
+    )
+
+pub vector_faults-loop-tree-preserved : goal.vector_faults-loop-tree-preserved
+vector_faults-loop-tree-preserved t c =
+    let n = definitions_on c.args.list.now c.loop-tree.tree-index c.tree-item.result c.loop-tree-test.true c.tree-item.is in
+    let v = rw n at c.loop-tree.invariant in
+    let w = c.in_ok-vector_fault.ensures in
+    (rw (c.in_ok-push.ensures.items, w.1, c.in_ok-behind_definition.ensures) (one_more_found c.loop-tree.faults.items c.in_ok-vector_fault.field-0 _ _ _ w.0 v.0), w.1 ∙ v.1)
+
+pub entries-loop-entry-preserved : goal.entries-loop-entry-preserved
+entries-loop-entry-preserved t c =
+    let e = c.entry-item.result in
+    let n = entries_on c.args.list.now c.loop-entry.entry-index e c.loop-entry-test.true c.entry-item.is in
+    let v = rw n at c.loop-entry.invariant in
+    let o = c.in_ok-declare_once.ensures in
+    let k = c.in_ok-constant_fault.ensures.kept in
+    let g = rw k at c.in_ok-entry_fault.ensures in
+    let d = rw (k, constant_seen e) at c.in_ok-declare_entry.ensures in
+    let b = c.in_ok-progress.ensures in (
+      rw (o.1, b, d.0) (rw (o.0, c.in_ok-constant_fault.ensures.answer, g) at v.0),
+      rw (b, d.0) v.1,
+      rw b v.2,
+      rw (b, d.0) (rw entry_fits at v.3),
+      extends_on _ _ _ v.4 d.1,
+    )
+
+pub declared_then_done-returns-clause-kept : goal.declared_then_done-returns-clause-kept
+declared_then_done-returns-clause-kept t c =
+    c.leave.ensures ∙ left_both _ _ _ _ _ c.in_ok-extent.ensures.kept c.in_ok-declare_list.ensures.1 c.in_ok-width.ensures.kept c.mark-mark.ensures
+
+pub declarations-loop-tree-preserved : goal.declarations-loop-tree-preserved
+declarations-loop-tree-preserved t c =
+    let n = declarations_on c.args.list.now c.loop-tree.tree-index c.tree-item.result c.loop-tree-test.true c.tree-item.is in
+    let v = rw n at c.loop-tree.invariant in
+    let w = c.in_ok-extent.ensures.answer in (
+      rw (w.1, w.2, w.4) (rw w.0 at v.0),
+      rw (w.1, w.2, w.4) v.1,
+      rw (w.1, w.2, w.4) v.2,
+      rw (w.1, w.2, w.4, c.max-width.ensures, w.3) (max_along _ _ _ ∙ v.3),
+      rw w.4 v.4,
+      rw (w.1, w.2, w.4, w.5) (simp frames_along at v.5),
+      extends_on _ _ _ v.6 c.in_ok-extent.ensures.kept,
+    )
+
+pub items-loop-tree-preserved : goal.items-loop-tree-preserved
+items-loop-tree-preserved t c =
+    let E = scope_view c.loop-tree.scope in
+    let at0 = numbers_view c.loop-tree.progress.at in
+    let i = item_view c.tree-item.result in
+    let is = items_view (drop (c.loop-tree.tree-index + 1) c.args.trees.now) in
+    let n = items_on c.args.trees.now c.loop-tree.tree-index c.tree-item.result c.loop-tree-test.true c.tree-item.is in
+    let v = rw n at c.loop-tree.invariant in
+    let w = c.in_ok-one_item.ensures.answer in
+    let k = c.in_ok-one_item.ensures.kept in
+    let f = item_fault_on c.args.list.cases (met_view c.loop-tree.met) (allowed_view c.args.list.allowed) E at0 i is c.args.level in
+    let g = item_found_on E at0 i is c.args.level in
+    let h = item_width_on E at0 i is c.args.level in (
+      rw (w.2, w.4, k) (rw w.0 at (sym f ∙ v.0)),
+      rw (w.2, k, c.max-width.ensures, w.1) (max_along _ _ _ ∙ rw h at v.1),
+      rw w.2 v.2,
+      rw (w.2, k, w.3) (simp frames_along at (rw g at v.3)),
+      k ∙ v.4,
+    )
+
+pub sides-loop-e-preserved : goal.sides-loop-e-preserved
+sides-loop-e-preserved t c =
+    let E = scope_view c.loop-e.scope in
+    let at0 = numbers_view c.loop-e.progress.at in
+    let x = exp_view c.e-item.result in
+    let es = exps_view (drop (c.loop-e.e-index + 1) c.args.list.now) in
+    let ss = drop c.loop-e.i c.args.levels.now in
+    let d = drop_one c.args.levels.now c.loop-e.i in
+    let n = exps_on c.args.list.now c.loop-e.e-index c.e-item.result c.loop-e-test.true c.e-item.is in
+    let v = rw n at c.loop-e.invariant in
+    let l = c.level_at.ensures in
+    let w = rw l at c.in_ok-width.ensures.answer in
+    let k = c.in_ok-width.ensures.kept in
+    let p = c.in_ok-push_width.ensures in
+    let a = c.in_ok-i.ensures in (
+      rw (w.2, k, a, sym d) (rw w.0 at (sym (side_fault_on E at0 x es ss) ∙ v.0)),
+      rw (w.2, k, a, sym d, p.1, w.1) (append_assoc c.loop-e.widths.items (side_width ss (width E at0 x (head_level ss))) (widths E (behind at0 x) es (drop 1 ss)) ∙ rw (side_widths_on E at0 x es ss) at v.1),
+      rw w.2 v.2,
+      rw (w.2, k, a, sym d, w.3) (simp frames_along at (rw (side_found_on E at0 x es ss) at v.3)),
+      k ∙ v.4,
+    )
+
+pub items-returns-in_err-one_item-clause-answer : goal.items-returns-in_err-one_item-clause-answer
+items-returns-in_err-one_item-clause-answer t c =
+    let E = scope_view c.loop-tree.scope in
+    let at0 = numbers_view c.loop-tree.progress.at in
+    let i = item_view c.tree-item.result in
+    let is = items_view (drop (c.loop-tree.tree-index + 1) c.args.trees.now) in
+    let n = items_on c.args.trees.now c.loop-tree.tree-index c.tree-item.result c.loop-tree-test.true c.tree-item.is in
+    let v = rw n at c.loop-tree.invariant in
+    let f = item_fault_on c.args.list.cases (met_view c.loop-tree.met) (allowed_view c.args.list.allowed) E at0 i is c.args.level in
+    let p = err_from_is_err_and c.from_residual.result c.from_residual.ensures.1 in
+    rw (p.1, p.2) (fault_whole _ _ _ _ _ f v.0 c.in_err-one_item.ensures.answer)

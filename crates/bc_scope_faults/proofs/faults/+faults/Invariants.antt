@@ -1,0 +1,198 @@
+use Rattle.std.specs.Prelude.{map}
+use Rattle.std.proofs.Common.{◌≡◌, ◌+◌, ◌*◌, ◌++◌, max, drop, []}
+use Rattle.bc_parse_tree.specs.Size.{block_size, command_size, declaration_size, declarations_size, definition_size, definitions_size, entries_size, exp_size, exps_size, item_size, items_size, label_size, labels_size}
+use Rattle.bc_parse_tree.specs.View.{block_view, command_view, declaration_view, declarations_view, definition_view, definitions_view, entries_view, exp_view, exps_view, item_view, items_view, label_view, labels_view}
+use Rattle.bc_scope_defs.specs.Numbering.{behind_entries, behind_all, behind_declarations, behind_definitions, behind_items}
+use Rattle.bc_scope_defs.specs.Scoping.{in_entries, in_declarations, level_behind}
+use Rattle.bc_scope_defs.specs.Found.{found_in_arguments, found_in_sides, found_in_initials, found_in_entries, found_in_definitions, found_in_declarations, found_in_items}
+use Rattle.bc_scope_defs.specs.FramesAlong.{widths, width_of_arguments, width_of_initials, width_of_definitions, width_of_declarations, width_of_items}
+use Rattle.bc_scope_defs.specs.Faults.{none_met, met_labels}
+use Rattle.bc_scope_defs.specs.FaultsAlong.{arguments_fault, constants_fault, sides_fault, initials_fault, entries_fault, declarations_fault, labels_fault, items_fault}
+use Rattle.bc_scope_names.specs.View.{Extends, scope_view, numbers_view}
+use Rattle.bc_scope_faults.specs.Vectors.{fault_view, vector_faults, definitions_fault_by}
+use Rattle.bc_scope_faults.specs.Seen.{allowed_view, names_view, met_view, frames_fit}
+use Rattle.bc_scope_faults.proofs.faults.+faults.Given as goal
+
+-- each measure is 16 times the size of what is left to walk, with a rank among the functions that hand the same on
+
+abbrev pub decreases-expression : goal.decreases-expression
+decreases-expression l = 16 * exp_size (exp_view l.e.now)
+
+abbrev pub decreases-operands : goal.decreases-operands
+decreases-operands l = 16 * (exp_size (exp_view l.left.now) + exp_size (exp_view l.right.now)) + 1
+
+abbrev pub decreases-choice : goal.decreases-choice
+decreases-choice l = 16 * (exp_size (exp_view l.test.now) + exp_size (exp_view l.this.now) + exp_size (exp_view l.that.now)) + 1
+
+abbrev pub decreases-call : goal.decreases-call
+decreases-call l = 16 * (exp_size (exp_view l.called.now) + exps_size (exps_view l.values.now)) + 2
+
+abbrev pub decreases-arguments : goal.decreases-arguments
+decreases-arguments l = 16 * exps_size (exps_view l.list.now) + 1
+
+abbrev pub decreases-constant_fault : goal.decreases-constant_fault
+decreases-constant_fault l = 16 * exp_size (exp_view l.e.now) + 1
+
+abbrev pub decreases-constants : goal.decreases-constants
+decreases-constants l = 16 * exps_size (exps_view l.list.now) + 2
+
+abbrev pub decreases-sides : goal.decreases-sides
+decreases-sides l = 16 * exps_size (exps_view l.list.now) + 1
+
+abbrev pub decreases-initials : goal.decreases-initials
+decreases-initials l = 16 * exps_size (exps_view l.list.now) + 1
+
+abbrev pub decreases-entries : goal.decreases-entries
+decreases-entries l = 16 * entries_size (entries_view l.list.now) + 2
+
+abbrev pub decreases-definition : goal.decreases-definition
+decreases-definition l = 16 * definition_size (definition_view l.tree.now)
+
+abbrev pub decreases-function : goal.decreases-function
+decreases-function l = 16 * exp_size (exp_view l.value.now) + 1
+
+abbrev pub decreases-routine : goal.decreases-routine
+decreases-routine l = 16 * block_size (block_view l.body.now) + 8
+
+abbrev pub decreases-found_fault : goal.decreases-found_fault
+decreases-found_fault l = 16 * exp_size (exp_view l.e.now) + 2
+
+abbrev pub decreases-vector_fault : goal.decreases-vector_fault
+decreases-vector_fault l = 16 * definition_size (definition_view l.tree.now)
+
+abbrev pub decreases-vector_faults : goal.decreases-vector_faults
+decreases-vector_faults l = 16 * definitions_size (definitions_view l.list.now) + 1
+
+abbrev pub decreases-pending_faults : goal.decreases-pending_faults
+decreases-pending_faults l = 16 * definitions_size (definitions_view l.list.now) + 2
+
+abbrev pub decreases-definitions : goal.decreases-definitions
+decreases-definitions l = 16 * definitions_size (definitions_view l.list.now) + 1
+
+abbrev pub decreases-definitions_of_let : goal.decreases-definitions_of_let
+decreases-definitions_of_let l = 16 * definitions_size (definitions_view l.list.now) + 3
+
+abbrev pub decreases-declaration : goal.decreases-declaration
+decreases-declaration l = 16 * declaration_size (declaration_view l.tree.now) + 4
+
+abbrev pub decreases-declarations : goal.decreases-declarations
+decreases-declarations l = 16 * declarations_size (declarations_view l.list.now) + 5
+
+abbrev pub decreases-block : goal.decreases-block
+decreases-block l = 16 * block_size (block_view l.tree.now) + 7
+
+abbrev pub decreases-declared_then_done : goal.decreases-declared_then_done
+decreases-declared_then_done l = 16 * (declarations_size (declarations_view l.declared.now) + items_size (items_view l.trees.now)) + 6
+
+abbrev pub decreases-label : goal.decreases-label
+decreases-label l = 16 * label_size (label_view l.tree.now) + 2
+
+abbrev pub decreases-labels : goal.decreases-labels
+decreases-labels l = 16 * labels_size (labels_view l.list.now) + 3
+
+abbrev pub decreases-items : goal.decreases-items
+decreases-items l = 16 * items_size (items_view l.trees.now) + 5
+
+abbrev pub decreases-one_item : goal.decreases-one_item
+decreases-one_item l = 16 * item_size (item_view l.tree.now) + 4
+
+abbrev pub decreases-guarded : goal.decreases-guarded
+decreases-guarded l = 16 * (exp_size (exp_view l.test.now) + block_size (block_view l.body.now)) + 8
+
+abbrev pub decreases-repeated : goal.decreases-repeated
+decreases-repeated l = 16 * (command_size (command_view l.body.now) + exp_size (exp_view l.test.now)) + 1
+
+abbrev pub decreases-assignment : goal.decreases-assignment
+decreases-assignment l = 16 * (exps_size (exps_view l.places.now) + exps_size (exps_view l.values.now)) + 2
+
+abbrev pub decreases-tested : goal.decreases-tested
+decreases-tested l = 16 * (exp_size (exp_view l.test.now) + block_size (block_view l.this.now) + block_size (block_view l.that.now)) + 8
+
+abbrev pub decreases-plain_for : goal.decreases-plain_for
+decreases-plain_for l = 16 * (exp_size (exp_view l.start.now) + exp_size (exp_view l.limit.now) + block_size (block_view l.body.now)) + 9
+
+abbrev pub decreases-stepped_for : goal.decreases-stepped_for
+decreases-stepped_for l = 16 * (exp_size (exp_view l.start.now) + exp_size (exp_view l.limit.now) + exp_size (exp_view l.by.now) + block_size (block_view l.body.now)) + 9
+
+abbrev pub decreases-counted : goal.decreases-counted
+decreases-counted l = 16 * block_size (block_view l.body.now) + 8
+
+abbrev pub decreases-switch : goal.decreases-switch
+decreases-switch l = 16 * (exp_size (exp_view l.value.now) + items_size (items_view l.list.now)) + 6
+
+abbrev pub decreases-command : goal.decreases-command
+decreases-command l = 16 * command_size (command_view l.tree.now)
+
+abbrev pub invariant-arguments-loop-e : goal.invariant-arguments-loop-e
+invariant-arguments-loop-e l =
+    (arguments_fault l.in_constant (scope_view l.scope) (numbers_view l.progress.at) (exps_view (drop l.e-index l.list)) l.above ≡ arguments_fault l.in_constant (scope_view l.fn.scope) (numbers_view l.fn.progress.at) (exps_view l.list) l.level)
+    × (max l.width (width_of_arguments (scope_view l.scope) (numbers_view l.progress.at) (exps_view (drop l.e-index l.list)) l.above) ≡ width_of_arguments (scope_view l.fn.scope) (numbers_view l.fn.progress.at) (exps_view l.list) l.level)
+    × (behind_all (numbers_view l.progress.at) (exps_view (drop l.e-index l.list)) ≡ behind_all (numbers_view l.fn.progress.at) (exps_view l.list))
+    × (frames_fit l.progress.fits (found_in_arguments (scope_view l.scope) (numbers_view l.progress.at) (exps_view (drop l.e-index l.list)) l.above) ≡ frames_fit l.fn.progress.fits (found_in_arguments (scope_view l.fn.scope) (numbers_view l.fn.progress.at) (exps_view l.list) l.level))
+    × (l.scope ≡ l.fn.scope)
+
+abbrev pub invariant-constants-loop-e : goal.invariant-constants-loop-e
+invariant-constants-loop-e l =
+    (constants_fault (scope_view l.scope) (numbers_view l.progress.at) (exps_view (drop l.e-index l.list)) ≡ constants_fault (scope_view l.fn.scope) (numbers_view l.progress.at) (exps_view l.list))
+    × (l.scope ≡ l.fn.scope)
+
+abbrev pub invariant-sides-loop-e : goal.invariant-sides-loop-e
+invariant-sides-loop-e l =
+    (sides_fault (scope_view l.scope) (numbers_view l.progress.at) (exps_view (drop l.e-index l.list)) (drop l.i l.levels) ≡ sides_fault (scope_view l.fn.scope) (numbers_view l.fn.progress.at) (exps_view l.list) l.levels)
+    × (l.widths.items ++ widths (scope_view l.scope) (numbers_view l.progress.at) (exps_view (drop l.e-index l.list)) (drop l.i l.levels) ≡ widths (scope_view l.fn.scope) (numbers_view l.fn.progress.at) (exps_view l.list) l.levels)
+    × (behind_all (numbers_view l.progress.at) (exps_view (drop l.e-index l.list)) ≡ behind_all (numbers_view l.fn.progress.at) (exps_view l.list))
+    × (frames_fit l.progress.fits (found_in_sides (scope_view l.scope) (numbers_view l.progress.at) (exps_view (drop l.e-index l.list)) (drop l.i l.levels)) ≡ frames_fit l.fn.progress.fits (found_in_sides (scope_view l.fn.scope) (numbers_view l.fn.progress.at) (exps_view l.list) l.levels))
+    × (l.scope ≡ l.fn.scope)
+
+abbrev pub invariant-initials-loop-e : goal.invariant-initials-loop-e
+invariant-initials-loop-e l =
+    (initials_fault (scope_view l.scope) (numbers_view l.progress.at) (exps_view (drop l.e-index l.list)) l.level ≡ initials_fault (scope_view l.fn.scope) (numbers_view l.fn.progress.at) (exps_view l.list) l.level)
+    × (max l.width (width_of_initials (scope_view l.scope) (numbers_view l.progress.at) (exps_view (drop l.e-index l.list)) l.level) ≡ width_of_initials (scope_view l.fn.scope) (numbers_view l.fn.progress.at) (exps_view l.list) l.level)
+    × (behind_all (numbers_view l.progress.at) (exps_view (drop l.e-index l.list)) ≡ behind_all (numbers_view l.fn.progress.at) (exps_view l.list))
+    × (frames_fit l.progress.fits (found_in_initials (scope_view l.scope) (numbers_view l.progress.at) (exps_view (drop l.e-index l.list)) l.level) ≡ frames_fit l.fn.progress.fits (found_in_initials (scope_view l.fn.scope) (numbers_view l.fn.progress.at) (exps_view l.list) l.level))
+    × (l.scope ≡ l.fn.scope)
+
+abbrev pub invariant-entries-loop-entry : goal.invariant-entries-loop-entry
+invariant-entries-loop-entry l =
+    (entries_fault l.storage (names_view l.before.keys) (numbers_view l.progress.at) (entries_view (drop l.entry-index l.list)) (scope_view l.scope) ≡ entries_fault l.storage [] (numbers_view l.fn.progress.at) (entries_view l.list) (scope_view l.fn.scope))
+    × (in_entries l.storage (numbers_view l.progress.at) (entries_view (drop l.entry-index l.list)) (scope_view l.scope) ≡ in_entries l.storage (numbers_view l.fn.progress.at) (entries_view l.list) (scope_view l.fn.scope))
+    × (behind_entries l.storage (numbers_view l.progress.at) (entries_view (drop l.entry-index l.list)) ≡ behind_entries l.storage (numbers_view l.fn.progress.at) (entries_view l.list))
+    × (frames_fit l.progress.fits (found_in_entries l.storage (numbers_view l.progress.at) (entries_view (drop l.entry-index l.list)) (scope_view l.scope)) ≡ frames_fit l.fn.progress.fits (found_in_entries l.storage (numbers_view l.fn.progress.at) (entries_view l.list) (scope_view l.fn.scope)))
+    × Extends l.fn.scope l.scope
+
+abbrev pub invariant-definitions-loop-tree : goal.invariant-definitions-loop-tree
+invariant-definitions-loop-tree l =
+    (definitions_fault_by l.inside (names_view l.before.keys) (drop l.i l.faults) (scope_view l.scope) (numbers_view l.progress.at) (definitions_view (drop l.tree-index l.list)) l.level ≡ definitions_fault_by l.inside [] l.faults (scope_view l.fn.scope) (numbers_view l.fn.progress.at) (definitions_view l.list) l.level)
+    × (max l.width (width_of_definitions (scope_view l.scope) (numbers_view l.progress.at) (definitions_view (drop l.tree-index l.list)) l.level) ≡ width_of_definitions (scope_view l.fn.scope) (numbers_view l.fn.progress.at) (definitions_view l.list) l.level)
+    × (behind_definitions (numbers_view l.progress.at) (definitions_view (drop l.tree-index l.list)) ≡ behind_definitions (numbers_view l.fn.progress.at) (definitions_view l.list))
+    × (frames_fit l.progress.fits (found_in_definitions (scope_view l.scope) (scope_view l.scope) (numbers_view l.progress.at) (definitions_view (drop l.tree-index l.list)) l.level) ≡ frames_fit l.fn.progress.fits (found_in_definitions (scope_view l.fn.scope) (scope_view l.fn.scope) (numbers_view l.fn.progress.at) (definitions_view l.list) l.level))
+    × (l.scope ≡ l.fn.scope)
+
+abbrev pub invariant-declarations-loop-tree : goal.invariant-declarations-loop-tree
+invariant-declarations-loop-tree l =
+    (declarations_fault l.inside (scope_view l.scope) (numbers_view l.progress.at) (declarations_view (drop l.tree-index l.list)) l.behind ≡ declarations_fault l.inside (scope_view l.fn.scope) (numbers_view l.fn.progress.at) (declarations_view l.list) l.level)
+    × (in_declarations (scope_view l.scope) (numbers_view l.progress.at) l.behind (declarations_view (drop l.tree-index l.list)) ≡ in_declarations (scope_view l.fn.scope) (numbers_view l.fn.progress.at) l.level (declarations_view l.list))
+    × (level_behind (scope_view l.scope) (numbers_view l.progress.at) l.behind (declarations_view (drop l.tree-index l.list)) ≡ level_behind (scope_view l.fn.scope) (numbers_view l.fn.progress.at) l.level (declarations_view l.list))
+    × (max l.width (width_of_declarations (scope_view l.scope) (numbers_view l.progress.at) (declarations_view (drop l.tree-index l.list)) l.behind) ≡ width_of_declarations (scope_view l.fn.scope) (numbers_view l.fn.progress.at) (declarations_view l.list) l.level)
+    × (behind_declarations (numbers_view l.progress.at) (declarations_view (drop l.tree-index l.list)) ≡ behind_declarations (numbers_view l.fn.progress.at) (declarations_view l.list))
+    × (frames_fit l.progress.fits (found_in_declarations (scope_view l.scope) (numbers_view l.progress.at) (declarations_view (drop l.tree-index l.list)) l.behind) ≡ frames_fit l.fn.progress.fits (found_in_declarations (scope_view l.fn.scope) (numbers_view l.fn.progress.at) (declarations_view l.list) l.level))
+    × Extends l.fn.scope l.scope
+
+abbrev pub invariant-labels-loop-tree : goal.invariant-labels-loop-tree
+invariant-labels-loop-tree l =
+    (labels_fault l.in_cases (met_view l.met) (scope_view l.scope) (numbers_view l.progress.at) (labels_view (drop l.tree-index l.list)) ≡ labels_fault l.in_cases (met_view l.fn.met) (scope_view l.fn.scope) (numbers_view l.progress.at) (labels_view l.list))
+    × (met_labels (scope_view l.scope) (met_view l.met) (labels_view (drop l.tree-index l.list)) ≡ met_labels (scope_view l.fn.scope) (met_view l.fn.met) (labels_view l.list))
+    × (l.scope ≡ l.fn.scope)
+
+abbrev pub invariant-items-loop-tree : goal.invariant-items-loop-tree
+invariant-items-loop-tree l =
+    (items_fault l.list.cases (met_view l.met) (allowed_view l.list.allowed) (scope_view l.scope) (numbers_view l.progress.at) (items_view (drop l.tree-index l.trees)) l.level ≡ items_fault l.list.cases none_met (allowed_view l.list.allowed) (scope_view l.fn.scope) (numbers_view l.fn.progress.at) (items_view l.trees) l.level)
+    × (max l.width (width_of_items (scope_view l.scope) 0 (numbers_view l.progress.at) (items_view (drop l.tree-index l.trees)) l.level) ≡ width_of_items (scope_view l.fn.scope) 0 (numbers_view l.fn.progress.at) (items_view l.trees) l.level)
+    × (behind_items (numbers_view l.progress.at) (items_view (drop l.tree-index l.trees)) ≡ behind_items (numbers_view l.fn.progress.at) (items_view l.trees))
+    × (frames_fit l.progress.fits (found_in_items (scope_view l.scope) 0 (numbers_view l.progress.at) (items_view (drop l.tree-index l.trees)) l.level) ≡ frames_fit l.fn.progress.fits (found_in_items (scope_view l.fn.scope) 0 (numbers_view l.fn.progress.at) (items_view l.trees) l.level))
+    × (l.scope ≡ l.fn.scope)
+
+abbrev pub invariant-vector_faults-loop-tree : goal.invariant-vector_faults-loop-tree
+invariant-vector_faults-loop-tree l =
+    (map fault_view l.faults.items ++ vector_faults (scope_view l.scope) (numbers_view l.progress.at) (definitions_view (drop l.tree-index l.list)) ≡ vector_faults (scope_view l.fn.scope) (numbers_view l.fn.progress.at) (definitions_view l.list))
+    × (l.scope ≡ l.fn.scope)

@@ -1,0 +1,406 @@
+//! The faults that a part has by itself.
+ghost use Rattle.std.specs.Prelude.{◌≡◌, true, None, length, drop, [], ◌∷◌, ◌++◌, IfOk};
+ghost use Rattle.bc_parse_tree.specs.View.{exp_view, exps_view, definitions_view};
+ghost use Rattle.bc_scope_defs.specs.Frames.{all_held, widest};
+ghost use Rattle.bc_scope_defs.specs.Faults.{AMisplaced, unless, allowed_in_routine, allowed_in_valof, in_a_loop, in_a_switch, name_fault, jump_fault, is_cell, has_cell, address_fault, all_have_cells, twice_fault, all_twice_fault, none_met, case_fault, default_fault, entry_fault};
+ghost use Rattle.bc_scope_names.specs.View.{meant_view, scope_view};
+ghost use Rattle.bc_core.specs.Level.{level_behind_parameters};
+ghost use Rattle.bc_scope_faults.specs.Parts.{head_level, side_width};
+ghost use Rattle.bc_scope_faults.specs.Judged.{Judges, Passes};
+ghost use Rattle.bc_scope_faults.specs.Vectors.{fault_view, first_found, no_faults};
+ghost use Rattle.bc_scope_faults.specs.Seen.{allowed_view, names_view, met_view};
+
+use bc_parse_tree::{Definition, Dyadic, Exp, Monadic, Storage};
+use bc_scope_names::{Meant, Scope, ScopeError, constant, is_operand, sum};
+use bc_word::{Memory, Word};
+use indexmap::IndexSet;
+use std::alloc::Global;
+
+/// What a command may do where it stands.
+#[derive(Clone, Copy, Debug, PartialEq, Eq)]
+pub struct Allowed {
+    pub in_loop: bool,
+    pub in_cases: bool,
+    pub in_valof: bool,
+    pub may_return: bool,
+}
+
+impl Allowed {
+    pub fn routine() -> Allowed
+        ensures { allowed_view result ≡ allowed_in_routine }
+    {
+        Allowed {
+            in_loop: false,
+            in_cases: false,
+            in_valof: false,
+            may_return: true,
+        }
+    }
+
+    pub fn valof() -> Allowed
+        ensures { allowed_view result ≡ allowed_in_valof }
+    {
+        Allowed {
+            in_loop: false,
+            in_cases: false,
+            in_valof: true,
+            may_return: false,
+        }
+    }
+
+    pub fn in_a_loop(self) -> Allowed
+        ensures { allowed_view result ≡ in_a_loop (allowed_view self) }
+    {
+        Allowed {
+            in_loop: true,
+            in_cases: self.in_cases,
+            in_valof: self.in_valof,
+            may_return: self.may_return,
+        }
+    }
+
+    pub fn in_a_switch(self) -> Allowed
+        ensures { allowed_view result ≡ in_a_switch (allowed_view self) }
+    {
+        Allowed {
+            in_loop: self.in_loop,
+            in_cases: true,
+            in_valof: self.in_valof,
+            may_return: self.may_return,
+        }
+    }
+}
+
+/// Misplaced, unless this is allowed.
+pub fn unless_misplaced<'s>(allowed: bool) -> Result<(), ScopeError<'s>>
+    ensures { Passes result (unless allowed AMisplaced) }
+{
+    if allowed {
+        Ok(())
+    } else {
+        Err(ScopeError::Misplaced)
+    }
+}
+
+/// A fault that was found before.
+pub fn unless_found<'s>(fault: Option<ScopeError<'s>>) -> Result<(), ScopeError<'s>>
+    ensures { Passes result (fault_view fault.entry) }
+{
+    match fault {
+        Some(fault) => Err(fault),
+        None => Ok(()),
+    }
+}
+
+/// A name in an expression.
+pub fn name_fault<'s>(in_constant: bool, name: &'s [u8], meant: Meant) -> Result<(), ScopeError<'s>>
+    ensures { Passes result (name_fault in_constant name.entry.now (meant_view meant)) }
+{
+    match meant {
+        Meant::Undeclared => Err(ScopeError::Undeclared(name)),
+        Meant::OuterVariable | Meant::OuterLabel => Err(ScopeError::DynamicFree(name)),
+        Meant::Label(_) | Meant::LabelOutside => unless_misplaced(in_constant),
+        Meant::Constant(_)
+        | Meant::Pending
+        | Meant::Static(_)
+        | Meant::Global(_)
+        | Meant::Routine(_)
+        | Meant::Variable(_) => Ok(()),
+    }
+}
+
+/// The name behind a GOTO.
+pub fn jump_fault<'s>(name: &'s [u8], meant: Meant) -> Result<(), ScopeError<'s>>
+    ensures { Passes result (jump_fault name.entry.now (meant_view meant)) }
+{
+    match meant {
+        Meant::Label(_) => Ok(()),
+        Meant::Undeclared => Err(ScopeError::Undeclared(name)),
+        Meant::OuterLabel => Err(ScopeError::DynamicFree(name)),
+        Meant::Constant(_)
+        | Meant::Pending
+        | Meant::Static(_)
+        | Meant::Global(_)
+        | Meant::Routine(_)
+        | Meant::Variable(_)
+        | Meant::OuterVariable
+        | Meant::LabelOutside => Err(ScopeError::Misplaced),
+    }
+}
+
+fn is_cell(meant: Meant) -> bool
+    ensures { result ≡ is_cell (meant_view meant) }
+{
+    match meant {
+        Meant::Static(_) | Meant::Global(_) | Meant::Variable(_) => true,
+        Meant::Constant(_)
+        | Meant::Pending
+        | Meant::Routine(_)
+        | Meant::Label(_)
+        | Meant::OuterVariable
+        | Meant::OuterLabel
+        | Meant::LabelOutside
+        | Meant::Undeclared => false,
+    }
+}
+
+/// Whether an expression is a variable, `!E` or `E1!E2`.
+fn has_cell(scope: &Scope<'_>, e: &Exp<'_>) -> bool
+    ensures { result ≡ has_cell (scope_view scope.now) (exp_view e.now) }
+{
+    match e {
+        Exp::Name(name) => is_cell(scope.meant_by(name)),
+        Exp::Monadic(Monadic::Load, _) | Exp::Dyadic(Dyadic::Index, _, _) => true,
+        Exp::Monadic(_, _)
+        | Exp::Dyadic(_, _, _)
+        | Exp::Number(_)
+        | Exp::Character(_)
+        | Exp::String(_)
+        | Exp::True
+        | Exp::False
+        | Exp::Table(_)
+        | Exp::Valof(_)
+        | Exp::Condition { .. }
+        | Exp::Call(_, _) => false,
+    }
+}
+
+/// `@` wants a cell.
+pub fn address_fault<'s>(
+    scope: &Scope<'s>,
+    sign: Monadic,
+    operand: &Exp<'s>,
+) -> Result<(), ScopeError<'s>>
+    ensures { Passes result (address_fault (scope_view scope.now) sign (exp_view operand.now)) }
+{
+    match sign {
+        Monadic::Address => {
+            if has_cell(scope, operand) {
+                Ok(())
+            } else {
+                Err(ScopeError::NotAssignable)
+            }
+        }
+        Monadic::Not | Monadic::Negate | Monadic::Load => Ok(()),
+    }
+}
+
+pub fn all_have_cells(scope: &Scope<'_>, places: &[Exp<'_>]) -> bool
+    ensures { result ≡ all_have_cells (scope_view scope.now) (exps_view places.now) }
+{
+    for place in places {
+        if !has_cell(scope, place) {
+            return false;
+        }
+    }
+    true
+}
+
+/// One name more, behind those that it must differ from.
+pub fn declare_once<'s>(
+    before: &mut IndexSet<&'s [u8]>,
+    name: &'s [u8],
+) -> Result<(), ScopeError<'s>>
+    ensures { Judges result (twice_fault (names_view before.old.keys) name.entry.now) (λ _. names_view before.new.keys ≡ names_view before.old.keys ++ name.entry.now ∷ []) }
+{
+    if before.insert(name)? {
+        Ok(())
+    } else {
+        Err(ScopeError::DeclaredTwice(name))
+    }
+}
+
+/// Names, behind those that they must differ from.
+pub fn declare_all_once<'s>(
+    before: &mut IndexSet<&'s [u8]>,
+    names: &[&'s [u8]],
+) -> Result<(), ScopeError<'s>>
+    ensures { Judges result (all_twice_fault (names_view before.old.keys) (names_view names.now)) (λ _. names_view before.new.keys ≡ names_view before.old.keys ++ names_view names.now) }
+{
+    for name in names {
+        declare_once(before, name)?;
+    }
+    Ok(())
+}
+
+/// How many names a LET declares, or the greatest `usize` where there are more. Room is asked for by it.
+pub fn names_in(list: &[Definition<'_>]) -> usize {
+    let mut names = 0usize;
+    for tree in list {
+        names = names.saturating_add(match tree {
+            Definition::Variables(declared, _) => declared.len(),
+            Definition::Vector(_, _)
+            | Definition::Function(_, _, _)
+            | Definition::Routine(_, _, _) => 1,
+        });
+    }
+    names
+}
+
+/// The parameters of a routine.
+pub fn parameters_fault<'s>(alloc: Global, names: &[&'s [u8]]) -> Result<(), ScopeError<'s>>
+    ensures { Passes result (all_twice_fault [] (names_view names.now)) }
+{
+    let mut before = IndexSet::with_capacity(alloc, names.len())?;
+    declare_all_once(&mut before, names)
+}
+
+/// The labels of a list that were met so far.
+#[derive(Debug, Drop)]
+pub struct Met<'s> {
+    pub names: IndexSet<&'s [u8]>,
+    pub values: IndexSet<u16>,
+    pub default: bool,
+}
+
+impl<'s> Met<'s> {
+    pub fn new(alloc: Global) -> Met<'s>
+        ensures { met_view result ≡ none_met }
+    {
+        Met {
+            names: IndexSet::new(alloc),
+            values: IndexSet::new(alloc),
+            default: false,
+        }
+    }
+
+    /// CASE with its value.
+    pub fn case(&mut self, in_cases: bool, value: Word) -> Result<(), ScopeError<'s>>
+        ensures { Judges result (case_fault in_cases (met_view self.old) value) (λ _. met_view self.new ≡ record { names = (met_view self.old).names; values = (met_view self.old).values ++ value ∷ []; default = self.old.default }) }
+    {
+        unless_misplaced(in_cases)?;
+        if self.values.insert(value.get())? {
+            Ok(())
+        } else {
+            Err(ScopeError::CaseTwice)
+        }
+    }
+
+    /// DEFAULT.
+    pub fn default(&mut self, in_cases: bool) -> Result<(), ScopeError<'s>>
+        ensures { Judges result (default_fault in_cases (met_view self.old)) (λ _. met_view self.new ≡ record { names = (met_view self.old).names; values = (met_view self.old).values; default = true }) }
+    {
+        unless_misplaced(in_cases)?;
+        if self.default {
+            return Err(ScopeError::CaseTwice);
+        }
+        self.default = true;
+        Ok(())
+    }
+
+    /// A label with a name.
+    pub fn name(&mut self, name: &'s [u8]) -> Result<(), ScopeError<'s>>
+        ensures { Judges result (twice_fault (met_view self.old).names name.entry.now) (λ _. met_view self.new ≡ record { names = (met_view self.old).names ++ name.entry.now ∷ []; values = (met_view self.old).values; default = self.old.default }) }
+    {
+        declare_once(&mut self.names, name)
+    }
+}
+
+/// The number of a global is at most 511.
+pub fn entry_fault<'s>(
+    scope: &Scope<'s>,
+    storage: Storage,
+    name: &'s [u8],
+    value: &Exp<'s>,
+) -> Result<(), ScopeError<'s>>
+    ensures { Passes result (entry_fault storage (scope_view scope.now) name.entry.now (exp_view value.now)) }
+{
+    match storage {
+        Storage::Global => {
+            if constant(scope, value).get() < 512 {
+                Ok(())
+            } else {
+                Err(ScopeError::GlobalNumber(name))
+            }
+        }
+        Storage::Manifest | Storage::Static => Ok(()),
+    }
+}
+
+/// For each pair of an assignment at this level, where it holds its value.
+pub fn all_held(
+    alloc: Global,
+    scope: &Scope<'_>,
+    places: &[Exp<'_>],
+    level: u64,
+) -> Result<Vec<u64>, Memory>
+    ensures { IfOk result (λ hs. hs.items ≡ all_held (scope_view scope.now) (exps_view places.now) level) }
+{
+    let mut held = Vec::new(alloc);
+    for place in places {
+        let above = sum(level, 2)?;
+        held.push(if is_operand(scope, place) { 0 } else { above })?;
+    }
+    Ok(held)
+}
+
+/// The widest pair of an assignment.
+#[tactic(auto, using(crate::proofs::Widest::widest_places, crate::proofs::Widest::widest_values))]
+pub fn widest(held: &[u64], places: &[u64], values: &[u64]) -> u64
+    ensures { result ≡ widest held.now places.now values.now }
+{
+    let mut widest = 0u64;
+    let mut i = 0usize;
+    while i < held.len() && i < places.len() && i < values.len() {
+        widest = widest.max(held[i].max(values[i].max(places[i])));
+        i += 1;
+    }
+    widest
+}
+
+/// The level of this pair; a pair too many has level 0.
+#[tactic(auto, using(std::proofs::lemmas::List::drop_more, std::proofs::lemmas::List::drop_all))]
+pub fn level_at(levels: &[u64], i: u64) -> u64
+    ensures { result ≡ head_level (drop i levels.now) }
+{
+    let i = i as usize;
+    if i < levels.len() { levels[i] } else { 0 }
+}
+
+/// The fault that was found for this definition; none where there are not as many.
+#[tactic(auto, using(std::proofs::lemmas::List::drop_more, std::proofs::lemmas::List::drop_all))]
+pub fn fault_at<'s>(faults: &[Option<ScopeError<'s>>], i: u64) -> Option<ScopeError<'s>>
+    ensures { result ≡ first_found (drop i faults.now) }
+{
+    let i = i as usize;
+    if i < faults.len() { faults[i] } else { None }
+}
+
+/// For each definition of a LET, that no fault was found.
+pub fn no_faults<'s>(
+    alloc: Global,
+    list: &[Definition<'s>],
+) -> Result<Vec<Option<ScopeError<'s>>>, Memory>
+    ensures { IfOk result (λ fs. fs.items ≡ no_faults (definitions_view list.now)) }
+{
+    let mut faults = Vec::with_capacity(alloc, list.len())?;
+    for _each in list {
+        faults.push(None)?;
+    }
+    Ok(faults)
+}
+
+/// The width of an expression of this pair, where there is such a pair.
+#[tactic(auto, using(std::proofs::lemmas::List::drop_more, std::proofs::lemmas::List::drop_all))]
+pub fn push_width<'s>(
+    widths: &mut Vec<u64>,
+    levels: &[u64],
+    i: u64,
+    width: u64,
+) -> Result<(), ScopeError<'s>>
+    ensures { Judges result None (λ _. widths.new.items ≡ widths.old.items ++ side_width (drop i levels.now) width) }
+{
+    let i = i as usize;
+    if i < levels.len() {
+        widths.push(width)?;
+    }
+    Ok(())
+}
+
+/// The first level behind the parameters of a routine.
+#[tactic(auto, using(crate::proofs::Lists::names_counted))]
+pub fn level_of<'s>(parameters: &[&'s [u8]]) -> Result<u64, Memory>
+    ensures { IfOk result (λ n. n ≡ level_behind_parameters (length (names_view parameters.now))) }
+{
+    sum(2, parameters.len() as u64)
+}

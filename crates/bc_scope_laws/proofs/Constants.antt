@@ -1,0 +1,297 @@
+-- Constants are words, where the numbers of their trees and the constants among the known names are.
+use Rattle.std.proofs.Common.{◌≡◌, ℕ, zero, suc, ◌+◌, ◌-◌, ◌*◌, ◌/◌, ◌%◌, ◌<◌, ◌==◌, ◌&&◌, List, [], ◌∷◌, Bool, true, false, Option, Some, None, refl, arith}
+use Rattle.std.specs.Prelude.{cond, nat_lt, nat_le, if◌then◌else◌, take, drop, ◌^◌, ℤ, pos, negsuc}
+use Rattle.std.specs.Int.Bits.{and_lt}
+use Rattle.std.proofs.lemmas.Nat.{or_lt, xor_lt}
+use Rattle.bc_word.specs.declared.operator.Op.{Op}
+use Rattle.bc_word.specs.declared.operator.Op.TheVariants as operators
+use Rattle.bc_word.specs.Words.{value_of, wrapped, truth, negated, complemented}
+use Rattle.bc_parse_tree.specs.declared.tree.Storage.{Storage}
+use Rattle.bc_parse_tree.specs.declared.tree.Storage.TheVariants as storage
+use Rattle.bc_parse_tree.specs.declared.tree.Monadic.{Monadic}
+use Rattle.bc_parse_tree.specs.declared.tree.Monadic.TheVariants as monadic
+use Rattle.bc_parse_tree.specs.Tree as tree
+use Rattle.bc_core.specs.Numbers.{is_word, are_words, are_bytes}
+use Rattle.bc_scope_defs.specs.Scope.{Meant, Constant, Pending, Static, Global, Routine, Variable, OuterVariable, OuterLabel, LabelOutside, Undeclared, Env, Name, Numbers, meant_by, is_name}
+use Rattle.bc_scope_defs.specs.Scope as scope
+use Rattle.bc_scope_defs.specs.Numbering.{behind_entry, behind_declaration, behind_definition, labels_of}
+use Rattle.bc_scope_defs.specs.Scoping.{operator, constant, constant_in, constant_name, constant_monadic, constant_dyadic, or_zero, pending, pending_names, names_of, meant_as, in_entry, in_entries, variables, routine_name, in_definition, in_definitions, before_let, in_let, in_declaration, in_declarations, cells_in, in_label, in_labels, in_list, in_routine, in_valof}
+use Rattle.bc_scope_defs.specs.Scoping as scoping
+use Rattle.bc_scope_defs.specs.Characters.{escaped, characters, decoded}
+use Rattle.bc_scope_defs.specs.Found.{words_of_table, in_parameters}
+use Rattle.bc_scope_defs.specs.Words.{AreBytes, ExpHasWords, ExpsHaveWords, EntriesHaveWords, DeclarationHasWords, DeclarationsHaveWords}
+
+-- Operators give words
+
+wrapped_small : (z : ℤ) → wrapped z < 65536
+wrapped_small (pos a) = omega arith
+wrapped_small (negsuc a) = omega arith
+
+truth_small : (t : Bool) → truth t < 65536
+truth_small true = omega arith
+truth_small false = omega arith
+
+shifted : (t : Bool) (v : ℕ) → v < 65536 → cond t 0 v < 65536
+shifted true v lt = omega arith
+shifted false v lt = lt
+
+quotient_small : (b n : ℕ) → b < 65536 → b / n < 65536
+quotient_small b zero lt = omega arith
+quotient_small b (suc n) lt = omega arith
+
+abbrev pub IsWord : ℕ → Type 0
+IsWord n = is_word n ≡ true
+
+pub word_is : (n : ℕ) → n < 65536 → IsWord n
+word_is n h = grind arith
+
+below_is : (n : ℕ) → IsWord n → n < 65536
+below_is n h = grind arith
+
+-- what there is
+abbrev IsWordIfAny : Option ℕ → Type 0
+IsWordIfAny None = Unit {0}
+IsWordIfAny (Some w) = IsWord w
+
+divided : (t : Bool) (v : ℕ) → v < 65536 → IsWordIfAny (cond t None (Some v))
+divided true v h = tt
+divided false v h = word_is v h
+
+value_is_word : (op : Op) (b a : ℕ) → b < 65536 → a < 65536 → IsWordIfAny (value_of op b a)
+value_is_word operators.Multiply b a hb ha = word_is _ (wrapped_small _)
+value_is_word operators.Divide b a hb ha = divided (a == 0) _ (wrapped_small _)
+value_is_word operators.Remainder b a hb ha = divided (a == 0) _ (wrapped_small _)
+value_is_word operators.Add b a hb ha = word_is ((b + a) % 65536) (omega arith)
+value_is_word operators.Subtract b a hb ha = word_is ((b + (65536 - a)) % 65536) (omega arith)
+value_is_word operators.Equal b a hb ha = word_is _ (truth_small _)
+value_is_word operators.NotEqual b a hb ha = word_is _ (truth_small _)
+value_is_word operators.Less b a hb ha = word_is _ (truth_small _)
+value_is_word operators.GreaterEqual b a hb ha = word_is _ (truth_small _)
+value_is_word operators.Greater b a hb ha = word_is _ (truth_small _)
+value_is_word operators.LessEqual b a hb ha = word_is _ (truth_small _)
+value_is_word operators.ShiftLeft b a hb ha = word_is _ (shifted (nat_le 16 a) ((b * 2 ^ a) % 65536) (omega arith))
+value_is_word operators.ShiftRight b a hb ha = word_is _ (shifted (nat_le 16 a) (b / 2 ^ a) (quotient_small b (2 ^ a) hb))
+value_is_word operators.And b a hb ha = word_is _ (and_lt 16 b a hb ha)
+value_is_word operators.Or b a hb ha = word_is _ (or_lt 16 b a hb ha)
+value_is_word operators.NotEquivalent b a hb ha = word_is _ (xor_lt 16 b a hb ha)
+value_is_word operators.Equivalent b a hb ha = word_is _ (omega arith)
+
+-- Names that mean a constant mean a word
+
+abbrev pub MeansWord : Meant → Type 0
+MeansWord (Constant w) = IsWord w
+MeansWord _ = Unit {0}
+
+abbrev pub Wordy : Env → Type 0
+Wordy [] = Unit {0}
+Wordy (e ∷ E) = MeansWord e.1 × Wordy E
+
+picked : (b : Bool) (m x : Meant) → MeansWord m → MeansWord x → MeansWord (elim b [ true ↦ m | false ↦ x ])
+picked true m x h k = h
+picked false m x h k = k
+
+pub meant_word : (E : Env) (n : Name) → Wordy E → MeansWord (meant_by E n)
+meant_word [] n h = tt
+meant_word (e ∷ E) n h = picked (is_name e.0 n) e.1 (meant_by E n) h.0 (meant_word E n h.1)
+
+name_word : (m : Meant) → MeansWord m → IsWordIfAny (constant_name m)
+name_word (Constant w) h = h
+name_word Pending h = tt
+name_word (Static m) h = tt
+name_word (Global n) h = tt
+name_word (Routine m) h = tt
+name_word (Variable k) h = tt
+name_word (scope.Label l) h = tt
+name_word OuterVariable h = tt
+name_word OuterLabel h = tt
+name_word LabelOutside h = tt
+name_word Undeclared h = tt
+
+monadic_word : (m : Monadic) (o : Option ℕ) → IsWordIfAny o → IsWordIfAny (constant_monadic m o)
+monadic_word monadic.Negate (Some w) h = word_is (negated w) (omega arith)
+monadic_word monadic.Negate None h = tt
+monadic_word monadic.Not (Some w) h = word_is (complemented w) (omega arith)
+monadic_word monadic.Not None h = tt
+monadic_word monadic.Load o h = tt
+monadic_word monadic.Address o h = tt
+
+dyadic_word : (op : Option Op) (a b : Option ℕ) → IsWordIfAny a → IsWordIfAny b → IsWordIfAny (constant_dyadic op a b)
+dyadic_word None a b h k = tt
+dyadic_word (Some op) None b h k = tt
+dyadic_word (Some op) (Some a) None h k = tt
+dyadic_word (Some op) (Some a) (Some b) h k = value_is_word op a b (below_is a h) (below_is b k)
+
+constant_word : (E : Env) (k : tree.Exp) → Wordy E → ExpHasWords k → IsWordIfAny (constant_in E k)
+constant_word E (tree.Name n) e h = name_word (meant_by E n) (meant_word E n e)
+constant_word E (tree.Number w) e h = word_is w h
+constant_word E (tree.Character w) e h = word_is w h
+constant_word E (tree.Text bytes) e h = tt
+constant_word E tree.True e h = refl
+constant_word E tree.False e h = refl
+constant_word E (tree.Table ks) e h = tt
+constant_word E (tree.Valof b) e h = tt
+constant_word E (tree.Monadic m d) e h = monadic_word m (constant_in E d) (constant_word E d e h)
+constant_word E (tree.Dyadic o l r) e h = dyadic_word (operator o) (constant_in E l) (constant_in E r) (constant_word E l e h.0) (constant_word E r e h.1)
+constant_word E (tree.Condition c x y) e h = tt
+constant_word E (tree.Call f es) e h = tt
+
+zero_word : (o : Option ℕ) → IsWordIfAny o → IsWord (or_zero o)
+zero_word None h = refl
+zero_word (Some w) h = h
+
+pub word_of_constant : (E : Env) (k : tree.Exp) → Wordy E → ExpHasWords k → IsWord (constant E k)
+word_of_constant E k e h = zero_word (constant_in E k) (constant_word E k e h)
+
+pub table_words : (E : Env) (ks : tree.Exps) → Wordy E → ExpsHaveWords ks → are_words (words_of_table E ks) ≡ true
+table_words E tree.none e h = refl
+table_words E (tree.more k ks) e h = λ i. word_of_constant E k e h.0 i && table_words E ks e h.1 i
+
+-- Declarations keep this
+
+pub wordy_pending : (es : tree.Entries) (E : Env) → Wordy E → Wordy (pending es E)
+wordy_pending tree.no_entries E e = e
+wordy_pending (tree.entry n k es) E e = wordy_pending es _ (tt, e)
+
+meant_as_word : (s : Storage) (at : Numbers) (o : Option ℕ) → IsWordIfAny o → MeansWord (meant_as s at o)
+meant_as_word storage.Manifest at None h = tt
+meant_as_word storage.Manifest at (Some w) h = h
+meant_as_word storage.Static at o h = tt
+meant_as_word storage.Global at o h = tt
+
+pub wordy_entry : (s : Storage) (at : Numbers) (n : Name) (k : tree.Exp) (E : Env) → Wordy E → ExpHasWords k → Wordy (in_entry s at n k E)
+wordy_entry s at n k E e h = (meant_as_word s at (constant_in E k) (constant_word E k e h), e)
+
+wordy_entries : (s : Storage) (at : Numbers) (es : tree.Entries) (E : Env) → Wordy E → EntriesHaveWords es → Wordy (in_entries s at es E)
+wordy_entries s at tree.no_entries E e h = e
+wordy_entries s at (tree.entry n k es) E e h = wordy_entries s (behind_entry s at) es _ (wordy_entry s at n k E e h.0) h.1
+
+pub wordy_variables : (ns : List Name) (k : ℕ) (E : Env) → Wordy E → Wordy (variables ns k E)
+wordy_variables [] k E e = e
+wordy_variables (n ∷ ns) k E e = wordy_variables ns (k + 1) _ (tt, e)
+
+wordy_routine : (m : Meant) (n : Name) (q : ℕ) (E : Env) → Wordy E → Wordy (routine_name m n q E)
+wordy_routine (Global g) n q E e = e
+wordy_routine (Constant w) n q E e = (tt, e)
+wordy_routine Pending n q E e = (tt, e)
+wordy_routine (Static m) n q E e = (tt, e)
+wordy_routine (Routine m) n q E e = (tt, e)
+wordy_routine (Variable m) n q E e = (tt, e)
+wordy_routine (scope.Label m) n q E e = (tt, e)
+wordy_routine OuterVariable n q E e = (tt, e)
+wordy_routine OuterLabel n q E e = (tt, e)
+wordy_routine LabelOutside n q E e = (tt, e)
+wordy_routine Undeclared n q E e = (tt, e)
+
+wordy_definition : (B : Env) (at : Numbers) (k : ℕ) (d : tree.Definition) (E : Env) → Wordy E → Wordy (in_definition B at k d E)
+wordy_definition B at k (tree.Variables ns es) E e = wordy_variables ns k E e
+wordy_definition B at k (tree.Vector n c) E e = (tt, e)
+wordy_definition B at k (tree.Function n ps d) E e = wordy_routine (meant_by B n) n at.place E e
+wordy_definition B at k (tree.Routine n ps b) E e = wordy_routine (meant_by B n) n at.place E e
+
+wordy_definitions : (B K : Env) (at : Numbers) (k : ℕ) (ds : tree.Definitions) (E : Env) → Wordy E → Wordy (in_definitions B K at k ds E)
+wordy_definitions B K at k tree.no_definitions E e = e
+wordy_definitions B K at k (tree.definition d ds) E e =
+    wordy_definitions B K (behind_definition at d) (k + scoping.cells_of K d) ds _ (wordy_definition B at k d E e)
+
+wordy_names : (ns : List Name) (E : Env) → Wordy E → Wordy (pending_names ns E)
+wordy_names [] E e = e
+wordy_names (n ∷ ns) E e = wordy_names ns _ (tt, e)
+
+pub wordy_before : (ds : tree.Definitions) (E : Env) → Wordy E → Wordy (before_let ds E)
+wordy_before tree.no_definitions E e = e
+wordy_before (tree.definition d ds) E e = wordy_before ds _ (wordy_names (names_of d) E e)
+
+pub wordy_let : (at : Numbers) (s : ℕ) (ds : tree.Definitions) (E : Env) → Wordy E → Wordy (in_let E at s ds)
+wordy_let at s ds E e = wordy_definitions E (before_let ds E) at s ds E e
+
+pub wordy_declaration : (at : Numbers) (s : ℕ) (d : tree.Declaration) (E : Env) → Wordy E → DeclarationHasWords d → Wordy (in_declaration E at s d)
+wordy_declaration at s (tree.Constants k es) E e h = wordy_entries k at es (pending es E) (wordy_pending es E e) h
+wordy_declaration at s (tree.Let ds) E e h = wordy_let at s ds E e
+
+pub wordy_declarations : (at : Numbers) (s : ℕ) (ds : tree.Declarations) (E : Env) → Wordy E → DeclarationsHaveWords ds → Wordy (in_declarations E at s ds)
+wordy_declarations at s tree.no_declarations E e h = e
+wordy_declarations at s (tree.declaration d ds) E e h =
+    wordy_declarations (behind_declaration at d) (s + cells_in E d) ds _ (wordy_declaration at s d E e h.0) h.1
+
+wordy_labels : (k : ℕ) (ls : tree.Labels) (E : Env) → Wordy E → Wordy (in_labels k ls E)
+wordy_labels k tree.no_labels E e = e
+wordy_labels k (tree.label (tree.Case c) ls) E e = wordy_labels (k + 0) ls E e
+wordy_labels k (tree.label tree.Default ls) E e = wordy_labels (k + 0) ls E e
+wordy_labels k (tree.label (tree.Named n) ls) E e = wordy_labels (k + 1) ls _ (tt, e)
+
+pub wordy_list : (k : ℕ) (is : tree.Items) (E : Env) → Wordy E → Wordy (in_list k is E)
+wordy_list k tree.no_items E e = e
+wordy_list k (tree.item (tree.Labelled ls c) is) E e = wordy_list (k + labels_of ls) is _ (wordy_labels k ls E e)
+wordy_list k (tree.item (tree.Labels_alone ls) is) E e = wordy_list (k + labels_of ls) is _ (wordy_labels k ls E e)
+
+pub wordy_valof : (E : Env) → Wordy E → Wordy (in_valof E)
+wordy_valof [] e = tt
+wordy_valof ((n, Constant w) ∷ E) e = (e.0, wordy_valof E e.1)
+wordy_valof ((n, Pending) ∷ E) e = (tt, wordy_valof E e.1)
+wordy_valof ((n, Static m) ∷ E) e = (tt, wordy_valof E e.1)
+wordy_valof ((n, Global m) ∷ E) e = (tt, wordy_valof E e.1)
+wordy_valof ((n, Routine m) ∷ E) e = (tt, wordy_valof E e.1)
+wordy_valof ((n, Variable k) ∷ E) e = (tt, wordy_valof E e.1)
+wordy_valof ((n, scope.Label l) ∷ E) e = (tt, wordy_valof E e.1)
+wordy_valof ((n, OuterVariable) ∷ E) e = (tt, wordy_valof E e.1)
+wordy_valof ((n, OuterLabel) ∷ E) e = (tt, wordy_valof E e.1)
+wordy_valof ((n, LabelOutside) ∷ E) e = (tt, wordy_valof E e.1)
+wordy_valof ((n, Undeclared) ∷ E) e = (tt, wordy_valof E e.1)
+
+outer : (E : Env) → Wordy E → Wordy (in_routine E)
+outer [] e = tt
+outer ((n, Constant w) ∷ E) e = (e.0, outer E e.1)
+outer ((n, Pending) ∷ E) e = (tt, outer E e.1)
+outer ((n, Static m) ∷ E) e = (tt, outer E e.1)
+outer ((n, Global m) ∷ E) e = (tt, outer E e.1)
+outer ((n, Routine m) ∷ E) e = (tt, outer E e.1)
+outer ((n, Variable k) ∷ E) e = (tt, outer E e.1)
+outer ((n, scope.Label l) ∷ E) e = (tt, outer E e.1)
+outer ((n, OuterVariable) ∷ E) e = (tt, outer E e.1)
+outer ((n, OuterLabel) ∷ E) e = (tt, outer E e.1)
+outer ((n, LabelOutside) ∷ E) e = (tt, outer E e.1)
+outer ((n, Undeclared) ∷ E) e = (tt, outer E e.1)
+
+pub wordy_parameters : (ps : List Name) (E : Env) → Wordy E → Wordy (in_parameters ps E)
+wordy_parameters ps E e = wordy_variables ps 2 (in_routine E) (outer E e)
+
+-- Strings stand for bytes
+
+either : (t : Bool) (m n : ℕ) → m < 256 → n < 256 → (if t then m else n) < 256
+either true m n h k = h
+either false m n h k = k
+
+escape_is_byte : (e : ℕ) → e < 256 → escaped e < 256
+escape_is_byte e h =
+    either _ 10 _ (omega arith) (either _ 9 _ (omega arith) (either _ 32 _ (omega arith)
+    (either _ 8 _ (omega arith) (either _ 12 _ (omega arith) (either _ 13 e (omega arith) h)))))
+
+either_bytes : (t : Bool) (ms ns : List ℕ) → AreBytes ms → AreBytes ns → AreBytes (if t then ms else ns)
+either_bytes true ms ns h k = h
+either_bytes false ms ns h k = k
+
+characters_are_bytes : (escape : Bool) (bs : List ℕ) → AreBytes bs → AreBytes (characters escape bs)
+characters_are_bytes escape [] h = tt
+characters_are_bytes true (e ∷ bs) h = (escape_is_byte e h.0, characters_are_bytes false bs h.1)
+characters_are_bytes false (b ∷ bs) h =
+    either_bytes (b == 34) [] _ tt (either_bytes (b == 42) _ (b ∷ characters false bs) (characters_are_bytes true bs h.1) (h.0, characters_are_bytes false bs h.1))
+
+taken : (n : ℕ) (bs : List ℕ) → AreBytes bs → AreBytes (take n bs)
+taken zero bs h = tt
+taken (suc n) [] h = tt
+taken (suc n) (b ∷ bs) h = (h.0, taken n bs h.1)
+
+dropped : (n : ℕ) (bs : List ℕ) → AreBytes bs → AreBytes (drop n bs)
+dropped zero bs h = h
+dropped (suc n) [] h = tt
+dropped (suc n) (b ∷ bs) h = dropped n bs h.1
+
+byte_is : (b : ℕ) → b < 256 → nat_lt b 256 ≡ true
+byte_is b h = grind arith
+
+are_bytes_if : (bs : List ℕ) → AreBytes bs → are_bytes bs ≡ true
+are_bytes_if [] h = refl
+are_bytes_if (b ∷ bs) h = λ i. byte_is b h.0 i && are_bytes_if bs h.1 i
+
+pub text_is_bytes : (text : List ℕ) → AreBytes text → are_bytes (decoded text) ≡ true
+text_is_bytes text h = are_bytes_if (decoded text) (taken 255 (characters false (drop 1 text)) (characters_are_bytes false (drop 1 text) (dropped 1 text h)))

@@ -1,0 +1,99 @@
+-- What the names before a LET say of its definitions gives what they take and make known.
+use Rattle.std.proofs.Common.{◌≡◌, ℕ, ◌+◌, ◌<◌, ◌≤◌, refl, ap, ◌∙◌, sym, true≢false, false, List, ◌∷◌, length, drop, get_or, Option}
+use Rattle.std.proofs.lemmas.List.{at_drop_more, drop-drop, drop_all}
+use Rattle.bc_parse_tree.specs.declared.tree.Definition as code
+use Rattle.bc_parse_tree.specs.View.{definition_view, definitions_view}
+use Rattle.bc_scope_names.specs.declared.declaring.Prior.{Prior}
+use Rattle.bc_parse_tree.specs.Tree.{Definition, Definitions, no_definitions, definition}
+use Rattle.bc_parse_tree.specs.Tree as tree
+use Rattle.bc_scope_names.specs.Priors.{prior_at, global_before, globals_before, greatest_of, all_greatest_of, has_vector, cells_by, all_cells_by, routine_by, declared_by, all_declared_by}
+use Rattle.bc_scope_defs.specs.Scope.{Env, Name, Numbers, Meant, Constant, Pending, Static, Global, Routine, Variable, Label, OuterVariable, OuterLabel, LabelOutside, Undeclared, meant_by}
+use Rattle.bc_scope_defs.specs.Scoping.{cells_of, cells_of_all, routine_name, in_definition, in_definitions}
+use Rattle.bc_scope_defs.specs.Found.{global_of}
+use Rattle.bc_scope_defs.specs.Numbering.{behind_definition}
+
+routine_is : (m : Meant) (n : Name) (l : ℕ) (E : Env) → routine_by (global_of m) n l E ≡ routine_name m n l E
+routine_is (Constant w) n l E = refl
+routine_is Pending n l E = refl
+routine_is (Static w) n l E = refl
+routine_is (Global w) n l E = refl
+routine_is (Routine w) n l E = refl
+routine_is (Variable w) n l E = refl
+routine_is (Label w) n l E = refl
+routine_is OuterVariable n l E = refl
+routine_is OuterLabel n l E = refl
+routine_is LabelOutside n l E = refl
+routine_is Undeclared n l E = refl
+
+cells_are : (B K : Env) (d : Definition) → cells_by (record { global = global_before B d; greatest = greatest_of K d }) d ≡ cells_of K d
+cells_are B K (tree.Variables ns es) = refl
+cells_are B K (tree.Vector n k) = refl
+cells_are B K (tree.Function n ps e) = refl
+cells_are B K (tree.Routine n ps b) = refl
+
+pub all_cells_are : (B K : Env) (ds : Definitions) → all_cells_by (globals_before B ds) (all_greatest_of K ds) ds ≡ cells_of_all K ds
+all_cells_are B K no_definitions = refl
+all_cells_are B K (definition d ds) = ap (λ n. n + all_cells_by (globals_before B ds) (all_greatest_of K ds) ds) (cells_are B K d) ∙ ap (λ n. cells_of K d + n) (all_cells_are B K ds)
+
+declared_is : (B K : Env) (at : Numbers) (k : ℕ) (d : Definition) (E : Env) → declared_by (record { global = global_before B d; greatest = greatest_of K d }) at k d E ≡ in_definition B at k d E
+declared_is B K at k (tree.Variables ns es) E = refl
+declared_is B K at k (tree.Vector n c) E = refl
+declared_is B K at k (tree.Function n ps e) E = routine_is (meant_by B n) n at.place E
+declared_is B K at k (tree.Routine n ps b) E = routine_is (meant_by B n) n at.place E
+
+pub all_declared_is : (B K : Env) (at : Numbers) (k : ℕ) (ds : Definitions) (E : Env) → all_declared_by (globals_before B ds) (all_greatest_of K ds) at k ds E ≡ in_definitions B K at k ds E
+all_declared_is B K at k no_definitions E = refl
+all_declared_is B K at k (definition d ds) E =
+    ap (λ j. all_declared_by (globals_before B ds) (all_greatest_of K ds) (behind_definition at d) (k + j) ds (declared_by (record { global = global_before B d; greatest = greatest_of K d }) at k d E)) (cells_are B K d)
+    ∙ ap (λ F. all_declared_by (globals_before B ds) (all_greatest_of K ds) (behind_definition at d) (k + cells_of K d) ds F) (declared_is B K at k d E)
+    ∙ all_declared_is B K (behind_definition at d) (k + cells_of K d) ds (in_definition B at k d E)
+
+-- without a vector nobody asks what the names of a LET mean
+pub greatest_anywhere : (K L : Env) (ds : Definitions) → has_vector ds ≡ false → all_greatest_of K ds ≡ all_greatest_of L ds
+greatest_anywhere K L no_definitions h = refl
+greatest_anywhere K L (definition (tree.Variables ns es) ds) h = ap (λ ws. 0 ∷ ws) (greatest_anywhere K L ds h)
+greatest_anywhere K L (definition (tree.Vector n k) ds) h = absurd (true≢false h)
+greatest_anywhere K L (definition (tree.Function n ps e) ds) h = ap (λ ws. 0 ∷ ws) (greatest_anywhere K L ds h)
+greatest_anywhere K L (definition (tree.Routine n ps b) ds) h = ap (λ ws. 0 ∷ ws) (greatest_anywhere K L ds h)
+
+-- one definition of a list, by what stands there
+
+definitions_on : (ds : List code.Definition) (i : ℕ) (d : code.Definition) → i < length ds → d ≡ get_or ds i d → definitions_view (drop i ds) ≡ definition (definition_view d) (definitions_view (drop (i + 1) ds))
+definitions_on ds i d h q = at_drop_more definitions_view ds i d h ∙ ap (λ x. definition (definition_view x) (definitions_view (drop (i + 1) ds))) (sym q)
+
+-- what a definition takes, before the rest
+pub cells_on : (gs : List (Option ℕ)) (ws : List ℕ) (ds : List code.Definition) (n j i : ℕ) (d : code.Definition) → i < length ds → d ≡ get_or ds i d → j ≡ n + 1
+    → all_cells_by (drop n gs) (drop n ws) (definitions_view (drop i ds)) ≡ cells_by (prior_at (drop n gs) (drop n ws)) (definition_view d) + all_cells_by (drop j gs) (drop j ws) (definitions_view (drop (i + 1) ds))
+cells_on gs ws ds n j i d h q e =
+    let own = cells_by (prior_at (drop n gs) (drop n ws)) (definition_view d) in
+    let rest = definitions_view (drop (i + 1) ds) in
+    ap (λ x. all_cells_by (drop n gs) (drop n ws) x) (definitions_on ds i d h q)
+    ∙ ap (λ x. own + all_cells_by x (drop 1 (drop n ws)) rest) (drop-drop 1 n gs ∙ ap (λ k. drop k gs) (sym e))
+    ∙ ap (λ x. own + all_cells_by (drop j gs) x rest) (drop-drop 1 n ws ∙ ap (λ k. drop k ws) (sym e))
+
+-- what it makes known, before the rest
+pub declared_on : (gs : List (Option ℕ)) (ws : List ℕ) (at : Numbers) (k : ℕ) (ds : List code.Definition) (n j i : ℕ) (d : code.Definition) (E : Env) → i < length ds → d ≡ get_or ds i d → j ≡ n + 1
+    → all_declared_by (drop n gs) (drop n ws) at k (definitions_view (drop i ds)) E
+    ≡ all_declared_by (drop j gs) (drop j ws) (behind_definition at (definition_view d)) (k + cells_by (prior_at (drop n gs) (drop n ws)) (definition_view d)) (definitions_view (drop (i + 1) ds)) (declared_by (prior_at (drop n gs) (drop n ws)) at k (definition_view d) E)
+declared_on gs ws at k ds n j i d E h q e =
+    let p : Prior = prior_at (drop n gs) (drop n ws) in
+    let behind = behind_definition at (definition_view d) in
+    let level = k + cells_by p (definition_view d) in
+    let rest = definitions_view (drop (i + 1) ds) in
+    let known = declared_by p at k (definition_view d) E in
+    ap (λ x. all_declared_by (drop n gs) (drop n ws) at k x E) (definitions_on ds i d h q)
+    ∙ ap (λ x. all_declared_by x (drop 1 (drop n ws)) behind level rest known) (drop-drop 1 n gs ∙ ap (λ m. drop m gs) (sym e))
+    ∙ ap (λ x. all_declared_by (drop j gs) x behind level rest known) (drop-drop 1 n ws ∙ ap (λ m. drop m ws) (sym e))
+
+-- where nothing is left, nobody asks for the numbers
+pub declared_last : (gs : List (Option ℕ)) (ws : List ℕ) (at at1 : Numbers) (k : ℕ) (ds : List code.Definition) (i : ℕ) (E : Env) → length ds ≤ i
+    → all_declared_by gs ws at k (definitions_view (drop i ds)) E ≡ all_declared_by gs ws at1 k (definitions_view (drop i ds)) E
+declared_last gs ws at at1 k ds i E h =
+    ap (λ x. all_declared_by gs ws at k (definitions_view x) E) (drop_all i ds h) ∙ ap (λ x. all_declared_by gs ws at1 k (definitions_view x) E) (sym (drop_all i ds h))
+
+-- where nothing is left, nothing more is taken or made known
+pub cells_behind : (gs : List (Option ℕ)) (ws : List ℕ) (ds : List code.Definition) (i : ℕ) → length ds ≤ i → all_cells_by gs ws (definitions_view (drop i ds)) ≡ 0
+cells_behind gs ws ds i h = ap (λ x. all_cells_by gs ws (definitions_view x)) (drop_all i ds h)
+
+pub declared_behind : (gs : List (Option ℕ)) (ws : List ℕ) (at : Numbers) (k : ℕ) (ds : List code.Definition) (i : ℕ) (E : Env) → length ds ≤ i → all_declared_by gs ws at k (definitions_view (drop i ds)) E ≡ E
+declared_behind gs ws at k ds i E h = ap (λ x. all_declared_by gs ws at k (definitions_view x) E) (drop_all i ds h)

@@ -1,0 +1,16 @@
+-- For proofs: what kinds of operands of the code stand for.
+use Rattle.bc_scope_names.specs.declared.sides.Kind.{Kind}
+use Rattle.bc_scope_names.specs.declared.sides.Kind.TheVariants as code
+use Rattle.bc_scope_names.specs.declared.sides.Kinds.{Kinds}
+use Rattle.bc_scope_defs.specs.Sides as sides
+
+abbrev pub kind_view : Kind → sides.Kind
+kind_view code.Number = sides.ANumber
+kind_view code.Cell = sides.ACell
+kind_view code.Place = sides.APlace
+kind_view code.Sum = sides.ASum
+kind_view code.Content = sides.AContent
+kind_view code.NoOperand = sides.NoOperand
+
+abbrev pub kinds_view : Kinds → sides.Kinds
+kinds_view k = record { address = kind_view k.address; content = kind_view k.content }

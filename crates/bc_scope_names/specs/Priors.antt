@@ -1,0 +1,82 @@
+-- For proofs: what the names before a LET say of its definitions, and what these take and make known by that.
+use Rattle.std.specs.Prelude.{◌≡◌, ◌+◌, ℕ, Bool, true, false, ◌||◌, List, [], ◌∷◌, drop, Option, Some, None}
+use Rattle.bc_parse_tree.specs.Tree.{Definition, Definitions, no_definitions, definition}
+use Rattle.bc_parse_tree.specs.Tree as tree
+use Rattle.bc_scope_names.specs.declared.declaring.Prior.{Prior}
+use Rattle.bc_scope_names.specs.declared.declaring.Priors.{Priors}
+use Rattle.bc_scope_defs.specs.Scope.{Env, Name, Variable, Routine, Numbers, meant_by}
+use Rattle.bc_scope_defs.specs.Scoping.{constant, count, variables, before_let}
+use Rattle.bc_scope_defs.specs.Found.{global_of}
+use Rattle.bc_scope_defs.specs.Numbering.{behind_definition}
+
+-- the global that a definition sets
+abbrev pub global_before : Env → Definition → Option ℕ
+global_before E (tree.Variables ns es) = None
+global_before E (tree.Vector n k) = None
+global_before E (tree.Function n ps e) = global_of (meant_by E n)
+global_before E (tree.Routine n ps b) = global_of (meant_by E n)
+
+abbrev pub globals_before : Env → Definitions → List (Option ℕ)
+globals_before E no_definitions = []
+globals_before E (definition d ds) = global_before E d ∷ globals_before E ds
+
+-- the constant of a vector
+abbrev pub greatest_of : Env → Definition → ℕ
+greatest_of K (tree.Variables ns es) = 0
+greatest_of K (tree.Vector n k) = constant K k
+greatest_of K (tree.Function n ps e) = 0
+greatest_of K (tree.Routine n ps b) = 0
+
+abbrev pub all_greatest_of : Env → Definitions → List ℕ
+all_greatest_of K no_definitions = []
+all_greatest_of K (definition d ds) = greatest_of K d ∷ all_greatest_of K ds
+
+-- whether a LET has a constant that asks what its names mean
+abbrev pub is_vector : Definition → Bool
+is_vector (tree.Variables ns es) = false
+is_vector (tree.Vector n k) = true
+is_vector (tree.Function n ps e) = false
+is_vector (tree.Routine n ps b) = false
+
+abbrev pub has_vector : Definitions → Bool
+has_vector no_definitions = false
+has_vector (definition d ds) = is_vector d || has_vector ds
+
+abbrev pub ArePriors : Priors → Env → Definitions → Type 0
+ArePriors ps E ds = (ps.globals.items ≡ globals_before E ds) × (ps.greatest.items ≡ all_greatest_of (before_let ds E) ds)
+
+abbrev pub first_global : List (Option ℕ) → Option ℕ
+first_global [] = None
+first_global (g ∷ gs) = g
+
+abbrev pub first_word : List ℕ → ℕ
+first_word [] = 0
+first_word (w ∷ ws) = w
+
+abbrev pub prior_at : List (Option ℕ) → List ℕ → Prior
+prior_at gs ws = record { global = first_global gs; greatest = first_word ws }
+
+abbrev pub cells_by : Prior → Definition → ℕ
+cells_by p (tree.Variables ns es) = count es
+cells_by p (tree.Vector n k) = p.greatest + 2
+cells_by p (tree.Function n ps e) = 0
+cells_by p (tree.Routine n ps b) = 0
+
+abbrev pub all_cells_by : List (Option ℕ) → List ℕ → Definitions → ℕ
+all_cells_by gs ws no_definitions = 0
+all_cells_by gs ws (definition d ds) = cells_by (prior_at gs ws) d + all_cells_by (drop 1 gs) (drop 1 ws) ds
+
+abbrev pub routine_by : Option ℕ → Name → ℕ → Env → Env
+routine_by None n m E = (n, Routine m) ∷ E
+routine_by (Some g) n m E = E
+
+abbrev pub declared_by : Prior → Numbers → (k : ℕ) → Definition → Env → Env
+declared_by p at k (tree.Variables ns es) E = variables ns k E
+declared_by p at k (tree.Vector n c) E = (n, Variable k) ∷ E
+declared_by p at k (tree.Function n ps e) E = routine_by p.global n at.place E
+declared_by p at k (tree.Routine n ps b) E = routine_by p.global n at.place E
+
+abbrev pub all_declared_by : List (Option ℕ) → List ℕ → Numbers → (k : ℕ) → Definitions → Env → Env
+all_declared_by gs ws at k no_definitions E = E
+all_declared_by gs ws at k (definition d ds) E =
+    all_declared_by (drop 1 gs) (drop 1 ws) (behind_definition at d) (k + cells_by (prior_at gs ws) d) ds (declared_by (prior_at gs ws) at k d E)

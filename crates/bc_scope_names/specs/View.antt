@@ -1,0 +1,34 @@
+-- What scopes and numbers of the code stand for.
+pub use Rattle.bc_scope_names.specs.Known.{meant_view}
+use Rattle.std.specs.Prelude.{◌≡◌, List, [], ◌∷◌, length, take}
+use Rattle.bc_scope_names.specs.declared.scope.Entry.{Entry}
+use Rattle.bc_scope_names.specs.declared.scope.Entry.TheVariants as entry
+use Rattle.bc_scope_names.specs.declared.numbers.Numbers.{Numbers}
+use Rattle.bc_scope_defs.specs.Scope as scoping
+use Rattle.bc_scope_defs.specs.Scope.{Env}
+use Rattle.bc_scope_defs.specs.Scoping.{in_routine, in_valof}
+
+-- what is known behind an entry
+abbrev pub behind_one : Entry → Env → Env
+behind_one (entry.Name n position hidden) E = (n.name.now, meant_view n.meant) ∷ E
+behind_one (entry.Routine borders) E = in_routine E
+behind_one (entry.Valof borders) E = in_valof E
+
+-- entries, oldest first
+abbrev pub behind_entries : List Entry → Env → Env
+behind_entries [] E = E
+behind_entries (e ∷ es) E = behind_entries es (behind_one e E)
+
+unfoldable pub scope_view : List Entry → Env
+scope_view es = behind_entries es []
+
+-- the entries of one scope are the first ones of another
+unfoldable pub Extends : (before after : List Entry) → Type 0
+Extends before after = take (length before) after ≡ before
+
+-- E is known by more entries
+abbrev pub Declares : (before after : List Entry) → Env → Type 0
+Declares before after E = (scope_view after ≡ E) × Extends before after
+
+abbrev pub numbers_view : Numbers → scoping.Numbers
+numbers_view n = record { place = n.place; valof = n.valof; label = n.label }

@@ -1,0 +1,158 @@
+//! The level of both sides of an assignment, by the form of its address.
+ghost use Rattle.std.specs.Prelude.{◌≡◌, IfOk};
+ghost use Rattle.bc_parse_tree.specs.View.{exp_view, exps_view};
+ghost use Rattle.bc_scope_defs.specs.Sides.{kind_of_content, kind_of_sum, kinds_of_cell, kinds_of_plain, kinds_of_name, kinds_of_monadic, kinds_of_dyadic, kinds, is_operand_kind, side_levels};
+ghost use Rattle.bc_scope_names.specs.View.{meant_view, scope_view};
+ghost use Rattle.bc_scope_names.specs.Kinds.{kind_view, kinds_view};
+
+use crate::numbers::sum;
+use crate::scope::{Meant, Scope};
+use bc_parse_tree::{Dyadic, Exp, Monadic};
+use bc_word::Memory;
+use std::alloc::Global;
+
+/// What one instruction takes as its operand.
+#[derive(Clone, Copy, Debug, PartialEq, Eq)]
+pub enum Kind {
+    Number,
+    /// The address of a variable or a global.
+    Cell,
+    /// The address of a place.
+    Place,
+    /// The sum of a cell's address and a number.
+    Sum,
+    /// The content of the cell at one of these.
+    Content,
+    NoOperand,
+}
+
+#[derive(Clone, Copy, Debug, PartialEq, Eq)]
+pub struct Kinds {
+    pub address: Kind,
+    pub content: Kind,
+}
+
+fn kind_of_content(address: Kind) -> Kind
+    ensures { kind_view result ≡ kind_of_content (kind_view address) }
+{
+    match address {
+        Kind::Content | Kind::NoOperand => Kind::NoOperand,
+        Kind::Number | Kind::Cell | Kind::Place | Kind::Sum => Kind::Content,
+    }
+}
+
+fn kind_of_sum(left: Kind, right: Kind) -> Kind
+    ensures { kind_view result ≡ kind_of_sum (kind_view left) (kind_view right) }
+{
+    match (left, right) {
+        (Kind::Cell, Kind::Number) | (Kind::Number, Kind::Cell) => Kind::Sum,
+        _ => Kind::NoOperand,
+    }
+}
+
+fn kinds_of_cell(address: Kind) -> Kinds
+    ensures { kinds_view result ≡ kinds_of_cell (kind_view address) }
+{
+    Kinds {
+        address,
+        content: kind_of_content(address),
+    }
+}
+
+fn kinds_of_plain(value: Kind) -> Kinds
+    ensures { kinds_view result ≡ kinds_of_plain (kind_view value) }
+{
+    Kinds {
+        address: value,
+        content: value,
+    }
+}
+
+fn kinds_of_name(meant: Meant) -> Kinds
+    ensures { kinds_view result ≡ kinds_of_name (meant_view meant) }
+{
+    match meant {
+        Meant::Static(_) => kinds_of_cell(Kind::Place),
+        Meant::Global(_) | Meant::Variable(_) => kinds_of_cell(Kind::Cell),
+        Meant::Routine(_) => kinds_of_plain(Kind::Place),
+        Meant::Constant(_)
+        | Meant::Pending
+        | Meant::Label(_)
+        | Meant::OuterVariable
+        | Meant::OuterLabel
+        | Meant::LabelOutside
+        | Meant::Undeclared => kinds_of_plain(Kind::Number),
+    }
+}
+
+fn kinds_of_monadic(sign: Monadic, operand: Kinds) -> Kinds
+    ensures { kinds_view result ≡ kinds_of_monadic sign (kinds_view operand) }
+{
+    match sign {
+        Monadic::Load => kinds_of_cell(operand.content),
+        Monadic::Address => kinds_of_plain(operand.address),
+        Monadic::Not | Monadic::Negate => kinds_of_plain(Kind::NoOperand),
+    }
+}
+
+fn kinds_of_dyadic(sign: Dyadic, left: Kind, right: Kind) -> Kinds
+    ensures { kinds_view result ≡ kinds_of_dyadic sign (kind_view left) (kind_view right) }
+{
+    match sign {
+        Dyadic::Index => kinds_of_cell(kind_of_sum(left, right)),
+        Dyadic::Add => kinds_of_plain(kind_of_sum(left, right)),
+        _ => kinds_of_plain(Kind::NoOperand),
+    }
+}
+
+fn make_kinds(scope: &Scope<'_>, e: &Exp<'_>) -> Kinds
+    ensures { kinds_view result ≡ kinds (scope_view scope.now) (exp_view e.now) }
+{
+    match e {
+        Exp::Name(name) => kinds_of_name(scope.meant_by(name)),
+        Exp::Number(_) | Exp::Character(_) | Exp::True | Exp::False => {
+            kinds_of_plain(Kind::Number)
+        }
+        Exp::String(_) | Exp::Table(_) => kinds_of_plain(Kind::Place),
+        Exp::Monadic(sign, operand) => kinds_of_monadic(*sign, make_kinds(scope, operand)),
+        Exp::Dyadic(sign, left, right) => {
+            let left = make_kinds(scope, left);
+            let right = make_kinds(scope, right);
+            kinds_of_dyadic(*sign, left.content, right.content)
+        }
+        Exp::Valof(_) | Exp::Condition { .. } | Exp::Call(_, _) => {
+            kinds_of_plain(Kind::NoOperand)
+        }
+    }
+}
+
+/// Whether the address of an expression is an operand.
+pub fn is_operand(scope: &Scope<'_>, e: &Exp<'_>) -> bool
+    ensures { result ≡ is_operand_kind (kinds (scope_view scope.now) (exp_view e.now)).address }
+{
+    match make_kinds(scope, e).address {
+        Kind::NoOperand => false,
+        Kind::Number | Kind::Cell | Kind::Place | Kind::Sum | Kind::Content => true,
+    }
+}
+
+/// The levels of the pairs of an assignment to these addresses.
+pub fn side_levels(
+    alloc: Global,
+    scope: &Scope<'_>,
+    places: &[Exp<'_>],
+    level: u64,
+) -> Result<Vec<u64>, Memory>
+    ensures { IfOk result (λ ss. ss.items ≡ side_levels (scope_view scope.now) (exps_view places.now) level) }
+{
+    let mut levels = Vec::new(alloc);
+    for place in places {
+        let above = sum(level, 1)?;
+        levels.push(if is_operand(scope, place) {
+            level
+        } else {
+            above
+        })?;
+    }
+    Ok(levels)
+}

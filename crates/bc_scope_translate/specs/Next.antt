@@ -1,0 +1,16 @@
+-- For proofs: the next numbers, counted or not.
+use Rattle.bc_parse_tree.specs.View.{block_view, definition_view}
+use Rattle.bc_scope_translate.specs.declared.numbering.NextNumbers.{NextNumbers}
+use Rattle.bc_scope_translate.specs.declared.numbering.Passed.{Passed}
+use Rattle.bc_scope_translate.specs.declared.numbering.Passed.TheVariants as passed
+use Rattle.bc_scope_defs.specs.Scope as scoping
+use Rattle.bc_scope_defs.specs.Numbering.{behind_block, behind_definition}
+use Rattle.bc_scope_names.specs.View.{numbers_view}
+
+abbrev pub behind_passed : scoping.Numbers → Passed → scoping.Numbers
+behind_passed at passed.Nothing = at
+behind_passed at (passed.Routine d) = behind_definition at (definition_view d.now)
+behind_passed at (passed.Body b) = behind_block at (block_view b.now)
+
+unfoldable pub next_numbers : NextNumbers → scoping.Numbers
+next_numbers n = behind_passed (numbers_view n.counted) n.passed

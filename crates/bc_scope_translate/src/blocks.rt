@@ -1,0 +1,554 @@
+//! The translation of blocks and commands.
+//!
+//! What puts a command together is a function apart that is never inlined, so that what it needs does not lie on the stack
+//! while the blocks within are translated.
+ghost use Rattle.std.specs.Prelude.{◌≡◌, ◌+◌, ◌++◌, ◌∷◌, [], map, IfOk};
+ghost use Rattle.bc_core.specs.Commands.{If, Test, While, Repeat, RepeatWhile, For, SwitchOn};
+ghost use Rattle.bc_core.specs.View.{variable, declarations as declarations_of, command as command_of, items as items_of, block_of as core_block_of};
+ghost use Rattle.bc_parse_tree.specs.View.{exp_view, exps_view, command_view, block_view, declaration_view, declarations_view, definition_view, definitions_view, entries_view, label_view, labels_view, item_view, items_view};
+ghost use Rattle.bc_scope_defs.specs.Source.{label_number as label_number_of};
+ghost use Rattle.bc_scope_defs.specs.Scoping.{in_entries, in_declaration, in_declarations, in_list, in_for, cells_in, level_behind};
+ghost use Rattle.bc_scope_defs.specs.Scope.{behind_labels};
+ghost use Rattle.bc_scope_defs.specs.Numbering.{labels_of, labels_in as labels_in_of, behind_entries, behind, behind_all, behind_block, behind_declarations, behind_definitions, behind_declaration, behind_definition as behind_definition_of, behind_items, behind_item, behind_command};
+ghost use Rattle.bc_scope_defs.specs.Translation.{forms, forms_of_all, initials as initials_of, core_declaration, core_declarations, core_block, core_items, core_command, block_of as block_of_one};
+ghost use Rattle.bc_core.specs.Level.{level_in_for};
+ghost use Rattle.bc_scope_names.specs.View.{meant_view, scope_view, Declares};
+ghost use Rattle.bc_scope_translate.specs.Next.{next_numbers};
+ghost use Rattle.bc_scope_translate.specs.Seen.{Translates, TranslatesWithin, entry_view, label_entries, labels_before, command_entry, ACommand, condition_view, branch_view};
+ghost use Rattle.bc_scope_translate.specs.Definitions.{core_definition_by, core_definitions_by};
+
+use crate::assignments::assigned;
+use crate::commands::{chosen, conditional, counting, forever, looped, nested, repeated, switch};
+use crate::expressions::{call, value};
+use crate::forms::block_of;
+use crate::numbering::NextNumbers;
+use bc_core::{
+    Block as CoreBlock, Command as CoreCommand, Condition, CoreExp, Declaration as CoreDeclaration,
+    ListItem, Variable,
+};
+use bc_parse_tree::{Block, Command, Constant, Declaration, Definition, Exp, Item, Label, Storage};
+use bc_scope_names::{
+    Meant, Priors, Scope, behind_entry, constant, declare_entry, declare_let, declare_list,
+    declare_pending, labels_in, priors_of_let, short, sum,
+};
+use bc_word::{Memory, Word};
+
+/// The test of a TEST, and the branch that is taken where it holds.
+#[derive(Drop)]
+struct Branch {
+    test: CoreExp,
+    this: CoreBlock,
+}
+
+/// Initialisers.
+fn initials<'t, 's>(
+    scope: &Scope<'s>,
+    at: &mut NextNumbers<'t, 's>,
+    variables: &mut Vec<Variable>,
+    list: &'t [Exp<'s>],
+) -> Result<(), Memory>
+    ensures { Translates (λ _. map variable variables.new.items) result (map variable variables.old.items ++ initials_of (forms_of_all (scope_view scope.now) (next_numbers at.old) (exps_view list.now))) at.new (behind_all (next_numbers at.old) (exps_view list.now)) }
+{
+    for e in list {
+        variables.push(Variable::Value(value(scope, at, e)?))?;
+    }
+    Ok(())
+}
+
+/// The variables of a definition; a vector's constant is given.
+fn definition<'t, 's>(
+    scope: &Scope<'s>,
+    greatest: u16,
+    at: &mut NextNumbers<'t, 's>,
+    variables: &mut Vec<Variable>,
+    tree: &'t Definition<'s>,
+) -> Result<(), Memory>
+    ensures { Translates (λ _. map variable variables.new.items) result (map variable variables.old.items ++ core_definition_by greatest (scope_view scope.now) (next_numbers at.old) (definition_view tree.now)) at.new (behind_definition_of (next_numbers at.old) (definition_view tree.now)) }
+{
+    match tree {
+        Definition::Variables(_, values) => initials(scope, at, variables, values),
+        Definition::Vector(_, _) => Ok(variables.push(Variable::Vector(Word::new(greatest)))?),
+        Definition::Function(_, _, _) | Definition::Routine(_, _, _) => at.pass(tree),
+    }
+}
+
+/// How many variables a LET declares, or the greatest `usize` where there are more. Room is asked for by it.
+fn variables_in(list: &[Definition<'_>]) -> usize {
+    let mut variables = 0usize;
+    for tree in list {
+        variables = variables.saturating_add(match tree {
+            Definition::Variables(_, values) => values.len(),
+            Definition::Vector(_, _) => 1,
+            Definition::Function(_, _, _) | Definition::Routine(_, _, _) => 0,
+        });
+    }
+    variables
+}
+
+/// The variables of a LET, whose names are known, with what the names before it say of its definitions.
+fn definitions<'t, 's>(
+    scope: &Scope<'s>,
+    priors: &Priors,
+    at: &mut NextNumbers<'t, 's>,
+    list: &'t [Definition<'s>],
+) -> Result<Vec<Variable>, Memory>
+    ensures { Translates (λ vs. map variable vs.items) result (core_definitions_by priors.now.greatest.items (scope_view scope.now) (next_numbers at.old) (definitions_view list.now)) at.new (behind_definitions (next_numbers at.old) (definitions_view list.now)) }
+{
+    let mut variables = Vec::with_capacity(scope.alloc(), variables_in(list))?;
+    let mut i = 0u64;
+    for tree in list {
+        definition(scope, priors.at(i).greatest, at, &mut variables, tree)?;
+        i = sum(i, 1)?;
+    }
+    Ok(variables)
+}
+
+/// The names of a declaration of constants.
+#[inline(never)]
+fn entries<'t, 's>(
+    scope: &mut Scope<'s>,
+    at: &mut NextNumbers<'t, 's>,
+    storage: Storage,
+    list: &[Constant<'s>],
+) -> Result<(), Memory>
+    ensures { IfOk result (λ _. Declares scope.old scope.new (in_entries storage (next_numbers at.old) (entries_view list.now) (scope_view scope.old)) × (next_numbers at.new ≡ behind_entries storage (next_numbers at.old) (entries_view list.now))) }
+{
+    for entry in list {
+        let numbers = at.count()?;
+        declare_entry(scope, storage, numbers, entry)?;
+        *at = NextNumbers::new(behind_entry(storage, numbers)?);
+    }
+    Ok(())
+}
+
+/// A declaration at this next free offset, whose names are then known; given is the next free offset behind it.
+fn declaration<'t, 's>(
+    scope: &mut Scope<'s>,
+    at: &mut NextNumbers<'t, 's>,
+    declarations: &mut Vec<CoreDeclaration>,
+    tree: &'t Declaration<'s>,
+    level: u64,
+) -> Result<u64, Memory>
+    ensures { IfOk result (λ s. (s ≡ level + cells_in (scope_view scope.old) (declaration_view tree.now)) × Declares scope.old scope.new (in_declaration (scope_view scope.old) (next_numbers at.old) level (declaration_view tree.now)) × (next_numbers at.new ≡ behind_declaration (next_numbers at.old) (declaration_view tree.now)) × (declarations_of declarations.new.items ≡ declarations_of declarations.old.items ++ core_declaration (scope_view scope.old) (next_numbers at.old) level (declaration_view tree.now))) }
+{
+    match tree {
+        Declaration::Constants(storage, list) => {
+            declare_pending(scope, list)?;
+            entries(scope, at, *storage, list)?;
+            Ok(level)
+        }
+        Declaration::Let(list) => {
+            let priors = priors_of_let(scope, list)?;
+            let numbers = at.settle()?;
+            let behind = declare_let(scope, &priors, numbers, level, list)?;
+            let variables = definitions(scope, &priors, at, list)?;
+            declarations.push(CoreDeclaration { variables })?;
+            Ok(behind)
+        }
+    }
+}
+
+/// Declarations from this next free offset on, whose names are then known; given is the next free offset behind them.
+#[inline(never)]
+fn declarations<'t, 's>(
+    scope: &mut Scope<'s>,
+    at: &mut NextNumbers<'t, 's>,
+    declarations: &mut Vec<CoreDeclaration>,
+    list: &'t [Declaration<'s>],
+    level: u64,
+) -> Result<u64, Memory>
+    ensures { IfOk result (λ s. (s ≡ level_behind (scope_view scope.old) (next_numbers at.old) level (declarations_view list.now)) × Declares scope.old scope.new (in_declarations (scope_view scope.old) (next_numbers at.old) level (declarations_view list.now)) × (next_numbers at.new ≡ behind_declarations (next_numbers at.old) (declarations_view list.now)) × (declarations_of declarations.new.items ≡ declarations_of declarations.old.items ++ core_declarations (scope_view scope.old) (next_numbers at.old) level (declarations_view list.now))) }
+{
+    let mut behind = level;
+    for tree in list {
+        behind = declaration(scope, at, declarations, tree, behind)?;
+    }
+    Ok(behind)
+}
+
+/// The labels before a command, the first of which has this number; given is the number behind them.
+#[inline(never)]
+fn labels<'s>(
+    scope: &Scope<'s>,
+    list: &mut Vec<ListItem>,
+    number: u64,
+    trees: &[Label<'s>],
+) -> Result<u64, Memory>
+    ensures { IfOk result (λ n. (n ≡ number + labels_of (labels_view trees.now)) × (map entry_view list.new.items ≡ map entry_view list.old.items ++ label_entries (scope_view scope.now) number (labels_view trees.now))) }
+{
+    let mut number = number;
+    for tree in trees {
+        match tree {
+            Label::Case(value) => list.push(ListItem::Case(constant(scope, value)))?,
+            Label::Default => list.push(ListItem::Default)?,
+            Label::Name(_) => {
+                list.push(ListItem::Label(short(number)?))?;
+                number = sum(number, 1)?;
+            }
+        }
+    }
+    Ok(number)
+}
+
+fn condition<'t, 's>(
+    scope: &Scope<'s>,
+    at: &mut NextNumbers<'t, 's>,
+    sense: bool,
+    test: &'t Exp<'s>,
+) -> Result<Condition, Memory>
+    ensures { Translates condition_view result (sense, (forms (scope_view scope.now) (next_numbers at.old) (exp_view test.now)).content) at.new (behind (next_numbers at.old) (exp_view test.now)) }
+{
+    let test = value(scope, at, test)?;
+    Ok(Condition { sense, test })
+}
+
+fn label_number(meant: Meant) -> u64
+    ensures { result ≡ label_number_of (meant_view meant) }
+{
+    match meant {
+        Meant::Label(number) => number,
+        _ => 0,
+    }
+}
+
+fn entry(labelled: CoreCommand) -> ListItem
+    ensures { entry_view result ≡ ACommand (command_of labelled) }
+{
+    ListItem::Command(labelled)
+}
+
+/// Puts a command behind the items of a list.
+#[inline(never)]
+fn push_command(list: &mut Vec<ListItem>, labelled: CoreCommand) -> Result<(), Memory>
+    ensures { IfOk result (λ _. map entry_view list.new.items ≡ map entry_view list.old.items ++ ACommand (command_of labelled) ∷ []) }
+{
+    Ok(list.push(entry(labelled))?)
+}
+
+/// A block at this level.
+#[cycle(blocks)]
+pub fn block<'t, 's>(
+    scope: &mut Scope<'s>,
+    at: &mut NextNumbers<'t, 's>,
+    tree: &'t Block<'s>,
+    level: u64,
+) -> Result<CoreBlock, Memory>
+    ensures { TranslatesWithin core_block_of result (core_block (scope_view scope.old) (next_numbers at.old) (block_view tree.now) level) at.new (behind_block (next_numbers at.old) (block_view tree.now)) scope.old scope.new }
+{
+    let outside = scope.mark();
+    let mut opened = Vec::new(scope.alloc());
+    let level = declarations(scope, at, &mut opened, &tree.declarations, level)?;
+    let list = command_list(scope, at, &tree.items, level)?;
+    scope.leave(outside);
+    Ok(CoreBlock {
+        declarations: opened,
+        list,
+    })
+}
+
+/// A command list, whose labels are known in it.
+#[tactic(auto, using(crate::proofs::Unlabelled::unlabelled, crate::proofs::Unlabelled::behind_unlabelled))]
+#[cycle(blocks)]
+fn command_list<'t, 's>(
+    scope: &mut Scope<'s>,
+    at: &mut NextNumbers<'t, 's>,
+    trees: &'t [Item<'s>],
+    level: u64,
+) -> Result<Vec<ListItem>, Memory>
+    ensures { TranslatesWithin (λ is. items_of is.items) result (core_items (in_list (next_numbers at.old).label (items_view trees.now) (scope_view scope.old)) (next_numbers at.old).label (behind_labels (next_numbers at.old) (labels_in_of (items_view trees.now))) (items_view trees.now) level) at.new (behind_items (behind_labels (next_numbers at.old) (labels_in_of (items_view trees.now))) (items_view trees.now)) scope.old scope.new }
+{
+    let labels = labels_in(trees)?;
+    if labels == 0 {
+        // Nothing asks for the numbers.
+        return items(scope, at, 0, trees, level);
+    }
+    let numbers = at.count()?;
+    *at = NextNumbers::new(numbers.behind_labels(labels)?);
+    labelled_list(scope, at, numbers.label, trees, level)
+}
+
+/// A list whose labels, the first of which has this number, are known in it.
+#[tactic(auto, using(bc_scope_names::proofs::Extends::left))]
+#[cycle(blocks)]
+fn labelled_list<'t, 's>(
+    scope: &mut Scope<'s>,
+    at: &mut NextNumbers<'t, 's>,
+    number: u64,
+    trees: &'t [Item<'s>],
+    level: u64,
+) -> Result<Vec<ListItem>, Memory>
+    ensures { TranslatesWithin (λ is. items_of is.items) result (core_items (in_list number (items_view trees.now) (scope_view scope.old)) number (next_numbers at.old) (items_view trees.now) level) at.new (behind_items (next_numbers at.old) (items_view trees.now)) scope.old scope.new }
+{
+    let before_labels = scope.mark();
+    declare_list(scope, number, trees)?;
+    let list = items(scope, at, number, trees, level)?;
+    scope.leave(before_labels);
+    Ok(list)
+}
+
+/// The items of a list, the first label of which has this number.
+#[cycle(blocks)]
+fn items<'t, 's>(
+    scope: &mut Scope<'s>,
+    at: &mut NextNumbers<'t, 's>,
+    number: u64,
+    trees: &'t [Item<'s>],
+    level: u64,
+) -> Result<Vec<ListItem>, Memory>
+    ensures { TranslatesWithin (λ is. items_of is.items) result (core_items (scope_view scope.old) number (next_numbers at.old) (items_view trees.now) level) at.new (behind_items (next_numbers at.old) (items_view trees.now)) scope.old scope.new }
+{
+    let mut list = Vec::with_capacity(scope.alloc(), trees.len())?;
+    let mut number = number;
+    for tree in trees {
+        number = item(scope, at, number, tree, level, &mut list)?;
+    }
+    Ok(list)
+}
+
+/// An item behind those of this list, the first label of which has this number; given is the number behind its labels.
+#[cycle(blocks)]
+fn item<'t, 's>(
+    scope: &mut Scope<'s>,
+    at: &mut NextNumbers<'t, 's>,
+    number: u64,
+    tree: &'t Item<'s>,
+    level: u64,
+    list: &mut Vec<ListItem>,
+) -> Result<u64, Memory>
+    ensures { IfOk result (λ n. (map entry_view list.new.items ≡ map entry_view list.old.items ++ (label_entries (scope_view scope.old) number (labels_before (item_view tree.now)) ++ command_entry (scope_view scope.old) (next_numbers at.old) (item_view tree.now) level)) × (next_numbers at.new ≡ behind_item (next_numbers at.old) (item_view tree.now)) × (n ≡ number + labels_of (labels_before (item_view tree.now))) × (scope.new ≡ scope.old)) }
+{
+    let behind = labels(scope, list, number, &tree.labels)?;
+    match &tree.command {
+        Some(labelled) => {
+            push_command(list, command(scope, at, labelled, level)?)?;
+            Ok(behind)
+        }
+        None => Ok(behind),
+    }
+}
+
+/// The body of a REPEAT word.
+#[inline(never)]
+#[cycle(blocks)]
+fn body<'t, 's>(
+    scope: &mut Scope<'s>,
+    at: &mut NextNumbers<'t, 's>,
+    tree: &'t Command<'s>,
+    level: u64,
+) -> Result<CoreBlock, Memory>
+    ensures { TranslatesWithin core_block_of result (block_of_one (core_command (scope_view scope.old) (next_numbers at.old) (command_view tree.now) level)) at.new (behind_command (next_numbers at.old) (command_view tree.now)) scope.old scope.new }
+{
+    let repeated = command(scope, at, tree, level)?;
+    block_of(scope.alloc(), repeated)
+}
+
+/// The body of a FOR over this variable.
+#[inline(never)]
+#[tactic(auto, using(bc_scope_names::proofs::Extends::left))]
+#[cycle(blocks)]
+fn counted<'t, 's>(
+    scope: &mut Scope<'s>,
+    at: &mut NextNumbers<'t, 's>,
+    variable: &'s [u8],
+    tree: &'t Block<'s>,
+    level: u64,
+) -> Result<CoreBlock, Memory>
+    ensures { TranslatesWithin core_block_of result (core_block (in_for (scope_view scope.old) variable.entry.now level) (next_numbers at.old) (block_view tree.now) (level_in_for level)) at.new (behind_block (next_numbers at.old) (block_view tree.now)) scope.old scope.new }
+{
+    let before_variable = scope.mark();
+    scope.declare(variable, Meant::Variable(level))?;
+    let body = block(scope, at, tree, sum(level, 2)?)?;
+    scope.leave(before_variable);
+    Ok(body)
+}
+
+/// IF or UNLESS.
+#[inline(never)]
+#[cycle(blocks)]
+fn guarded<'t, 's>(
+    scope: &mut Scope<'s>,
+    at: &mut NextNumbers<'t, 's>,
+    tree: &'t Block<'s>,
+    sense: bool,
+    test: &'t Exp<'s>,
+    level: u64,
+) -> Result<CoreCommand, Memory>
+    ensures { TranslatesWithin command_of result (If sense (forms (scope_view scope.old) (next_numbers at.old) (exp_view test.now)).content (core_block (scope_view scope.old) (behind (next_numbers at.old) (exp_view test.now)) (block_view tree.now) level)) at.new (behind_block (behind (next_numbers at.old) (exp_view test.now)) (block_view tree.now)) scope.old scope.new }
+{
+    let test = condition(scope, at, sense, test)?;
+    Ok(conditional(test, block(scope, at, tree, level)?))
+}
+
+/// WHILE or UNTIL.
+#[inline(never)]
+#[cycle(blocks)]
+fn guarded_loop<'t, 's>(
+    scope: &mut Scope<'s>,
+    at: &mut NextNumbers<'t, 's>,
+    tree: &'t Block<'s>,
+    sense: bool,
+    test: &'t Exp<'s>,
+    level: u64,
+) -> Result<CoreCommand, Memory>
+    ensures { TranslatesWithin command_of result (While sense (forms (scope_view scope.old) (next_numbers at.old) (exp_view test.now)).content (core_block (scope_view scope.old) (behind (next_numbers at.old) (exp_view test.now)) (block_view tree.now) level)) at.new (behind_block (behind (next_numbers at.old) (exp_view test.now)) (block_view tree.now)) scope.old scope.new }
+{
+    let test = condition(scope, at, sense, test)?;
+    Ok(looped(test, block(scope, at, tree, level)?))
+}
+
+/// REPEAT.
+#[inline(never)]
+#[cycle(blocks)]
+fn endless_loop<'t, 's>(
+    scope: &mut Scope<'s>,
+    at: &mut NextNumbers<'t, 's>,
+    tree: &'t Command<'s>,
+    level: u64,
+) -> Result<CoreCommand, Memory>
+    ensures { TranslatesWithin command_of result (Repeat (block_of_one (core_command (scope_view scope.old) (next_numbers at.old) (command_view tree.now) level))) at.new (behind_command (next_numbers at.old) (command_view tree.now)) scope.old scope.new }
+{
+    Ok(forever(body(scope, at, tree, level)?))
+}
+
+/// REPEATWHILE or REPEATUNTIL.
+#[inline(never)]
+#[cycle(blocks)]
+fn tested_loop<'t, 's>(
+    scope: &mut Scope<'s>,
+    at: &mut NextNumbers<'t, 's>,
+    tree: &'t Command<'s>,
+    sense: bool,
+    test: &'t Exp<'s>,
+    level: u64,
+) -> Result<CoreCommand, Memory>
+    ensures { TranslatesWithin command_of result (RepeatWhile (block_of_one (core_command (scope_view scope.old) (next_numbers at.old) (command_view tree.now) level)) sense (forms (scope_view scope.old) (behind_command (next_numbers at.old) (command_view tree.now)) (exp_view test.now)).content) at.new (behind (behind_command (next_numbers at.old) (command_view tree.now)) (exp_view test.now)) scope.old scope.new }
+{
+    let body = body(scope, at, tree, level)?;
+    Ok(repeated(body, condition(scope, at, sense, test)?))
+}
+
+/// SWITCHON.
+#[inline(never)]
+#[cycle(blocks)]
+fn switched<'t, 's>(
+    scope: &mut Scope<'s>,
+    at: &mut NextNumbers<'t, 's>,
+    trees: &'t [Item<'s>],
+    of: &'t Exp<'s>,
+    level: u64,
+) -> Result<CoreCommand, Memory>
+    ensures { TranslatesWithin command_of result (SwitchOn (forms (scope_view scope.old) (next_numbers at.old) (exp_view of.now)).content (core_items (in_list (behind (next_numbers at.old) (exp_view of.now)).label (items_view trees.now) (scope_view scope.old)) (behind (next_numbers at.old) (exp_view of.now)).label (behind_labels (behind (next_numbers at.old) (exp_view of.now)) (labels_in_of (items_view trees.now))) (items_view trees.now) level)) at.new (behind_items (behind_labels (behind (next_numbers at.old) (exp_view of.now)) (labels_in_of (items_view trees.now))) (items_view trees.now)) scope.old scope.new }
+{
+    let of = value(scope, at, of)?;
+    let list = command_list(scope, at, trees, level)?;
+    Ok(switch(of, list))
+}
+
+/// The test of a TEST, and its first branch.
+#[inline(never)]
+#[cycle(blocks)]
+fn first_branch<'t, 's>(
+    scope: &mut Scope<'s>,
+    at: &mut NextNumbers<'t, 's>,
+    tree: &'t Block<'s>,
+    test: &'t Exp<'s>,
+    level: u64,
+) -> Result<Branch, Memory>
+    ensures { TranslatesWithin branch_view result ((forms (scope_view scope.old) (next_numbers at.old) (exp_view test.now)).content, core_block (scope_view scope.old) (behind (next_numbers at.old) (exp_view test.now)) (block_view tree.now) level) at.new (behind_block (behind (next_numbers at.old) (exp_view test.now)) (block_view tree.now)) scope.old scope.new }
+{
+    let test = value(scope, at, test)?;
+    let this = block(scope, at, tree, level)?;
+    Ok(Branch { test, this })
+}
+
+/// The second branch of a TEST.
+#[inline(never)]
+#[cycle(blocks)]
+fn second_branch<'t, 's>(
+    scope: &mut Scope<'s>,
+    at: &mut NextNumbers<'t, 's>,
+    tree: &'t Block<'s>,
+    first: Branch,
+    level: u64,
+) -> Result<CoreCommand, Memory>
+    ensures { TranslatesWithin command_of result (Test (branch_view first).0 (branch_view first).1 (core_block (scope_view scope.old) (next_numbers at.old) (block_view tree.now) level)) at.new (behind_block (next_numbers at.old) (block_view tree.now)) scope.old scope.new }
+{
+    let that = block(scope, at, tree, level)?;
+    let Branch { test, this } = first;
+    Ok(chosen(test, this, that))
+}
+
+/// FOR.
+#[inline(never)]
+#[cycle(blocks)]
+fn counted_loop<'t, 's>(
+    scope: &mut Scope<'s>,
+    at: &mut NextNumbers<'t, 's>,
+    tree: &'t Block<'s>,
+    variable: &'s [u8],
+    start: &'t Exp<'s>,
+    limit: &'t Exp<'s>,
+    by: Word,
+    level: u64,
+) -> Result<CoreCommand, Memory>
+    ensures { TranslatesWithin command_of result (For (forms (scope_view scope.old) (next_numbers at.old) (exp_view start.now)).content (forms (scope_view scope.old) (behind (next_numbers at.old) (exp_view start.now)) (exp_view limit.now)).content by (core_block (in_for (scope_view scope.old) variable.entry.now level) (behind (behind (next_numbers at.old) (exp_view start.now)) (exp_view limit.now)) (block_view tree.now) (level_in_for level))) at.new (behind_block (behind (behind (next_numbers at.old) (exp_view start.now)) (exp_view limit.now)) (block_view tree.now)) scope.old scope.new }
+{
+    let start = value(scope, at, start)?;
+    let limit = value(scope, at, limit)?;
+    let body = counted(scope, at, variable, tree, level)?;
+    Ok(counting(start, limit, by, body))
+}
+
+/// A command.
+#[cycle(blocks)]
+fn command<'t, 's>(
+    scope: &mut Scope<'s>,
+    at: &mut NextNumbers<'t, 's>,
+    tree: &'t Command<'s>,
+    level: u64,
+) -> Result<CoreCommand, Memory>
+    ensures { TranslatesWithin command_of result (core_command (scope_view scope.old) (next_numbers at.old) (command_view tree.now) level) at.new (behind_command (next_numbers at.old) (command_view tree.now)) scope.old scope.new }
+{
+    match tree {
+        Command::Assign(places, values) => assigned(scope, at, places, values),
+        Command::Call(routine, values) => {
+            Ok(CoreCommand::Call(call(scope, at, routine, values)?))
+        }
+        Command::Block(tree) => Ok(nested(block(scope, at, tree, level)?)),
+        Command::Break => Ok(CoreCommand::Break),
+        Command::Loop => Ok(CoreCommand::Loop),
+        Command::EndCase => Ok(CoreCommand::EndCase),
+        Command::Return => Ok(CoreCommand::Return),
+        Command::Finish => Ok(CoreCommand::Finish),
+        Command::ResultIs(result) => Ok(CoreCommand::ResultIs(value(scope, at, result)?)),
+        Command::Goto(name) => {
+            let number = short(label_number(scope.meant_by(name)))?;
+            Ok(CoreCommand::Goto(number))
+        }
+        Command::Repeat(tree) => endless_loop(scope, at, tree, level),
+        Command::RepeatWhile(tree, test) => tested_loop(scope, at, tree, true, test, level),
+        Command::RepeatUntil(tree, test) => tested_loop(scope, at, tree, false, test, level),
+        Command::If(test, tree) => guarded(scope, at, tree, true, test, level),
+        Command::Unless(test, tree) => guarded(scope, at, tree, false, test, level),
+        Command::While(test, tree) => guarded_loop(scope, at, tree, true, test, level),
+        Command::Until(test, tree) => guarded_loop(scope, at, tree, false, test, level),
+        Command::Test { test, this, that } => {
+            let first = first_branch(scope, at, this, test, level)?;
+            second_branch(scope, at, that, first, level)
+        }
+        Command::For {
+            variable,
+            start,
+            limit,
+            step,
+            body,
+        } => {
+            let by = match step {
+                Some(by) => constant(scope, by),
+                None => Word::new(1),
+            };
+            counted_loop(scope, at, body, variable, start, limit, by, level)
+        }
+        Command::SwitchOn(of, list) => switched(scope, at, list, of, level),
+    }
+}

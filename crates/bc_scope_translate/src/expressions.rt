@@ -1,0 +1,126 @@
+//! The translation of expressions. What stands in a VALOF is passed by: it is found apart.
+ghost use Rattle.std.specs.Prelude.{◌≡◌, IfOk};
+ghost use Rattle.bc_core.specs.Tree.{Call};
+ghost use Rattle.bc_core.specs.View.{exp, args};
+ghost use Rattle.bc_parse_tree.specs.View.{exp_view, exps_view};
+ghost use Rattle.bc_scope_defs.specs.Numbering.{behind, behind_all};
+ghost use Rattle.bc_scope_defs.specs.Translation.{forms, core_arguments};
+ghost use Rattle.bc_scope_names.specs.View.{scope_view};
+ghost use Rattle.bc_scope_translate.specs.Next.{next_numbers};
+ghost use Rattle.bc_scope_translate.specs.Seen.{Translates, formed_view};
+
+use crate::forms::{Formed, of_dyadic, of_monadic, of_name};
+use crate::numbering::NextNumbers;
+use bc_core::CoreExp;
+use bc_parse_tree::Exp;
+use bc_scope_names::{Scope, operator, short};
+use bc_word::{Memory, Word};
+
+/// A call with these arguments.
+fn called(values: Vec<CoreExp>, routine: Box<CoreExp>) -> CoreExp
+    ensures { exp result ≡ Call (args values.items) (exp routine.value) }
+{
+    CoreExp::Call(values, routine)
+}
+
+/// An expression at these numbers, which are then those behind it.
+#[cycle(expressions)]
+pub fn expression<'t, 's>(
+    scope: &Scope<'s>,
+    at: &mut NextNumbers<'t, 's>,
+    e: &'t Exp<'s>,
+) -> Result<Formed, Memory>
+    ensures { Translates formed_view result (forms (scope_view scope.now) (next_numbers at.old) (exp_view e.now)) at.new (behind (next_numbers at.old) (exp_view e.now)) }
+{
+    match e {
+        Exp::Name(name) => of_name(scope.meant_by(name)),
+        Exp::Number(number) | Exp::Character(number) => Ok(Formed::Plain(CoreExp::Num(*number))),
+        Exp::True => Ok(Formed::Plain(CoreExp::Num(Word::new(65535)))),
+        Exp::False => Ok(Formed::Plain(CoreExp::Num(Word::new(0)))),
+        Exp::String(_) | Exp::Table(_) => {
+            let numbers = at.count()?;
+            *at = NextNumbers::new(numbers.behind_place()?);
+            Ok(Formed::Plain(CoreExp::Place(short(numbers.place)?)))
+        }
+        Exp::Valof(body) => {
+            let numbers = at.count()?;
+            *at = NextNumbers::behind_body(numbers.behind_valof()?, body);
+            Ok(Formed::Plain(CoreExp::Valof(short(numbers.valof)?)))
+        }
+        Exp::Monadic(sign, operand) => {
+            let operand = expression(scope, at, operand)?;
+            of_monadic(scope.alloc(), *sign, operand)
+        }
+        Exp::Dyadic(sign, left, right) => {
+            let left = value(scope, at, left)?;
+            let right = value(scope, at, right)?;
+            of_dyadic(scope.alloc(), operator(*sign), left, right)
+        }
+        Exp::Condition { test, this, that } => {
+            let test = boxed(scope, at, test)?;
+            let this = boxed(scope, at, this)?;
+            let that = boxed(scope, at, that)?;
+            Ok(Formed::Plain(CoreExp::Cond(test, this, that)))
+        }
+        Exp::Call(routine, values) => {
+            let routine = boxed(scope, at, routine)?;
+            let values = arguments(scope, at, values)?;
+            Ok(Formed::Plain(called(values, routine)))
+        }
+    }
+}
+
+/// The value of an expression.
+#[cycle(expressions)]
+pub fn value<'t, 's>(
+    scope: &Scope<'s>,
+    at: &mut NextNumbers<'t, 's>,
+    e: &'t Exp<'s>,
+) -> Result<CoreExp, Memory>
+    ensures { Translates exp result (forms (scope_view scope.now) (next_numbers at.old) (exp_view e.now)).content at.new (behind (next_numbers at.old) (exp_view e.now)) }
+{
+    let formed = expression(scope, at, e)?;
+    formed.content(scope.alloc())
+}
+
+#[cycle(expressions)]
+fn boxed<'t, 's>(
+    scope: &Scope<'s>,
+    at: &mut NextNumbers<'t, 's>,
+    e: &'t Exp<'s>,
+) -> Result<Box<CoreExp>, Memory>
+    ensures { Translates (λ b. exp b.value) result (forms (scope_view scope.now) (next_numbers at.old) (exp_view e.now)).content at.new (behind (next_numbers at.old) (exp_view e.now)) }
+{
+    let value = value(scope, at, e)?;
+    Ok(Box::new(scope.alloc(), value)?)
+}
+
+#[cycle(expressions)]
+fn arguments<'t, 's>(
+    scope: &Scope<'s>,
+    at: &mut NextNumbers<'t, 's>,
+    list: &'t [Exp<'s>],
+) -> Result<Vec<CoreExp>, Memory>
+    ensures { Translates (λ es. args es.items) result (core_arguments (scope_view scope.now) (next_numbers at.old) (exps_view list.now)) at.new (behind_all (next_numbers at.old) (exps_view list.now)) }
+{
+    let mut values = Vec::with_capacity(scope.alloc(), list.len())?;
+    for e in list {
+        values.push(value(scope, at, e)?)?;
+    }
+    Ok(values)
+}
+
+/// A call of a routine with arguments.
+#[inline(never)]
+pub fn call<'t, 's>(
+    scope: &Scope<'s>,
+    at: &mut NextNumbers<'t, 's>,
+    routine: &'t Exp<'s>,
+    values: &'t [Exp<'s>],
+) -> Result<CoreExp, Memory>
+    ensures { Translates exp result (Call (core_arguments (scope_view scope.now) (behind (next_numbers at.old) (exp_view routine.now)) (exps_view values.now)) (forms (scope_view scope.now) (next_numbers at.old) (exp_view routine.now)).content) at.new (behind_all (behind (next_numbers at.old) (exp_view routine.now)) (exps_view values.now)) }
+{
+    let routine = boxed(scope, at, routine)?;
+    let values = arguments(scope, at, values)?;
+    Ok(called(values, routine))
+}

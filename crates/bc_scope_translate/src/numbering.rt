@@ -1,0 +1,101 @@
+//! The numbers of a translation, counted as far as something asked for them.
+ghost use Rattle.std.specs.Prelude.{◌≡◌, IfOk};
+ghost use Rattle.bc_parse_tree.specs.View.{block_view, definition_view};
+ghost use Rattle.bc_scope_defs.specs.Numbering.{behind_block as behind_block_of, behind_definition as behind_definition_of};
+ghost use Rattle.bc_scope_names.specs.View.{numbers_view};
+ghost use Rattle.bc_scope_translate.specs.Next.{next_numbers};
+
+use bc_parse_tree::{Block, Definition};
+use bc_scope_names::{Numbers, behind_block, behind_definition};
+use bc_word::Memory;
+
+/// What was passed by since the numbers were counted last.
+#[derive(Clone, Copy)]
+enum Passed<'t, 's> {
+    Nothing,
+    /// A routine, with what is in it.
+    Routine(&'t Definition<'s>),
+    /// The body of a VALOF.
+    Body(&'t Block<'s>),
+}
+
+/// The next numbers.
+///
+/// What stands in a routine or a VALOF is translated apart. The numbers behind it are a walk over all of it, and are
+/// counted only where something asks for them: else each of many routines, one within another, would be walked once
+/// for each that it stands in.
+#[derive(Clone, Copy)]
+pub struct NextNumbers<'t, 's> {
+    counted: Numbers,
+    passed: Passed<'t, 's>,
+}
+
+#[tactic(auto, unfolding(crate::specs::Next::next_numbers))]
+impl<'t, 's> NextNumbers<'t, 's> {
+    /// These numbers.
+    pub fn new(counted: Numbers) -> NextNumbers<'t, 's>
+        ensures { next_numbers result ≡ numbers_view counted }
+    {
+        NextNumbers {
+            counted,
+            passed: Passed::Nothing,
+        }
+    }
+
+    /// The numbers behind the body of a VALOF at these numbers.
+    pub fn behind_body(counted: Numbers, body: &'t Block<'s>) -> NextNumbers<'t, 's>
+        ensures { next_numbers result ≡ behind_block_of (numbers_view counted) (block_view body.now) }
+    {
+        NextNumbers {
+            counted,
+            passed: Passed::Body(body),
+        }
+    }
+
+    /// The numbers behind a routine at these numbers.
+    fn behind_routine(counted: Numbers, routine: &'t Definition<'s>) -> NextNumbers<'t, 's>
+        ensures { next_numbers result ≡ behind_definition_of (numbers_view counted) (definition_view routine.now) }
+    {
+        NextNumbers {
+            counted,
+            passed: Passed::Routine(routine),
+        }
+    }
+
+    /// Counts them.
+    ///
+    /// `Memory` comes where one would pass what 64 bits hold.
+    pub fn count(self) -> Result<Numbers, Memory>
+        ensures { IfOk result (λ n. numbers_view n ≡ next_numbers self.entry) }
+    {
+        let mut numbers = self.counted;
+        match self.passed {
+            Passed::Nothing => {}
+            Passed::Routine(routine) => behind_definition(&mut numbers, routine)?,
+            Passed::Body(body) => behind_block(&mut numbers, body)?,
+        }
+        Ok(numbers)
+    }
+
+    /// Counts them, once for all that follows.
+    ///
+    /// `Memory` comes where one would pass what 64 bits hold.
+    pub fn settle(&mut self) -> Result<Numbers, Memory>
+        ensures { IfOk result (λ n. (numbers_view n ≡ next_numbers self.old) × (next_numbers self.new ≡ next_numbers self.old)) }
+    {
+        let numbers = self.count()?;
+        *self = NextNumbers::new(numbers);
+        Ok(numbers)
+    }
+
+    /// Passes a routine by.
+    ///
+    /// `Memory` comes where a number would pass what 64 bits hold.
+    pub fn pass(&mut self, routine: &'t Definition<'s>) -> Result<(), Memory>
+        ensures { IfOk result (λ _. next_numbers self.new ≡ behind_definition_of (next_numbers self.old) (definition_view routine.now)) }
+    {
+        let counted = self.count()?;
+        *self = NextNumbers::behind_routine(counted, routine);
+        Ok(())
+    }
+}

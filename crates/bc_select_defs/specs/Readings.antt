@@ -1,0 +1,120 @@
+-- For proofs: the trees of rules that the choices of an expression and of its parts come to.
+use Rattle.std.specs.Prelude.{ℕ, ◌+◌, Bool, true, false, not, cond, Option, Some, None}
+use Rattle.bc_core.specs.Tree.{Exp, Num, Frame, Glob, Place, Load, Neg, Not, Bin, Cond, Call, Valof, Args, no_argument, argument, count}
+use Rattle.bc_core.specs.Operand.{constant_of}
+use Rattle.bc_rules_defs.specs.declared.rule.Table.{Table}
+use Rattle.bc_rules_defs.specs.declared.rule.Mode.TheVariants.{Any, Push}
+use Rattle.bc_rules_defs.specs.declared.rule.Aim.{Aim}
+use Rattle.bc_rules_defs.specs.declared.rule.Aim.TheVariants.{Gets, Jumps}
+use Rattle.bc_rules_defs.specs.declared.rule.Rule.{Rule}
+use Rattle.bc_rules_defs.specs.declared.rule.Rule.TheVariants.{V0, V1, V6, V7, V8, V9, V10, V11, V12, V13, V14, V15, V16, V17, V18, V19, V20, V21, J2, J3, J4, J5, J6, J7, J8, J9}
+use Rattle.bc_rules_defs.specs.Rules.{Tree, Trees, by, no_part, part, one, two, three, end_with}
+use Rattle.bc_select_defs.specs.declared.choice.Choice.{Choice}
+use Rattle.bc_select_defs.specs.declared.choice.Choices.{Choices}
+use Rattle.bc_select_defs.specs.Choices.{zero_number, choices}
+
+-- the tree for each aim
+pub record Readings : Type 0 where
+  pub any : Tree
+  pub push : Tree
+  pub on_false : Tree
+  pub on_true : Tree
+
+abbrev pub tree_for : Aim → Readings → Tree
+tree_for (Gets Any) r = r.any
+tree_for (Gets Push) r = r.push
+tree_for (Jumps false) r = r.on_false
+tree_for (Jumps true) r = r.on_true
+
+-- a choice's rule, and the parts that it has
+abbrev pub tree_of : Option Choice → (Rule → Trees) → Tree
+tree_of None parts = by V1 no_part
+tree_of (Some c) parts = by c.rule (parts c.rule)
+
+abbrev pub push_parts : (Rule → Trees) → Rule → Trees
+push_parts own V1 = no_part
+push_parts own r = own r
+
+abbrev pub value_parts : Tree → (Rule → Trees) → Rule → Trees
+value_parts push own V0 = one push
+value_parts push own r = own r
+
+abbrev pub test_parts : Tree → (Rule → Trees) → Rule → Trees
+test_parts any own J6 = one any
+test_parts any own J7 = no_part
+test_parts any own r = own r
+
+-- over the parts that an expression's own rules have for an aim
+abbrev pub read_line : Choices → (Aim → Rule → Trees) → Readings
+read_line c own =
+    let push = tree_of c.push (push_parts (own (Gets Push))) in
+    let any = tree_of c.any (value_parts push (own (Gets Any))) in
+    record {
+      any = any;
+      push = push;
+      on_false = tree_of c.on_false (test_parts any (own (Jumps false)));
+      on_true = tree_of c.on_true (test_parts any (own (Jumps true)));
+    }
+
+abbrev pub leaf_parts : Aim → Rule → Trees
+leaf_parts aim r = no_part
+
+abbrev pub part_parts : Readings → Aim → Rule → Trees
+part_parts e aim r = one (tree_for aim e)
+
+abbrev pub turned : Aim → Aim
+turned (Gets m) = Gets m
+turned (Jumps sense) = Jumps (not sense)
+
+abbrev pub not_parts : Readings → Aim → Rule → Trees
+not_parts e aim r = one (tree_for (turned aim) e)
+
+-- of two operands; drops says whether the second one is a 0
+abbrev pub pair_parts : (drops : Bool) → (a b : Readings) → Aim → Rule → Trees
+pair_parts drops a b aim V6 = one (tree_for aim a)
+pair_parts drops a b aim V7 = one (tree_for aim b)
+pair_parts drops a b aim V8 = one (tree_for aim (cond drops a b))
+pair_parts drops a b aim V9 = one (tree_for aim a)
+pair_parts drops a b aim V10 = one (tree_for aim a)
+pair_parts drops a b aim V11 = one (tree_for aim b)
+pair_parts drops a b aim V12 = two a.any b.push
+pair_parts drops a b aim V13 = two b.any a.push
+pair_parts drops a b aim V14 = two b.any a.push
+pair_parts drops a b aim V15 = two a.any b.any
+pair_parts drops a b aim V16 = two b.any a.any
+pair_parts drops a b aim V17 = two a.any b.any
+pair_parts drops a b aim V18 = two a.any b.any
+pair_parts drops a b aim V19 = two a.any b.any
+pair_parts drops a b aim J2 = two a.on_false b.on_false
+pair_parts drops a b aim J3 = two a.on_false b.on_true
+pair_parts drops a b aim J4 = two a.on_true b.on_true
+pair_parts drops a b aim J5 = two a.on_true b.on_false
+pair_parts drops a b aim J8 = one (cond drops a b).any
+pair_parts drops a b aim J9 = one (cond drops a b).any
+pair_parts drops a b aim r = no_part
+
+abbrev pub cond_parts : (c x y : Readings) → Aim → Rule → Trees
+cond_parts c x y aim V20 = three c.on_false x.any y.any
+cond_parts c x y aim V21 = three c.on_true y.any x.any
+cond_parts c x y aim r = no_part
+
+abbrev pub call_parts : Trees → Readings → Aim → Rule → Trees
+call_parts arguments routine aim r = end_with arguments routine.any
+
+abbrev mutual
+  pub readings : Table → Exp → ℕ → Readings
+  readings T (Num n) s = read_line (choices T (Num n) s) leaf_parts
+  readings T (Frame k) s = read_line (choices T (Frame k) s) leaf_parts
+  readings T (Glob n) s = read_line (choices T (Glob n) s) leaf_parts
+  readings T (Place m) s = read_line (choices T (Place m) s) leaf_parts
+  readings T (Load e) s = read_line (choices T (Load e) s) (part_parts (readings T e s))
+  readings T (Neg e) s = read_line (choices T (Neg e) s) (part_parts (readings T e s))
+  readings T (Not e) s = read_line (choices T (Not e) s) (not_parts (readings T e s))
+  readings T (Bin op a b) s = read_line (choices T (Bin op a b) s) (pair_parts (zero_number (constant_of b)) (readings T a (s + 1)) (readings T b (s + 1)))
+  readings T (Cond c x y) s = read_line (choices T (Cond c x y) s) (cond_parts (readings T c s) (readings T x s) (readings T y s))
+  readings T (Call es f) s = read_line (choices T (Call es f) s) (call_parts (readings_of_all T es (s + 2)) (readings T f (s + 2 + count es)))
+  readings T (Valof n) s = read_line (choices T (Valof n) s) leaf_parts
+
+  pub readings_of_all : Table → Args → ℕ → Trees
+  readings_of_all T no_argument s = no_part
+  readings_of_all T (argument e es) s = part (readings T e s).any (readings_of_all T es (s + 1))

@@ -1,5 +1,0 @@
-use Rattle.bc_step.proofs.Runs.{Comes-runs, runs-Comes}
-use Rattle.bc_step.proofs.laws.comes_is_running.Goals as goal
-
-pub returns : goal.returns
-returns c = λ n s t. (Comes-runs n s t, runs-Comes n s t)

@@ -1,0 +1,44 @@
+ghost use Rattle.std.specs.Prelude.{◌≡◌};
+
+use crate::item::Item;
+use std::marker::Model;
+
+/// A segment: a list of items, and so is it seen by contracts. The `Z` that ends it in a text is no
+/// item.
+#[derive(Debug, Drop)]
+pub struct Segment {
+    items: Vec<Item>,
+}
+
+impl Model for Segment {
+    ghost use Rattle.std.specs.Prelude.{List};
+    ghost use Rattle.bc_text_items.specs.declared.item.Item.{Item};
+
+    ghost Value = { List Item };
+
+    ghost view = { λ s. s.items.items };
+}
+
+impl Segment {
+    /// The segment of these items.
+    pub fn new(items: Vec<Item>) -> Segment
+        ensures { result ≡ items.items }
+    {
+        Segment { items }
+    }
+
+    /// The items.
+    pub fn items(&self) -> &[Item]
+        ensures { result.now ≡ self.now }
+    {
+        self.items.as_slice()
+    }
+
+    /// The items as a vector, which takes no memory.
+    pub fn into_items(self) -> Vec<Item>
+        ensures { result.items ≡ self }
+    {
+        let Segment { items: kept } = self;
+        kept
+    }
+}

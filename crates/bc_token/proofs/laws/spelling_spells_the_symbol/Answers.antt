@@ -1,5 +1,0 @@
-use Rattle.bc_token.proofs.Symbols.{symbol_of-spelling_of}
-use Rattle.bc_token.proofs.laws.spelling_spells_the_symbol.Goals as goal
-
-pub returns : goal.returns
-returns c = symbol_of-spelling_of

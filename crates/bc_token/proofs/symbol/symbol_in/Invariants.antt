@@ -1,7 +1,0 @@
-use Rattle.std.proofs.Common.{◌≡◌, drop}
-use Rattle.bc_token.specs.Spelling.{symbol_in}
-use Rattle.bc_token.specs.Table.{rows}
-use Rattle.bc_token.proofs.symbol.symbol_in.Given as goal
-
-abbrev pub invariant-loop-spelling : goal.invariant-loop-spelling
-invariant-loop-spelling l = symbol_in (rows (drop l.spelling-index l.table)) l.text ≡ symbol_in (rows l.table) l.text

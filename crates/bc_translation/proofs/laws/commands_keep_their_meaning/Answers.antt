@@ -1,5 +1,0 @@
-use Rattle.bc_translation.proofs.Table.{commands_keep}
-use Rattle.bc_translation.proofs.laws.commands_keep_their_meaning.Goals as goal
-
-pub returns : goal.returns
-returns c = commands_keep

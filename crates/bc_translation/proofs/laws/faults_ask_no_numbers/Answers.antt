@@ -1,5 +1,0 @@
-use Rattle.bc_translation.proofs.AlikeFaults.{faults_ask_no_numbers}
-use Rattle.bc_translation.proofs.laws.faults_ask_no_numbers.Goals as goal
-
-pub returns : goal.returns
-returns c = faults_ask_no_numbers

@@ -1,5 +1,0 @@
-use Rattle.bc_translation.proofs.AlikeWidths.{widths_ask_no_numbers}
-use Rattle.bc_translation.proofs.laws.widths_ask_no_numbers.Goals as goal
-
-pub returns : goal.returns
-returns c = widths_ask_no_numbers

@@ -1,5 +1,0 @@
-use Rattle.bc_verdict.proofs.Answers.{is_said}
-use Rattle.bc_verdict.proofs.laws.judged_is_said.Goals as goal
-
-pub returns : goal.returns
-returns c = is_said

@@ -1,5 +1,0 @@
-use Rattle.bc_verdict.proofs.Answers.{has_one_answer}
-use Rattle.bc_verdict.proofs.laws.one_answer.Goals as goal
-
-pub returns : goal.returns
-returns c = has_one_answer
