@@ -1,9 +1,9 @@
 //! The command `check`.
 
-use crate::arguments::CheckOrder;
-use crate::failure::Failure;
 use crate::loading::segments_of;
 use bc_cert::{CheckFault, check, check_against};
+use bcpl_faults::{Cause, Failure};
+use bcpl_words::CheckOrder;
 use std::alloc::Global;
 use std::fs;
 use std::io::{BufReader, Write};
@@ -28,12 +28,12 @@ pub fn check_certificate<F: Files, O: Write + Drop>(
     let verdict = match check(alloc, reader) {
         Ok(verdict) => verdict,
         Err(CheckFault::Read) => return Err(Failure::file(alloc, path)),
-        Err(fault) => return Err(Failure::Check(fault)),
+        Err(fault) => return Err(Failure::new(Cause::Check(fault))),
     };
     if !order.texts.is_empty() {
         let segments = segments_of(rt, alloc, order.texts.as_slice())?;
         if let Err(mismatch) = check_against(&verdict, segments.as_slice()) {
-            return Err(Failure::Against(mismatch));
+            return Err(Failure::new(Cause::Against(mismatch)));
         }
     }
     let entries = verdict.entries.len();

@@ -2,18 +2,20 @@
 
 ghost use Rattle.std.specs.Prelude.{◌<◌, All, IfOk};
 
-use crate::arguments::BuildOrder;
-use crate::failure::Failure;
+use crate::explaining::{Program, explained, warnings_of};
 use crate::loading::contents;
+use crate::writing::{Written, is_one_file};
 use bc_build::{Built, build};
 use bc_cert::{CertFault, write_cert};
 use bc_lex::Source;
 use bc_run::{BLIB, LIBHDR};
 use bc_text::{TextError, print};
 use bc_text_items::Segment;
+use bcpl_faults::{Cause, Failure};
+use bcpl_messages::Named;
+use bcpl_words::BuildOrder;
 use std::alloc::Global;
-use std::fs;
-use std::io::{BufWriter, Write};
+use std::io::Write;
 use std::rt::Files;
 
 /// How many sources stand in front of those of the command line: LIBHDR and BLIB.
@@ -65,9 +67,8 @@ fn mains_of(alloc: Global, gets: usize, sources: usize) -> Result<Vec<usize>, Fa
     Ok(mains)
 }
 
-/// Builds the program of BLIB and the files.
-fn built<F: Files>(rt: &F, alloc: Global, order: &BuildOrder<'_>) -> Result<Built, Failure> {
-    let files = sources_of(rt, alloc, order)?;
+/// The sources of a program, as the compiler takes them: LIBHDR and BLIB, then these.
+fn given_to_compiler<'s>(alloc: Global, files: &'s [Loaded]) -> Result<Vec<Source<'s>>, Failure> {
     let mut sources = Vec::new(alloc);
     sources.push(Source {
         name: b"LIBHDR",
@@ -77,70 +78,131 @@ fn built<F: Files>(rt: &F, alloc: Global, order: &BuildOrder<'_>) -> Result<Buil
         name: b"BLIB",
         text: BLIB.as_bytes(),
     })?;
-    for file in &files {
+    for file in files {
         sources.push(Source {
             name: file.name.as_slice(),
             text: file.text.as_slice(),
         })?;
     }
+    Ok(sources)
+}
+
+/// The paths under which sources are told, in the order of `given_to_compiler`.
+fn paths_of<'a>(alloc: Global, order: &BuildOrder<'a>) -> Result<Vec<&'a str>, Failure> {
+    let mut paths = Vec::new(alloc);
+    paths.push("LIBHDR")?;
+    paths.push("BLIB")?;
+    for binding in &order.gets {
+        paths.push(binding.path)?;
+    }
+    for path in &order.files {
+        paths.push(path)?;
+    }
+    Ok(paths)
+}
+
+/// Builds the program of BLIB and the files. Where it is refused, `shows` says whether places are told.
+fn built<F: Files>(
+    rt: &F,
+    alloc: Global,
+    order: &BuildOrder<'_>,
+    shows: bool,
+) -> Result<(Built, String), Failure> {
+    let files = sources_of(rt, alloc, order)?;
+    let sources = given_to_compiler(alloc, files.as_slice())?;
+    let paths = paths_of(alloc, order)?;
     let mains = mains_of(alloc, order.gets.len(), sources.len())?;
+    let program = Program {
+        named: Named {
+            sources: sources.as_slice(),
+            paths: paths.as_slice(),
+        },
+        mains: mains.as_slice(),
+    };
     match build(alloc, sources.as_slice(), mains.as_slice()) {
-        Ok(built) => Ok(built),
-        Err(fault) => Err(Failure::Build(fault)),
+        Ok(built) => {
+            let warnings = if order.warns {
+                warnings_of(alloc, &program)?
+            } else {
+                String::new(alloc)
+            };
+            Ok((built, warnings))
+        }
+        Err(fault) => {
+            let told = if shows {
+                explained(alloc, &program, &fault)?
+            } else {
+                String::new(alloc)
+            };
+            Err(Failure::new(Cause::Build(fault)).with(told))
+        }
     }
 }
 
-/// Writes segments to the file of this path.
+/// Writes segments to the file of this path, which has them all or stays as it was.
 fn write_segments<F: Files>(
     rt: &F,
     alloc: Global,
     path: &str,
     segments: &[Segment],
 ) -> Result<(), Failure> {
-    let file = match fs::create(rt, path) {
-        Ok(file) => file,
-        Err(error) => return Err(Failure::io(alloc, &error, path)),
-    };
-    let mut out = match BufWriter::new(alloc, file) {
-        Ok(out) => out,
-        Err(error) => return Err(Failure::io(alloc, &error, path)),
-    };
+    let mut written = Written::begin(rt, alloc, path)?;
     for segment in segments {
-        match print(segment, &mut out) {
+        match print(segment, written.out()) {
             Ok(()) => {}
             Err(TextError::Write) => return Err(Failure::file(alloc, path)),
-            Err(fault) => return Err(Failure::Text(fault)),
+            Err(fault) => return Err(Failure::from(fault)),
         }
     }
-    match out.flush() {
-        Ok(()) => Ok(()),
-        Err(error) => Err(Failure::io(alloc, &error, path)),
-    }
+    written.finish(rt, alloc, path)
 }
 
-/// Writes the certificate of a program to the file of this path.
+/// Writes the certificate of a program to the file of this path, which has all of it or stays as it was.
 fn write_certificate<F: Files>(
     rt: &F,
     alloc: Global,
     path: &str,
     built: &Built,
 ) -> Result<(), Failure> {
-    let file = match fs::create(rt, path) {
-        Ok(file) => file,
-        Err(error) => return Err(Failure::io(alloc, &error, path)),
-    };
-    let mut out = match BufWriter::new(alloc, file) {
-        Ok(out) => out,
-        Err(error) => return Err(Failure::io(alloc, &error, path)),
-    };
-    match write_cert(alloc, built.entries.as_slice(), &mut out) {
+    let mut written = Written::begin(rt, alloc, path)?;
+    match write_cert(alloc, built.entries.as_slice(), written.out()) {
         Ok(()) => {}
         Err(CertFault::Write) => return Err(Failure::file(alloc, path)),
-        Err(CertFault::Memory) => return Err(Failure::Certificate),
+        Err(CertFault::Memory) => return Err(Failure::new(Cause::Certificate)),
     }
-    match out.flush() {
-        Ok(()) => Ok(()),
-        Err(error) => Err(Failure::io(alloc, &error, path)),
+    written.finish(rt, alloc, path)
+}
+
+/// Refuses a file to be written that is one of the sources, or the text where it is the certificate.
+fn spare_sources<F: Files>(rt: &F, alloc: Global, order: &BuildOrder<'_>) -> Result<(), Failure> {
+    for path in [Some(order.out), order.certificate] {
+        if let Some(path) = path {
+            for binding in &order.gets {
+                spare(rt, alloc, path, binding.path)?;
+            }
+            for file in &order.files {
+                spare(rt, alloc, path, file)?;
+            }
+        }
+    }
+    match order.certificate {
+        Some(path) if is_one_file(rt, path, order.out) => {
+            Err(Failure::file_since(
+                alloc,
+                path,
+                "the text and the certificate can't be one file",
+            ))
+        }
+        _ => Ok(()),
+    }
+}
+
+/// Refuses a file to be written that is this source.
+fn spare<F: Files>(rt: &F, alloc: Global, path: &str, source: &str) -> Result<(), Failure> {
+    if is_one_file(rt, path, source) {
+        Err(Failure::file_since(alloc, path, "this is one of the sources, and would be lost"))
+    } else {
+        Ok(())
     }
 }
 
@@ -170,14 +232,18 @@ fn tell<O: Write + Drop>(alloc: Global, built: &Built, out: &mut O) -> Result<()
     }
 }
 
-/// Builds a program, writes its text and certificate, and tells of its size.
+/// Builds a program, writes its text and certificate, and tells of its size; gives what there is to warn of. `shows` says whether
+/// the place of a refusal is told.
 pub fn compile<F: Files, O: Write + Drop>(
     rt: &F,
     alloc: Global,
     order: &BuildOrder<'_>,
+    shows: bool,
     out: &mut O,
-) -> Result<(), Failure> {
-    let program = built(rt, alloc, order)?;
+) -> Result<String, Failure> {
+    spare_sources(rt, alloc, order)?;
+    let (program, warnings) = built(rt, alloc, order, shows)?;
     write_files(rt, alloc, order, &program)?;
-    tell(alloc, &program, out)
+    tell(alloc, &program, out)?;
+    Ok(warnings)
 }

@@ -2,7 +2,7 @@
 
 ghost use Rattle.bcpl.specs.Devices.{source_remaining, sink_contents};
 
-use crate::failure::Failure;
+use bcpl_faults::Failure;
 use std::alloc::Global;
 use std::io;
 use std::io::{BufReader, BufWriter, Read, Write};
@@ -53,6 +53,14 @@ impl<O: Write + Drop, F: Write + Drop> Sink<O, F> {
     /// This sink with a buffer. A fault names the sink by `name`.
     pub fn buffered(self, alloc: Global, name: &str) -> Result<BufWriter<Sink<O, F>>, Failure> {
         match BufWriter::new(alloc, self) {
+            Ok(writer) => Ok(writer),
+            Err(error) => Err(Failure::io(alloc, &error, name)),
+        }
+    }
+
+    /// This sink with no room for bytes, so that each goes at once. A fault names the sink by `name`.
+    pub fn direct(self, alloc: Global, name: &str) -> Result<BufWriter<Sink<O, F>>, Failure> {
+        match BufWriter::with_capacity(alloc, 0, self) {
             Ok(writer) => Ok(writer),
             Err(error) => Err(Failure::io(alloc, &error, name)),
         }

@@ -1,11 +1,11 @@
 //! Texts in files, read and linked.
 
-use crate::failure::Failure;
 use bc_link::link;
 use bc_machine_image::Image;
 use bc_run::behind_primitives;
 use bc_text::Reader;
 use bc_text_items::Segment;
+use bcpl_faults::Failure;
 use std::alloc::Global;
 use std::fs;
 use std::io::Read;
@@ -23,7 +23,7 @@ pub fn contents<F: Files>(rt: &F, alloc: Global, path: &str) -> Result<Vec<u8>, 
     let mut bytes = Vec::new(alloc);
     match file.take(FILE_LIMIT + 1).read_to_end(&mut bytes) {
         Ok(count) if count as u64 <= FILE_LIMIT => Ok(bytes),
-        Ok(_) => Err(Failure::file(alloc, path)),
+        Ok(_) => Err(Failure::file_since(alloc, path, "the file has more than 16777216 bytes")),
         Err(error) => Err(Failure::io(alloc, &error, path)),
     }
 }

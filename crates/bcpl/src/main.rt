@@ -1,23 +1,23 @@
 //! The program: compiles BCPL, checks certificates, and assembles, links and runs INTCODE texts.
 #![tactic(auto)]
 
-mod arguments;
 mod checking;
 mod commands;
 mod compiling;
 mod devices;
-mod failure;
+mod explaining;
 mod loading;
 mod output;
 #[cfg(test)]
 mod program_tests;
-mod refusals;
 #[cfg(test)]
 mod stored_certificate;
 #[cfg(test)]
 mod tests;
+mod writing;
 
-use crate::commands::command;
+use crate::commands::{Standard, Terminals, command_on};
+use std::io::{BufWriter, IsTerminal};
 use std::process::ExitCode;
 use std::{env, fs, io};
 
@@ -31,14 +31,18 @@ fn status(rt: &HostRuntime) -> io::Result<u8> {
     for word in &words {
         texts.push(word.as_str())?;
     }
-    Ok(command(
-        rt,
-        rt.alloc(),
-        texts.as_slice(),
-        rt.stdin().lock(),
-        rt.stdout().lock(),
-        rt.stderr().lock(),
-    ))
+    let terminals = Terminals {
+        input: rt.stdin().is_terminal(),
+        out: rt.stdout().is_terminal(),
+        err: rt.stderr().is_terminal(),
+    };
+    let standard = Standard {
+        input: rt.stdin().lock(),
+        out: rt.stdout().lock(),
+        err: BufWriter::new(rt.alloc(), rt.stderr().lock())?,
+        terminals,
+    };
+    Ok(command_on(rt, rt.alloc(), texts.as_slice(), standard))
 }
 
 /// The status where the words themselves can't be had: for want of memory, or since one is no text.

@@ -1,0 +1,94 @@
+//! What is told of refusals and warnings beside the first line.
+
+use bc_build::{BuildError, build};
+use bc_word::Memory;
+use bcpl_messages::{Named, is_set, message_of, report};
+use std::alloc::Global;
+
+/// The most refusals that are told.
+const MOST: usize = 10;
+
+/// The global that a run calls.
+const START: u16 = 1;
+
+/// A program's sources, and which of them become a segment each.
+pub struct Program<'a, 's> {
+    pub named: Named<'a, 's>,
+    /// The indexes of the mains.
+    pub mains: &'a [usize],
+}
+
+/// The lines on one refusal; none where nothing is known beside its first line.
+fn lines_of(
+    alloc: Global,
+    program: &Program<'_, '_>,
+    fault: &BuildError,
+) -> Result<String, Memory> {
+    match message_of(alloc, program.named.sources, program.mains, fault)? {
+        Some(message) => report(alloc, program.named, &message),
+        None => Ok(String::new(alloc)),
+    }
+}
+
+/// The main that is refused; none where it is no one main.
+fn refused_main(fault: &BuildError) -> Option<usize> {
+    match fault {
+        BuildError::Lex(main, _)
+        | BuildError::Parse(main, _)
+        | BuildError::Scope(main, _)
+        | BuildError::Gen(main, _) => Some(*main),
+        BuildError::Link(_) | BuildError::Memory => None,
+    }
+}
+
+/// The lines on what is refused in this main by itself; none where it is not refused.
+fn lines_of_main(alloc: Global, program: &Program<'_, '_>, main: usize) -> Result<String, Memory> {
+    if main >= program.named.sources.len() {
+        return Ok(String::new(alloc));
+    }
+    match build(alloc, program.named.sources, &[main]) {
+        Ok(_) | Err(BuildError::Link(_)) => Ok(String::new(alloc)),
+        Err(BuildError::Memory) => Err(Memory),
+        Err(fault) => lines_of(alloc, program, &fault),
+    }
+}
+
+/// The lines on a refusal, and on those of the mains behind the one that is refused, ten at the most. Memory is answered where a
+/// growth was refused.
+pub fn explained(
+    alloc: Global,
+    program: &Program<'_, '_>,
+    fault: &BuildError,
+) -> Result<String, Memory> {
+    let mut told = lines_of(alloc, program, fault)?;
+    let Some(first) = refused_main(fault) else {
+        return Ok(told)
+    };
+    let mut count: usize = 1;
+    for main in program.mains {
+        if *main > first {
+            let lines = lines_of_main(alloc, program, *main)?;
+            if !lines.is_empty() {
+                count = count.saturating_add(1);
+                if count <= MOST {
+                    told.push_str(lines.as_str())?;
+                }
+            }
+        }
+    }
+    if count > 1 {
+        writeln!(told, "{count} files are refused")?;
+    }
+    Ok(told)
+}
+
+/// The lines of warnings on a program that was built. Memory is answered where a growth was refused.
+pub fn warnings_of(alloc: Global, program: &Program<'_, '_>) -> Result<String, Memory> {
+    let mut told = String::new(alloc);
+    if !is_set(alloc, program.named.sources, program.mains, START)? {
+        told.push_str(
+            "bcpl: warning: no routine sets global 1, so a run calls nothing; LET START() BE .. behind GET \"LIBHDR\" does\n",
+        )?;
+    }
+    Ok(told)
+}

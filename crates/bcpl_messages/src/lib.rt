@@ -1,0 +1,19 @@
+//! What the program says of a refusal beside its first line: the place, a sentence on what is wrong, further places, and what
+//! one may have meant.
+#![tactic(auto)]
+
+mod brackets;
+mod lexical;
+mod likeness;
+mod linking;
+mod message;
+mod report;
+mod scopes;
+mod syntax;
+mod trial;
+mod wanted;
+mod words;
+
+pub use linking::is_set;
+pub use message::{Message, Note, message_of};
+pub use report::{Named, report};

@@ -1,0 +1,93 @@
+use bc_lex_tokens::{Symbol, Token, TokenKind};
+use bc_word::Memory;
+use std::alloc::Global;
+use strsim::levenshtein;
+
+/// The names that LIBHDR declares.
+const LIBRARY: [&[u8]; 15] = [
+    b"START",
+    b"SELECTINPUT",
+    b"SELECTOUTPUT",
+    b"RDCH",
+    b"WRCH",
+    b"FINDINPUT",
+    b"FINDOUTPUT",
+    b"ENDREAD",
+    b"ENDWRITE",
+    b"GETBYTE",
+    b"PUTBYTE",
+    b"WRITES",
+    b"WRITEN",
+    b"NEWLINE",
+    b"WRITEF",
+];
+
+/// The longest names that are compared letter by letter.
+const LONGEST: usize = 32;
+
+/// Whether LIBHDR declares this name.
+pub fn is_of_library(name: &[u8]) -> bool {
+    LIBRARY.iter().any(|known| *known == name)
+}
+
+/// The reserved word that this name is in small or mixed letters; none where it is none.
+pub fn reserved_word(alloc: Global, name: &[u8]) -> Result<Option<String>, Memory> {
+    let mut capital = String::new(alloc);
+    for byte in name {
+        capital.push(char::from(byte.to_ascii_uppercase()))?;
+    }
+    Ok(match Symbol::spelled(capital.as_str().as_bytes()) {
+        Some(_) if capital.as_str().as_bytes() != name => Some(capital),
+        _ => None,
+    })
+}
+
+/// How unlike two names are: 0 where they differ in the case of letters alone, else how many letters must be changed.
+fn unlikeness(alloc: Global, one: &[u8], other: &[u8]) -> Result<usize, Memory> {
+    if one.eq_ignore_ascii_case(other) {
+        return Ok(0);
+    }
+    if one.len() > LONGEST || other.len() > LONGEST {
+        return Ok(usize::MAX);
+    }
+    match (std::str::from_utf8(one), std::str::from_utf8(other)) {
+        (Ok(one), Ok(other)) => Ok(levenshtein(alloc, one, other)?),
+        _ => Ok(usize::MAX),
+    }
+}
+
+/// How unlike a name may be that is offered for one of this length.
+fn most_unlike(length: usize) -> usize {
+    match length {
+        0..=2 => 0,
+        3..=5 => 1,
+        _ => 2,
+    }
+}
+
+/// The name among the tokens, and those that LIBHDR declares, which is most like this one, if any is like it; the first of equals.
+/// Memory is answered where a growth was refused.
+pub fn nearest<'s>(
+    alloc: Global,
+    tokens: &[Token<'s>],
+    name: &[u8],
+) -> Result<Option<&'s [u8]>, Memory> {
+    let mut best: Option<(usize, &[u8])> = None;
+    let limit = most_unlike(name.len());
+    for token in tokens {
+        if let TokenKind::Name(known) = token.kind {
+            let is_far = known == name || known.len().abs_diff(name.len()) > limit;
+            if !is_far {
+                let unlike = unlikeness(alloc, known, name)?;
+                let is_better = match best {
+                    Some((least, _)) => unlike < least,
+                    None => unlike <= limit,
+                };
+                if is_better {
+                    best = Some((unlike, known));
+                }
+            }
+        }
+    }
+    Ok(best.map(|(_, known)| known))
+}

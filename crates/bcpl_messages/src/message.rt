@@ -1,0 +1,90 @@
+use crate::lexical::lexical_message;
+use crate::linking::{labels_message, linking_message};
+use crate::scopes::scope_message;
+use crate::syntax::syntax_message;
+use bc_build::BuildError;
+use bc_lex::Source;
+use bc_word::Memory;
+use bcpl_places::Span;
+use std::alloc::Global;
+
+/// A further place that belongs to a refusal.
+#[derive(Debug, Drop)]
+pub struct Note {
+    /// Where it is.
+    pub span: Span,
+    /// What stands there.
+    pub sentence: String,
+}
+
+/// What is said of a refusal.
+#[derive(Debug, Drop)]
+pub struct Message {
+    /// Where it is; none where it is at no one place.
+    pub span: Option<Span>,
+    /// The index of the source that was compiled.
+    pub main: usize,
+    /// What is wrong, without a full stop.
+    pub sentence: String,
+    /// Further places.
+    pub notes: Vec<Note>,
+    /// What one may have meant.
+    pub help: Option<String>,
+}
+
+impl Message {
+    /// A message of this sentence alone. Memory is answered where a growth was refused.
+    pub fn new(
+        alloc: Global,
+        main: usize,
+        span: Option<Span>,
+        sentence: &str,
+    ) -> Result<Message, Memory> {
+        Ok(Message {
+            span,
+            main,
+            sentence: String::from_str(alloc, sentence)?,
+            notes: Vec::new(alloc),
+            help: None,
+        })
+    }
+
+    /// This message with a help, if there is one. Memory is answered where a growth was refused.
+    pub fn helped(self, alloc: Global, help: Option<&str>) -> Result<Message, Memory> {
+        match help {
+            Some(help) => Ok(Message {
+                help: Some(String::from_str(alloc, help)?),
+                ..self
+            }),
+            None => Ok(self),
+        }
+    }
+
+    /// This message with a further place. Memory is answered where a growth was refused.
+    pub fn noted(self, alloc: Global, span: Span, sentence: &str) -> Result<Message, Memory> {
+        let mut notes = self.notes;
+        notes.push(Note {
+            span,
+            sentence: String::from_str(alloc, sentence)?,
+        })?;
+        Ok(Message { notes, ..self })
+    }
+}
+
+/// What is to be said of this refusal of a build of these sources, `mains` being the indexes of those that were to become a
+/// segment each; none where nothing more is known. Memory is answered where a growth was refused.
+pub fn message_of(
+    alloc: Global,
+    sources: &[Source<'_>],
+    mains: &[usize],
+    error: &BuildError,
+) -> Result<Option<Message>, Memory> {
+    match error {
+        BuildError::Lex(main, fault) => lexical_message(alloc, sources, *main, *fault),
+        BuildError::Parse(main, fault) => syntax_message(alloc, sources, *main, *fault),
+        BuildError::Scope(main, fault) => scope_message(alloc, sources, *main, fault),
+        BuildError::Gen(main, _) => labels_message(alloc, *main),
+        BuildError::Link(fault) => linking_message(alloc, sources, mains, *fault),
+        BuildError::Memory => Ok(None),
+    }
+}

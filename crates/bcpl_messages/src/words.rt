@@ -1,0 +1,54 @@
+use bc_lex_tokens::{Symbol, Token, TokenKind};
+use bc_word::Memory;
+use std::alloc::Global;
+
+/// The most characters of a token that a sentence shows.
+const MOST: usize = 40;
+
+/// These bytes as text, cut where they are long. Bytes that are no ASCII are shown as `?`. Memory is answered where a growth
+/// was refused.
+pub fn shown(alloc: Global, bytes: &[u8]) -> Result<String, Memory> {
+    let mut text = String::new(alloc);
+    for byte in &bytes[..bytes.len().min(MOST)] {
+        let is_plain = byte.is_ascii_graphic() || *byte == b' ';
+        text.push(if is_plain { char::from(*byte) } else { '?' })?;
+    }
+    if bytes.len() > MOST {
+        text.push_str("...")?;
+    }
+    Ok(text)
+}
+
+/// Whether a token is this symbol.
+pub fn is_symbol(token: &Token<'_>, symbol: Symbol) -> bool {
+    match token.kind {
+        TokenKind::Symbol(found) => found.is(symbol),
+        _ => false,
+    }
+}
+
+/// The spelling that a symbol is written with.
+pub fn spelling(symbol: Symbol) -> &'static str {
+    match symbol {
+        Symbol::Assign => ":=",
+        Symbol::OpenSection => "$(",
+        Symbol::CloseSection => "$)",
+        Symbol::OpenBracket => "(",
+        Symbol::CloseBracket => ")",
+        Symbol::Comma => ",",
+        Symbol::Semicolon => ";",
+        Symbol::Colon => ":",
+        Symbol::Equal => "=",
+        Symbol::Arrow => "->",
+        Symbol::Do => "DO",
+        Symbol::Else => "ELSE",
+        Symbol::Be => "BE",
+        Symbol::To => "TO",
+        Symbol::By => "BY",
+        Symbol::Into => "INTO",
+        Symbol::Let => "LET",
+        Symbol::And => "AND",
+        Symbol::Vector => "VEC",
+        _ => "",
+    }
+}

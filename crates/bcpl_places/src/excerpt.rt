@@ -1,0 +1,124 @@
+use crate::line::Line;
+use crate::signs::{Sign, signs_of};
+use bc_word::Memory;
+use std::alloc::Global;
+use std::fmt;
+
+/// The most columns of a line that are shown.
+const MOST: usize = 88;
+
+/// How many columns in front of the place are shown of a line that is too long.
+const IN_FRONT: usize = 40;
+
+/// A line of a source with a mark below a stretch of it, as two lines of text. A line that is too long is cut round the
+/// stretch.
+#[derive(Debug, Drop)]
+pub struct Excerpt {
+    number: usize,
+    /// What is shown of the line.
+    shown: Vec<Sign>,
+    /// Whether signs in front of these are left out.
+    is_cut_before: bool,
+    /// Whether signs behind these are left out.
+    is_cut_behind: bool,
+    /// How many columns of what is shown stand in front of the mark.
+    before: usize,
+    /// How many columns the mark takes.
+    marked: usize,
+}
+
+/// How many columns these signs take.
+fn width_of(signs: &[Sign]) -> usize {
+    let mut width: usize = 0;
+    for sign in signs {
+        width = width.saturating_add(sign.width);
+    }
+    width
+}
+
+/// How many of these signs stand in front of this offset.
+fn count_before(signs: &[Sign], at: usize) -> usize {
+    signs.iter().filter(|sign| sign.at < at).count()
+}
+
+impl Excerpt {
+    /// The excerpt of this line of the text with a mark from the offset `start` up to `end`; where nothing of that stands in
+    /// the line, below the column at which it would begin. Memory is answered where a growth was refused.
+    pub fn new(
+        alloc: Global,
+        text: &[u8],
+        line: Line,
+        start: usize,
+        end: usize,
+    ) -> Result<Excerpt, Memory> {
+        let line_end = line.end.min(text.len());
+        let line_start = line.start.min(line_end);
+        let signs = signs_of(alloc, &text[line_start..line_end])?;
+        let first = count_before(signs.as_slice(), start.saturating_sub(line_start));
+        let behind = count_before(signs.as_slice(), end.saturating_sub(line_start)).max(first);
+        let is_long = width_of(signs.as_slice()) > MOST;
+        let from = if is_long {
+            first.saturating_sub(IN_FRONT)
+        } else {
+            0
+        };
+        let to = if is_long {
+            from.saturating_add(MOST).min(signs.len())
+        } else {
+            signs.len()
+        };
+        let from = from.min(to);
+        let first = first.min(to).max(from);
+        let behind = behind.min(to).max(first);
+        Ok(Excerpt {
+            number: line.number,
+            shown: Vec::from_slice(alloc, &signs.as_slice()[from..to])?,
+            is_cut_before: from > 0,
+            is_cut_behind: to < signs.len(),
+            before: width_of(&signs.as_slice()[from..first]),
+            marked: width_of(&signs.as_slice()[first..behind]).max(1),
+        })
+    }
+}
+
+/// Writes this character that many times.
+fn repeat<W: fmt::Write>(f: &mut fmt::Formatter<W>, character: char, count: usize) -> fmt::Result {
+    for _ in 0..count {
+        f.write_char(character)?;
+    }
+    Ok(())
+}
+
+/// How many columns the number of a line takes, three at the least.
+fn margin(number: usize) -> usize {
+    let digits = match number.checked_ilog10() {
+        Some(power) => power as usize,
+        None => 0,
+    };
+    digits.saturating_add(1).max(3)
+}
+
+impl fmt::Display for Excerpt {
+    fn fmt<W: fmt::Write>(&self, f: &mut fmt::Formatter<W>) -> fmt::Result {
+        let number = self.number;
+        write!(f, "{number:>3} | ")?;
+        if self.is_cut_before {
+            f.write_char('…')?;
+        }
+        for sign in &self.shown {
+            f.write_char(sign.shown)?;
+        }
+        if self.is_cut_behind {
+            f.write_char('…')?;
+        }
+        f.write_char('\n')?;
+        repeat(f, ' ', margin(number))?;
+        write!(f, " | ")?;
+        repeat(
+            f,
+            ' ',
+            self.before.saturating_add(usize::from(self.is_cut_before)),
+        )?;
+        repeat(f, '^', self.marked)
+    }
+}

@@ -1,0 +1,196 @@
+ghost use Rattle.std.specs.Prelude.{◌≤◌, ◌<◌, length};
+
+use crate::Span;
+use bc_lex::Source;
+use bc_word::Memory;
+use std::alloc::Global;
+
+/// A GET of a source, and the name behind it.
+#[derive(Clone, Copy, Debug)]
+pub struct Get<'s> {
+    /// The offset of the word GET.
+    pub start: usize,
+    /// The offset behind the string.
+    pub end: usize,
+    /// What stands between the signs of the string.
+    pub name: &'s [u8],
+}
+
+/// Whether a name can go on with this byte.
+fn is_of_name(byte: u8) -> bool {
+    byte.is_ascii_alphanumeric() || byte == b'.'
+}
+
+/// The offset behind what opens at `at` and goes on up to `close`; where that doesn't stand, the text's end.
+fn behind(text: &[u8], at: usize, close: &[u8]) -> usize {
+    for from in at..text.len() {
+        if text[from..].starts_with(close) {
+            return from + close.len();
+        }
+    }
+    text.len()
+}
+
+/// The offset behind the string or character constant whose first sign stands at `at`: `*` takes the byte behind it along, and a
+/// line feed ends it.
+fn behind_quoted(text: &[u8], at: usize, sign: u8) -> usize {
+    let mut is_escaped = false;
+    for offset in at.saturating_add(1)..text.len() {
+        let byte = text[offset];
+        if byte == b'\n' {
+            return offset;
+        }
+        if is_escaped {
+            is_escaped = false;
+        } else if byte == b'*' {
+            is_escaped = true;
+        } else if byte == sign {
+            return offset + 1;
+        }
+    }
+    text.len()
+}
+
+/// The offset behind the name that begins at `at`.
+fn behind_name(text: &[u8], at: usize) -> usize {
+    for offset in at..text.len() {
+        if !is_of_name(text[offset]) {
+            return offset;
+        }
+    }
+    text.len()
+}
+
+/// The offset behind a comment, blank or line break at `at`; `at` where none begins there.
+fn behind_gap(text: &[u8], at: usize) -> usize {
+    if at >= text.len() {
+        return at;
+    }
+    let rest = &text[at..];
+    if rest.starts_with(b"//") || rest.starts_with(b"||") {
+        behind(text, at, b"\n")
+    } else if rest.starts_with(b"/*") {
+        behind(text, at.saturating_add(2), b"*/")
+    } else if rest[0].is_ascii_whitespace() {
+        at + 1
+    } else {
+        at
+    }
+}
+
+/// The offset of what stands behind all gaps from `at` on.
+fn behind_gaps(text: &[u8], at: usize) -> usize {
+    let mut at = at;
+    for _ in 0..text.len() {
+        let next = behind_gap(text, at);
+        if next <= at {
+            break;
+        }
+        at = next;
+    }
+    at
+}
+
+/// The GET that begins at `at` with the word, if a string stands behind the word, which ends at `end`.
+fn get_at(text: &[u8], at: usize, end: usize) -> Option<Get<'_>> {
+    let open = behind_gaps(text, end);
+    if open >= text.len() || text[open] != b'"' {
+        return None;
+    }
+    let close = behind_quoted(text, open, b'"');
+    if close < open + 2 || close > text.len() || text[close - 1] != b'"' {
+        return None;
+    }
+    Some(Get {
+        start: at,
+        end: close,
+        name: &text[open + 1..close - 1],
+    })
+}
+
+/// The GETs of a source, in their order. Memory is answered where a growth was refused.
+pub fn gets_of(alloc: Global, text: &[u8]) -> Result<Vec<Get<'_>>, Memory> {
+    let mut gets = Vec::new(alloc);
+    let mut at = 0;
+    for _ in 0..text.len() {
+        if at >= text.len() {
+            break;
+        }
+        let gap = behind_gap(text, at);
+        let byte = text[at];
+        let next = if gap > at {
+            gap
+        } else if byte == b'"' || byte == b'\'' {
+            behind_quoted(text, at, byte)
+        } else if is_of_name(byte) {
+            let end = behind_name(text, at);
+            if end <= text.len() && at <= end && &text[at..end] == b"GET".as_slice() {
+                if let Some(get) = get_at(text, at, end) {
+                    gets.push(get)?;
+                }
+            }
+            end
+        } else {
+            at + 1
+        };
+        at = next.max(at + 1);
+    }
+    Ok(gets)
+}
+
+/// The index of the first source of this name.
+fn index_of(sources: &[Source<'_>], name: &[u8]) -> Option<usize> {
+    sources.iter().position(|source| source.name == name)
+}
+
+/// The GETs that lead from the source `main` to the source `file`, the last one first; none where they are one, or no GET leads
+/// there. Memory is answered where a growth was refused.
+pub fn way_to(
+    alloc: Global,
+    sources: &[Source<'_>],
+    main: usize,
+    file: usize,
+) -> Result<Vec<Span>, Memory> {
+    let mut reached_by: Vec<Option<Span>> = Vec::new(alloc);
+    for _ in sources {
+        reached_by.push(None)?;
+    }
+    let mut waiting: Vec<usize> = Vec::new(alloc);
+    waiting.push(main)?;
+    for turn in 0..sources.len() {
+        if turn >= waiting.len() {
+            break;
+        }
+        let from = waiting[turn];
+        if from >= sources.len() {
+            break;
+        }
+        for get in &gets_of(alloc, sources[from].text)? {
+            if let Some(got) = index_of(sources, get.name) {
+                if got != main && got < reached_by.len() && reached_by[got].is_none() {
+                    reached_by[got] = Some(Span {
+                        file: from,
+                        start: get.start,
+                        end: get.end,
+                    });
+                    waiting.push(got)?;
+                }
+            }
+        }
+    }
+    let mut way = Vec::new(alloc);
+    let mut at = file;
+    for _ in sources {
+        if at == main || at >= reached_by.len() {
+            break;
+        }
+        match reached_by[at] {
+            Some(get) => {
+                way.push(get)?;
+                at = get.file;
+            }
+            None => break,
+        }
+    }
+    Ok(way)
+}

@@ -1,0 +1,61 @@
+ghost use Rattle.std.specs.Prelude.{◌≡◌, ◌+◌, ◌≤◌, length, take};
+ghost use Rattle.bcpl_places.specs.Lines.{breaks};
+
+/// A line of a text, without the line feed that ends it and a carriage return in front of that.
+#[derive(Clone, Copy, Debug, PartialEq, Eq)]
+pub struct Line {
+    /// Its number, counted from 1.
+    pub number: usize,
+    /// The offset of its first byte.
+    pub start: usize,
+    /// The offset behind its last byte.
+    pub end: usize,
+}
+
+/// How many line feeds these bytes have.
+fn count_breaks(bytes: &[u8]) -> usize
+    ensures exact { result ≡ breaks bytes.now }
+    ensures bound { result ≤ length bytes.now }
+{
+    bytes.iter().filter(|byte| **byte == b'\n').count()
+}
+
+/// The offset behind the last line feed of these bytes; 0 where they have none.
+fn line_start(bytes: &[u8]) -> usize
+    ensures { result ≤ length bytes.now }
+{
+    match bytes.iter().rposition(|byte| *byte == b'\n') {
+        Some(offset) => offset + 1,
+        None => 0,
+    }
+}
+
+/// The number of bytes in front of the first line feed, and of a carriage return in front of that.
+fn rest_of_line(bytes: &[u8]) -> usize
+    ensures { result ≤ length bytes.now }
+{
+    let count = match bytes.iter().position(|byte| *byte == b'\n') {
+        Some(offset) => offset,
+        None => bytes.len(),
+    };
+    if count > 0 && bytes[count - 1] == b'\r' {
+        count - 1
+    } else {
+        count
+    }
+}
+
+/// The line on which the byte at this offset stands.
+pub fn line_at(text: &[u8], at: usize) -> Line
+    requires { at ≤ length text.now }
+    ensures number { result.number ≡ 1 + breaks (take at text.now) }
+    ensures in_text { result.end ≤ length text.now }
+    ensures ordered { result.start ≤ at }
+{
+    let start = line_start(&text[..at]);
+    Line {
+        number: 1 + count_breaks(&text[..at]),
+        start,
+        end: start + rest_of_line(&text[start..]),
+    }
+}

@@ -1,0 +1,317 @@
+//! The words of the command line.
+
+ghost use Rattle.std.specs.Prelude.{◌≡◌};
+ghost use Rattle.bcpl_words.specs.declared.arguments.BadWords.TheVariants as bad_words;
+
+use clap::{Arg, ArgAction, ArgMatches, Command, Error, value_parser};
+use std::alloc::{AllocError, Global};
+
+/// A stream's name and the path of its file.
+#[derive(Clone, Copy, Debug)]
+pub struct Binding<'a> {
+    pub name: &'a str,
+    pub path: &'a str,
+}
+
+/// What `run` is to do.
+#[derive(Debug, Drop)]
+pub struct RunOrder<'a> {
+    pub steps: u64,
+    pub inputs: Vec<Binding<'a>>,
+    pub outputs: Vec<Binding<'a>>,
+    pub texts: Vec<&'a str>,
+}
+
+/// When the place of a refusal is told behind its first line.
+#[derive(Clone, Copy, Debug, PartialEq, Eq)]
+pub enum Places {
+    /// Always.
+    Always,
+    /// Where standard error is a terminal.
+    OnTerminal,
+    /// Never.
+    Never,
+}
+
+/// What `build` is to do.
+#[derive(Debug, Drop)]
+pub struct BuildOrder<'a> {
+    /// The file that the segments' text goes to.
+    pub out: &'a str,
+    /// The file that the certificate goes to, if it is wanted.
+    pub certificate: Option<&'a str>,
+    /// The files that sources get by name.
+    pub gets: Vec<Binding<'a>>,
+    /// The sources that become a segment each.
+    pub files: Vec<&'a str>,
+    pub places: Places,
+    /// Whether to warn of what is lawful and likely wrong.
+    pub warns: bool,
+}
+
+/// What `check` is to do.
+#[derive(Debug, Drop)]
+pub struct CheckOrder<'a> {
+    pub certificate: &'a str,
+    /// The texts that the certificate is to be about.
+    pub texts: Vec<&'a str>,
+}
+
+/// What the words ask for.
+#[derive(Debug, Drop)]
+pub enum Order<'a> {
+    /// To run the text on standard input: there were no words.
+    RunInput,
+    /// To build a program.
+    Build(BuildOrder<'a>),
+    /// To print the words that texts become.
+    Assemble(Vec<&'a str>),
+    /// To run texts.
+    Run(RunOrder<'a>),
+    /// To check a certificate.
+    Check(CheckOrder<'a>),
+}
+
+/// Why the words ask for nothing.
+#[derive(Debug, Drop)]
+pub enum BadWords<'a> {
+    /// What the reader of the words says, which may be help that was asked for.
+    Said(Error),
+    /// This word has no `=` between a name and a path.
+    Option(&'a str),
+    /// An allocation was refused.
+    Memory,
+}
+
+impl From<AllocError> for BadWords<'_> {
+    ghost from_gives = { λ _ b. b ≡ bad_words.Memory };
+
+    fn from(_refused: AllocError) -> Self {
+        BadWords::Memory
+    }
+}
+
+/// An option that takes NAME=PATH, any number of times.
+fn stream_option<'a>(alloc: Global, id: &'a str, help: &'a str) -> Arg<'a> {
+    Arg::new(alloc, id)
+        .long(id)
+        .value_name("NAME=PATH")
+        .action(ArgAction::Append)
+        .help(help)
+}
+
+/// The option that says when places are told.
+fn places_option<'a>(alloc: Global) -> Arg<'a> {
+    Arg::new(alloc, "places")
+        .long("places")
+        .value_name("WHEN")
+        .help("Tell the place of a refusal: always, never, or auto, which is on a terminal")
+}
+
+/// The texts, of which there is at least one.
+fn texts<'a>(alloc: Global, help: &'a str) -> Arg<'a> {
+    Arg::new(alloc, "TEXT")
+        .value_name("TEXT")
+        .action(ArgAction::Append)
+        .num_args(1..)
+        .required(true)
+        .help(help)
+}
+
+fn build_command<'a>(alloc: Global) -> Result<Command<'a>, AllocError> {
+    Command::new(alloc, "build")
+        .about(
+            "Compiles BCPL sources to INTCODE text, with a certificate that their code is of least size",
+        )
+        .after_help(
+            "Each FILE is a section and becomes a segment; the library BLIB stands in front of them as the first segment,\nand GET \"LIBHDR\" declares what it has. Behind `ok` are printed the numbers of segments and of entries of the\ncertificate, and the address at which the stack begins.\n\nExample:\n  bcpl build --out hello.int --cert hello.cert hello.bcpl",
+        )
+        .arg(
+            Arg::new(alloc, "out")
+                .short('o')
+                .long("out")
+                .value_name("OUT")
+                .required(true)
+                .help("The file that the INTCODE text goes to"),
+        )?
+        .arg(
+            Arg::new(alloc, "cert")
+                .long("cert")
+                .value_name("CERT")
+                .help("The file that the certificate of least size goes to"),
+        )?
+        .arg(stream_option(
+            alloc,
+            "get",
+            "A file that sources get by GET \"NAME\"; LIBHDR is the library's own always",
+        ))?
+        .arg(places_option(alloc))?
+        .arg(
+            Arg::new(alloc, "no-warnings")
+                .long("no-warnings")
+                .action(ArgAction::SetTrue)
+                .help("Don't warn of what is lawful and likely wrong"),
+        )?
+        .arg(
+            Arg::new(alloc, "FILE")
+                .value_name("FILE")
+                .action(ArgAction::Append)
+                .num_args(1..)
+                .required(true)
+                .help("The sources, a section each"),
+        )
+}
+
+fn assemble_command<'a>(alloc: Global) -> Result<Command<'a>, AllocError> {
+    Command::new(alloc, "asm")
+        .about("Links INTCODE texts behind the primitives and prints the words of the store")
+        .after_help(
+            "The words from address 0 up to the stack base are printed, one a line, in decimal.\n\nExample:\n  bcpl asm hello.int",
+        )
+        .arg(texts(alloc, "The INTCODE texts, linked in their order"))
+}
+
+fn run_command<'a>(alloc: Global) -> Result<Command<'a>, AllocError> {
+    Command::new(alloc, "run")
+        .about("Links INTCODE texts behind the primitives and runs them")
+        .after_help(
+            "Input 1 is standard input, under the name SYSIN; output 1 is standard output, under the name SYSPRINT.\nA run that ends otherwise than by finishing is told on standard error, with status 2.\n\nExample:\n  bcpl run --steps 1000000 --in DATA=data.txt hello.int",
+        )
+        .arg(
+            Arg::new(alloc, "steps")
+                .long("steps")
+                .value_name("N")
+                .required(true)
+                .value_parser(value_parser!(u64))
+                .help("The most instructions that are carried out"),
+        )?
+        .arg(stream_option(
+            alloc,
+            "in",
+            "A further input: the file PATH, under the name NAME",
+        ))?
+        .arg(stream_option(
+            alloc,
+            "to",
+            "A further output: the file PATH, under the name NAME",
+        ))?
+        .arg(texts(alloc, "The INTCODE texts, linked in their order"))
+}
+
+fn check_command<'a>(alloc: Global) -> Result<Command<'a>, AllocError> {
+    Command::new(alloc, "check")
+        .about("Checks a certificate of least size, and that texts have the code that it lists")
+        .after_help(
+            "A yes says of each expression, test and assignment of the certificate that no derivation from the rule table\nhas fewer words. Behind `ok` are printed the number of entries and the sum of their words.\n\nExample:\n  bcpl check hello.cert hello.int",
+        )
+        .arg(
+            Arg::new(alloc, "CERT")
+                .value_name("CERT")
+                .required(true)
+                .help("The certificate"),
+        )?
+        .arg(
+            Arg::new(alloc, "TEXT")
+                .value_name("TEXT")
+                .action(ArgAction::Append)
+                .num_args(0..)
+                .help("The INTCODE texts that it is to be about"),
+        )
+}
+
+/// The program's commands, with their options and help.
+fn program<'a>(alloc: Global) -> Result<Command<'a>, AllocError> {
+    Command::new(alloc, "bcpl")
+        .about("Compiles BCPL to INTCODE, and assembles, links and runs it")
+        .after_help(
+            "With no words at all, the INTCODE text on standard input is run for at most 1,000,000 instructions,\nwith an empty input.\n\nExample:\n  bcpl build --out hello.int hello.bcpl\n  bcpl run --steps 1000000 hello.int",
+        )
+        .bin_name("bcpl")?
+        .no_binary_name(true)
+        .subcommand_required(true)
+        .subcommand(build_command(alloc)?)?
+        .subcommand(assemble_command(alloc)?)?
+        .subcommand(run_command(alloc)?)?
+        .subcommand(check_command(alloc)?)
+}
+
+/// The values of an argument, in their order.
+fn values<'a>(
+    alloc: Global,
+    matches: &ArgMatches<'a>,
+    id: &str,
+) -> Result<Vec<&'a str>, AllocError> {
+    match matches.get_strs(id) {
+        Some(values) => Vec::from_slice(alloc, values),
+        None => Ok(Vec::new(alloc)),
+    }
+}
+
+/// The bindings of an option, each cut at its first `=`.
+fn bindings<'a>(
+    alloc: Global,
+    matches: &ArgMatches<'a>,
+    id: &str,
+) -> Result<Vec<Binding<'a>>, BadWords<'a>> {
+    let mut bindings = Vec::new(alloc);
+    for word in values(alloc, matches, id)? {
+        let Some((name, path)) = word.split_once('=') else {
+            return Err(BadWords::Option(word));
+        };
+        bindings
+            .push(Binding { name, path })
+            .map_err(AllocError::from)?;
+    }
+    Ok(bindings)
+}
+
+/// When places are told, by the words; a word that is none of the three asks for nothing.
+fn when_told<'a>(matches: &ArgMatches<'a>) -> Result<Places, BadWords<'a>> {
+    match matches.get_str("places") {
+        None | Some("auto") => Ok(Places::OnTerminal),
+        Some("always") => Ok(Places::Always),
+        Some("never") => Ok(Places::Never),
+        Some(word) => Err(BadWords::Option(word)),
+    }
+}
+
+/// What the words behind `build` ask for.
+fn build_order<'a>(
+    alloc: Global,
+    matches: &ArgMatches<'a>,
+) -> Result<BuildOrder<'a>, BadWords<'a>> {
+    Ok(BuildOrder {
+        out: matches.get_str("out").unwrap_or(""),
+        certificate: matches.get_str("cert"),
+        gets: bindings(alloc, matches, "get")?,
+        files: values(alloc, matches, "FILE")?,
+        places: when_told(matches)?,
+        warns: !matches.get_flag("no-warnings"),
+    })
+}
+
+/// What these words, without the program's name, ask for.
+pub fn wanted<'a>(alloc: Global, words: &'a [&'a str]) -> Result<Order<'a>, BadWords<'a>> {
+    if words.is_empty() {
+        return Ok(Order::RunInput);
+    }
+    let matches = match program(alloc)?.try_get_matches_from(words) {
+        Ok(matches) => matches,
+        Err(error) => return Err(BadWords::Said(error)),
+    };
+    match matches.subcommand() {
+        Some(("asm", matches)) => Ok(Order::Assemble(values(alloc, matches, "TEXT")?)),
+        Some(("run", matches)) => Ok(Order::Run(RunOrder {
+            steps: matches.get_one::<u64>("steps").unwrap_or(0),
+            inputs: bindings(alloc, matches, "in")?,
+            outputs: bindings(alloc, matches, "to")?,
+            texts: values(alloc, matches, "TEXT")?,
+        })),
+        Some(("check", matches)) => Ok(Order::Check(CheckOrder {
+            certificate: matches.get_str("CERT").unwrap_or(""),
+            texts: values(alloc, matches, "TEXT")?,
+        })),
+        Some((_, matches)) => Ok(Order::Build(build_order(alloc, matches)?)),
+        None => Ok(Order::RunInput),
+    }
+}
