@@ -1,4 +1,4 @@
-pub mod Widest
+pub mod WidestPair
 pub mod Frames
 pub mod Numberless
 pub mod Anywhere

@@ -145,7 +145,7 @@ fn is_cell(meant: Meant) -> bool
 }
 
 /// Whether an expression is a variable, `!E` or `E1!E2`.
-fn has_cell(scope: &Scope<'_>, e: &Exp<'_>) -> bool
+pub fn has_cell(scope: &Scope<'_>, e: &Exp<'_>) -> bool
     ensures { result ≡ has_cell (scope_view scope.now) (exp_view e.now) }
 {
     match e {
@@ -335,7 +335,7 @@ pub fn all_held(
 }
 
 /// The widest pair of an assignment.
-#[tactic(auto, using(crate::proofs::Widest::widest_places, crate::proofs::Widest::widest_values))]
+#[tactic(auto, using(crate::proofs::WidestPair::widest_places, crate::proofs::WidestPair::widest_values))]
 pub fn widest(held: &[u64], places: &[u64], values: &[u64]) -> u64
     ensures { result ≡ widest held.now places.now values.now }
 {

@@ -6,4 +6,7 @@ mod judging;
 mod progress;
 
 pub use faults::judge;
+pub use judging::{
+    Allowed, address_fault, all_held, entry_fault, has_cell, jump_fault, level_at, name_fault, widest,
+};
 pub use progress::{Extent, Progress};

@@ -1,0 +1,29 @@
+-- The token at a place has the name of a fault, where the fault has one.
+use Rattle.std.specs.Prelude.{◌≡◌, ℕ, List, Option, Some, None, slice_get}
+use Rattle.bc_lex_tokens.specs.declared.token.Token.{Token}
+use Rattle.bc_lex_tokens.specs.declared.token.TokenKind.{TokenKind}
+use Rattle.bc_lex_tokens.specs.declared.token.TokenKind.TheVariants as kind
+use Rattle.bc_scope_names.specs.declared.error.ScopeError.{ScopeError}
+use Rattle.bc_scope_names.specs.declared.error.ScopeError.TheVariants as code
+
+-- the name that a fault is about
+abbrev pub name_of : ScopeError → Option (List ℕ)
+name_of (code.Undeclared n) = Some n.now
+name_of (code.DeclaredTwice n) = Some n.now
+name_of (code.DynamicFree n) = Some n.now
+name_of (code.GlobalNumber n) = Some n.now
+name_of _ = None
+
+-- the name that a token is
+abbrev pub spelled : TokenKind → Option (List ℕ)
+spelled (kind.Name n) = Some n.now
+spelled _ = None
+
+abbrev pub spelled_at : Option Token → Option (List ℕ)
+spelled_at None = None
+spelled_at (Some t) = spelled t.kind
+
+-- the token at this place has this name, if a name is wanted
+abbrev pub HasName : List Token → (i : ℕ) → Option (List ℕ) → Type 0
+HasName tokens i None = Unit
+HasName tokens i (Some n) = spelled_at (slice_get tokens i) ≡ Some n

@@ -1,0 +1,165 @@
+use crate::leaves::Leaves;
+use crate::walk::{Beside, End, Walk};
+use bc_parse_tree::{Block, Command, Exp, Item};
+use bc_scope_faults::{Allowed, all_held, has_cell, jump_fault, widest};
+use bc_scope_names::{Meant, ScopeError, side_levels};
+
+/// The commands of a walk. Each function gives how many cells of the frame a command takes.
+impl<'s> Walk<'s> {
+    #[cycle(places)]
+    pub fn command(
+        &mut self,
+        allowed: Allowed,
+        tree: &Command<'s>,
+        level: u64,
+    ) -> Result<u64, End<'s>> {
+        match tree {
+            Command::Assign(places, values) => self.assignment(places, values, level),
+            Command::Call(routine, values) => self.call(false, routine, values, level),
+            Command::Block(body) => self.block(allowed, body, level),
+            Command::Break | Command::Loop => self.word(allowed.in_loop),
+            Command::EndCase => self.word(allowed.in_cases),
+            Command::Return => self.word(allowed.may_return),
+            Command::Finish => self.word(true),
+            Command::ResultIs(value) => self.result_is(allowed.in_valof, value, level),
+            Command::Goto(name) => self.goto(name),
+            Command::Repeat(body) => self.command(allowed.in_a_loop(), body, level),
+            Command::RepeatWhile(body, test) | Command::RepeatUntil(body, test) => {
+                let body = self.command(allowed.in_a_loop(), body, level)?;
+                Ok(body.max(self.expression(false, test, level)?))
+            }
+            Command::If(test, body) | Command::Unless(test, body) => {
+                self.guarded(allowed, test, body, level)
+            }
+            Command::While(test, body) | Command::Until(test, body) => {
+                self.guarded(allowed.in_a_loop(), test, body, level)
+            }
+            Command::Test { test, this, that } => {
+                let this = self.guarded(allowed, test, this, level)?;
+                Ok(this.max(self.block(allowed, that, level)?))
+            }
+            Command::For {
+                variable,
+                start,
+                limit,
+                step,
+                body,
+            } => {
+                let leaf = self.leaf();
+                let ends = self.ends(start, limit, level)?;
+                if let Some(by) = step {
+                    let _at = self.constant(by)?;
+                }
+                let body = self.counted(allowed, variable, leaf, body, level)?;
+                Ok(ends.max(body))
+            }
+            Command::SwitchOn(value, list) => self.switch(allowed, value, list, level),
+        }
+    }
+
+    /// A command that is one word, where it is allowed.
+    fn word(&mut self, allowed: bool) -> Result<u64, End<'s>> {
+        let leaf = self.leaf();
+        self.allowed(allowed, leaf)?;
+        Ok(0)
+    }
+
+    fn allowed(&self, allowed: bool, leaf: u64) -> Result<(), End<'s>> {
+        if allowed {
+            Ok(())
+        } else {
+            self.stop(ScopeError::Misplaced, Leaves::one(leaf), Beside::Nothing)
+        }
+    }
+
+    #[cycle(places)]
+    fn result_is(&mut self, allowed: bool, value: &Exp<'s>, level: u64) -> Result<u64, End<'s>> {
+        let leaf = self.leaf();
+        let width = self.expression(false, value, level)?;
+        self.allowed(allowed, leaf)?;
+        Ok(width)
+    }
+
+    fn goto(&mut self, name: &'s [u8]) -> Result<u64, End<'s>> {
+        let _word = self.leaf();
+        let leaf = self.leaf();
+        let meant = self.scope.meant_by(name);
+        self.judged(jump_fault(name, meant), leaf)?;
+        Ok(0)
+    }
+
+    /// A body behind an expression.
+    #[cycle(places)]
+    fn guarded(
+        &mut self,
+        allowed: Allowed,
+        test: &Exp<'s>,
+        body: &Block<'s>,
+        level: u64,
+    ) -> Result<u64, End<'s>> {
+        let test = self.expression(false, test, level)?;
+        Ok(test.max(self.block(allowed, body, level)?))
+    }
+
+    /// An assignment: its addresses, its values, and that each address has a cell.
+    #[cycle(places)]
+    fn assignment(
+        &mut self,
+        places: &[Exp<'s>],
+        values: &[Exp<'s>],
+        level: u64,
+    ) -> Result<u64, End<'s>> {
+        let levels = side_levels(self.alloc, &self.scope, places, level)?;
+        let held = all_held(self.alloc, &self.scope, places, level)?;
+        let addresses = self.side(places, &levels)?;
+        let contents = self.side(values, &levels)?;
+        for (place, at) in places.iter().zip(addresses.leaves.iter()) {
+            if !has_cell(&self.scope, place) {
+                self.stop(ScopeError::NotAssignable, *at, Beside::Nothing)?;
+            }
+        }
+        Ok(widest(&held, &addresses.widths, &contents.widths))
+    }
+
+    /// The start and the limit of a FOR, which stand behind its two cells, as its own test and sum do.
+    #[cycle(places)]
+    fn ends(&mut self, start: &Exp<'s>, limit: &Exp<'s>, level: u64) -> Result<u64, End<'s>> {
+        let above = level.saturating_add(2);
+        let start = self.expression(false, start, above)?;
+        let limit = self.expression(false, limit, above)?;
+        Ok(above.saturating_add(2).max(start.max(limit)))
+    }
+
+    /// The body of a FOR over this variable.
+    #[cycle(places)]
+    fn counted(
+        &mut self,
+        allowed: Allowed,
+        variable: &'s [u8],
+        leaf: u64,
+        body: &Block<'s>,
+        level: u64,
+    ) -> Result<u64, End<'s>> {
+        let mark = self.mark();
+        self.scope.declare(variable, Meant::Variable(level))?;
+        self.know_at(variable, leaf)?;
+        let width = self.block(allowed.in_a_loop(), body, level.saturating_add(2))?;
+        self.leave(mark);
+        Ok(width)
+    }
+
+    #[cycle(places)]
+    fn switch(
+        &mut self,
+        allowed: Allowed,
+        value: &Exp<'s>,
+        list: &[Item<'s>],
+        level: u64,
+    ) -> Result<u64, End<'s>> {
+        let value = self.expression(false, value, level)?;
+        let mark = self.mark();
+        let list = self.list(true, allowed.in_a_switch(), list, level)?;
+        self.leave(mark);
+        Ok(value.max(list))
+    }
+}

@@ -1,0 +1,263 @@
+use crate::leaves::Leaves;
+use crate::walk::{Beside, End, Walk};
+use bc_parse_tree::{Block, Constant, Declaration, Definition, Exp, Storage};
+use bc_scope_faults::{Allowed, Extent, entry_fault};
+use bc_scope_names::{
+    Numbers, ScopeError, constant, declare_entry, declare_let, declare_let_pending,
+    declare_parameters, declare_pending, priors_of_let,
+};
+use indexmap::IndexMap;
+
+/// A LET at work: whether it stands in a block, its definitions, the names before the definition at work with their
+/// leaves, and the place of its next variable among what is known.
+#[derive(Drop)]
+struct OfLet<'a, 's> {
+    inside: bool,
+    definitions: &'a [Definition<'s>],
+    before: IndexMap<&'s [u8], u64>,
+    next: usize,
+}
+
+/// The declarations of a walk.
+impl<'s> Walk<'s> {
+    /// Declarations, each behind those before it.
+    #[cycle(places)]
+    pub fn declarations(
+        &mut self,
+        inside: bool,
+        list: &[Declaration<'s>],
+        level: u64,
+    ) -> Result<Extent, End<'s>> {
+        let mut all = Extent { level, width: 0 };
+        for tree in list {
+            let own = self.declaration(inside, tree, all.level)?;
+            all = Extent {
+                level: own.level,
+                width: all.width.max(own.width),
+            };
+        }
+        Ok(all)
+    }
+
+    /// A declaration; inside says whether it stands in a block, where variables may stand.
+    #[cycle(places)]
+    fn declaration(
+        &mut self,
+        inside: bool,
+        tree: &Declaration<'s>,
+        level: u64,
+    ) -> Result<Extent, End<'s>> {
+        match tree {
+            Declaration::Constants(storage, list) => {
+                self.entries(*storage, list)?;
+                Ok(Extent { level, width: 0 })
+            }
+            Declaration::Let(list) => self.definitions(inside, list, level),
+        }
+    }
+
+    /// Declarations of constants.
+    #[cycle(places)]
+    fn entries(&mut self, storage: Storage, list: &[Constant<'s>]) -> Result<(), End<'s>> {
+        declare_pending(&mut self.scope, list)?;
+        let mut before = IndexMap::new(self.alloc);
+        for entry in list {
+            let leaf = self.leaf();
+            self.once(&mut before, entry.name, leaf)?;
+            let _at = self.constant(&entry.value)?;
+            match entry_fault(&self.scope, storage, entry.name, &entry.value) {
+                Ok(()) => {}
+                Err(fault) => {
+                    let number = constant(&self.scope, &entry.value).get();
+                    self.stop(fault, Leaves::one(leaf), Beside::Number(number))?;
+                }
+            }
+            declare_entry(&mut self.scope, storage, Numbers::start(), entry)?;
+            if storage == Storage::Static {
+                self.place(leaf);
+            }
+        }
+        Ok(())
+    }
+
+    /// The definitions of a LET.
+    #[cycle(places)]
+    fn definitions(
+        &mut self,
+        inside: bool,
+        list: &[Definition<'s>],
+        level: u64,
+    ) -> Result<Extent, End<'s>> {
+        let priors = priors_of_let(&mut self.scope, list)?;
+        let level = declare_let(&mut self.scope, &priors, Numbers::start(), level, list)?;
+        let mut of_let = OfLet {
+            inside,
+            definitions: list,
+            before: IndexMap::new(self.alloc),
+            next: self.known(),
+        };
+        self.know_variables(list)?;
+        let mut width = level;
+        for tree in list {
+            width = width.max(self.definition(&mut of_let, tree, level)?);
+        }
+        Ok(Extent { level, width })
+    }
+
+    /// The variables of a LET are known before their leaves are met.
+    fn know_variables(&mut self, list: &[Definition<'s>]) -> Result<(), End<'s>> {
+        for tree in list {
+            match tree {
+                Definition::Variables(names, _) => {
+                    for name in names {
+                        self.know(name)?;
+                    }
+                }
+                Definition::Vector(name, _) => self.know(name)?,
+                Definition::Function(_, _, _) | Definition::Routine(_, _, _) => {}
+            }
+        }
+        Ok(())
+    }
+
+    /// A variable of a LET.
+    fn variable(&mut self, of_let: &mut OfLet<'_, 's>, name: &'s [u8]) -> Result<u64, End<'s>> {
+        let leaf = self.leaf();
+        self.once(&mut of_let.before, name, leaf)?;
+        self.declared_at(of_let.next, leaf)?;
+        of_let.next = of_let.next.saturating_add(1);
+        Ok(leaf)
+    }
+
+    /// The name of a routine of a LET.
+    fn routine_name(&mut self, of_let: &mut OfLet<'_, 's>, name: &'s [u8]) -> Result<u64, End<'s>> {
+        let leaf = self.leaf();
+        self.once(&mut of_let.before, name, leaf)?;
+        self.place(leaf);
+        Ok(leaf)
+    }
+
+    /// Variables may not stand outside of routines.
+    fn inside(&self, inside: bool, at: Leaves) -> Result<(), End<'s>> {
+        if inside {
+            Ok(())
+        } else {
+            self.stop(ScopeError::Misplaced, at, Beside::Nothing)
+        }
+    }
+
+    /// A definition of a LET, at the level behind its cells.
+    #[cycle(places)]
+    fn definition(
+        &mut self,
+        of_let: &mut OfLet<'_, 's>,
+        tree: &Definition<'s>,
+        level: u64,
+    ) -> Result<u64, End<'s>> {
+        match tree {
+            Definition::Variables(names, values) => {
+                let first = self.leaves;
+                for name in names {
+                    let _leaf = self.variable(of_let, name)?;
+                }
+                let at = Leaves::words(first, self.last(first));
+                let width = self.initials(values, level)?;
+                self.inside(of_let.inside, at)?;
+                Ok(width)
+            }
+            Definition::Vector(name, greatest) => {
+                let leaf = self.variable(of_let, name)?;
+                let _word = self.leaf();
+                self.vector(of_let.definitions, greatest)?;
+                self.inside(of_let.inside, Leaves::one(leaf))?;
+                Ok(0)
+            }
+            Definition::Function(name, parameters, value) => {
+                let leaf = self.routine_name(of_let, name)?;
+                self.function(leaf, parameters, value)?;
+                Ok(0)
+            }
+            Definition::Routine(name, parameters, body) => {
+                let leaf = self.routine_name(of_let, name)?;
+                self.routine(leaf, parameters, body)?;
+                Ok(0)
+            }
+        }
+    }
+
+    /// The constant of a vector, to which no name of its LET is a constant or has a cell. One in which a fault is found
+    /// among the names as they are then is judged once more.
+    #[cycle(places)]
+    fn vector(
+        &mut self,
+        definitions: &[Definition<'s>],
+        greatest: &Exp<'s>,
+    ) -> Result<(), End<'s>> {
+        if self.is_waiting() {
+            let _at = self.constant(greatest)?;
+            return Ok(());
+        }
+        let mark = self.mark();
+        let leaves = self.leaves;
+        match self.constant(greatest) {
+            Ok(_at) => {
+                if !self.is_waiting() {
+                    return Ok(());
+                }
+            }
+            Err(End::Memory) => return Err(End::Memory),
+            Err(End::Found(_)) => {}
+        }
+        self.wait_no_more();
+        self.leave(mark);
+        self.leaves = leaves;
+        declare_let_pending(&mut self.scope, definitions)?;
+        let _at = self.constant(greatest)?;
+        self.leave(mark);
+        Ok(())
+    }
+
+    /// The parameters of a routine, behind which is this level.
+    fn parameters(&mut self, names: &[&'s [u8]]) -> Result<u64, End<'s>> {
+        declare_parameters(&mut self.scope, names)?;
+        let mut before = IndexMap::new(self.alloc);
+        for name in names {
+            let leaf = self.leaf();
+            self.once(&mut before, name, leaf)?;
+            self.know_at(name, leaf)?;
+        }
+        Ok((names.len() as u64).saturating_add(2))
+    }
+
+    /// A routine that gives a value, behind its name.
+    #[cycle(places)]
+    fn function(
+        &mut self,
+        leaf: u64,
+        parameters: &[&'s [u8]],
+        value: &Exp<'s>,
+    ) -> Result<(), End<'s>> {
+        let mark = self.mark();
+        let level = self.parameters(parameters)?;
+        let width = self.expression(false, value, level)?;
+        self.leave(mark);
+        self.frame(leaf, level.max(width));
+        Ok(())
+    }
+
+    /// A routine that does commands, behind its name.
+    #[cycle(places)]
+    fn routine(
+        &mut self,
+        leaf: u64,
+        parameters: &[&'s [u8]],
+        body: &Block<'s>,
+    ) -> Result<(), End<'s>> {
+        let mark = self.mark();
+        let level = self.parameters(parameters)?;
+        let width = self.block(Allowed::routine(), body, level)?;
+        self.leave(mark);
+        self.frame(leaf, level.max(width));
+        Ok(())
+    }
+}

@@ -1,0 +1,178 @@
+use crate::leaves::Leaves;
+use crate::walk::{Beside, End, Walk};
+use bc_parse_tree::{Block, Exp, Monadic};
+use bc_scope_faults::{Allowed, address_fault, level_at, name_fault};
+use bc_scope_names::{ScopeError, constant_in};
+
+/// The expressions of a walk. Each function gives how many cells of the frame an expression takes.
+impl<'s> Walk<'s> {
+    /// An expression at a level; or a part of a constant.
+    #[cycle(places)]
+    pub fn expression(
+        &mut self,
+        in_constant: bool,
+        e: &Exp<'s>,
+        level: u64,
+    ) -> Result<u64, End<'s>> {
+        match e {
+            Exp::Name(name) => self.name(in_constant, name),
+            Exp::Number(_) | Exp::Character(_) | Exp::True | Exp::False => {
+                let _leaf = self.leaf();
+                Ok(0)
+            }
+            Exp::String(_) => {
+                let leaf = self.leaf();
+                self.place(leaf);
+                Ok(0)
+            }
+            Exp::Table(values) => {
+                let leaf = self.leaf();
+                self.constants(values)?;
+                self.place(leaf);
+                Ok(0)
+            }
+            Exp::Valof(body) => self.valof(body, level),
+            Exp::Monadic(sign, operand) => self.monadic(in_constant, *sign, operand, level),
+            Exp::Dyadic(_, left, right) => {
+                let above = level.saturating_add(1);
+                let left = self.expression(in_constant, left, above)?;
+                let right = self.expression(in_constant, right, above)?;
+                Ok(level.saturating_add(2).max(left.max(right)))
+            }
+            Exp::Condition { test, this, that } => {
+                let test = self.expression(in_constant, test, level)?;
+                let this = self.expression(in_constant, this, level)?;
+                let that = self.expression(in_constant, that, level)?;
+                Ok(test.max(this.max(that)))
+            }
+            Exp::Call(routine, values) => self.call(in_constant, routine, values, level),
+        }
+    }
+
+    /// A name in an expression.
+    fn name(&mut self, in_constant: bool, name: &'s [u8]) -> Result<u64, End<'s>> {
+        let leaf = self.leaf();
+        let meant = self.scope.meant_by(name);
+        self.judged(name_fault(in_constant, name, meant), leaf)?;
+        Ok(0)
+    }
+
+    #[cycle(places)]
+    fn valof(&mut self, body: &Block<'s>, level: u64) -> Result<u64, End<'s>> {
+        let _word = self.leaf();
+        let mark = self.mark();
+        self.scope.enter_valof()?;
+        let width = self.block(Allowed::valof(), body, level)?;
+        self.leave(mark);
+        Ok(width)
+    }
+
+    /// An operator with its operand; `@` wants a cell.
+    #[cycle(places)]
+    fn monadic(
+        &mut self,
+        in_constant: bool,
+        sign: Monadic,
+        operand: &Exp<'s>,
+        level: u64,
+    ) -> Result<u64, End<'s>> {
+        let first = self.leaves;
+        let width = self.expression(in_constant, operand, level)?;
+        match address_fault(&self.scope, sign, operand) {
+            Ok(()) => {}
+            Err(fault) => {
+                let at = Leaves::expression(first, self.last(first), operand);
+                self.stop(fault, at, Beside::Nothing)?;
+            }
+        }
+        Ok(width)
+    }
+
+    /// A call, of a routine with arguments.
+    #[cycle(places)]
+    pub fn call(
+        &mut self,
+        in_constant: bool,
+        called: &Exp<'s>,
+        values: &[Exp<'s>],
+        level: u64,
+    ) -> Result<u64, End<'s>> {
+        let first = level.saturating_add(2);
+        let above = first.saturating_add(values.len() as u64);
+        let called = self.expression(in_constant, called, above)?;
+        let values = self.arguments(in_constant, values, first)?;
+        Ok(above.max(called.max(values)))
+    }
+
+    /// Arguments, each one level above the one before it.
+    #[cycle(places)]
+    fn arguments(
+        &mut self,
+        in_constant: bool,
+        list: &[Exp<'s>],
+        level: u64,
+    ) -> Result<u64, End<'s>> {
+        let mut width = 0u64;
+        let mut above = level;
+        for e in list {
+            width = width.max(self.expression(in_constant, e, above)?);
+            above = above.saturating_add(1);
+        }
+        Ok(width)
+    }
+
+    /// A constant: what is in it, and then that it is one.
+    #[cycle(places)]
+    pub fn constant(&mut self, e: &Exp<'s>) -> Result<Leaves, End<'s>> {
+        let first = self.leaves;
+        let _width = self.expression(true, e, 0)?;
+        let at = Leaves::expression(first, self.last(first), e);
+        if constant_in(&self.scope, e).is_none() {
+            self.stop(ScopeError::NotConstant, at, Beside::Nothing)?;
+        }
+        Ok(at)
+    }
+
+    /// The constants of a TABLE.
+    #[cycle(places)]
+    fn constants(&mut self, list: &[Exp<'s>]) -> Result<(), End<'s>> {
+        for e in list {
+            let _at = self.constant(e)?;
+        }
+        Ok(())
+    }
+
+    /// Initialisers, all at one level.
+    #[cycle(places)]
+    pub fn initials(&mut self, list: &[Exp<'s>], level: u64) -> Result<u64, End<'s>> {
+        let mut width = 0u64;
+        for e in list {
+            width = width.max(self.expression(false, e, level)?);
+        }
+        Ok(width)
+    }
+
+    /// One side of an assignment, each expression at its level: their widths, and the leaves of each.
+    #[cycle(places)]
+    pub fn side(&mut self, list: &[Exp<'s>], levels: &[u64]) -> Result<Side, End<'s>> {
+        let mut side = Side {
+            widths: Vec::new(self.alloc),
+            leaves: Vec::new(self.alloc),
+        };
+        for e in list {
+            let first = self.leaves;
+            let level = level_at(levels, side.widths.len() as u64);
+            let width = self.expression(false, e, level)?;
+            side.widths.push(width)?;
+            side.leaves.push(Leaves::expression(first, self.last(first), e))?;
+        }
+        Ok(side)
+    }
+}
+
+/// The widths and the leaves of the expressions on one side of an assignment.
+#[derive(Debug, Drop)]
+pub struct Side {
+    pub widths: Vec<u64>,
+    pub leaves: Vec<Leaves>,
+}

@@ -1,0 +1,166 @@
+use crate::leaves::Leaves;
+use crate::walk::{Beside, End, Walk};
+use bc_parse_tree::{Block, Item, Label};
+use bc_scope_faults::Allowed;
+use bc_scope_names::{ScopeError, constant, declare_list};
+use indexmap::IndexMap;
+use std::alloc::Global;
+
+/// A list of commands at work: whether it is a SWITCHON's, its labels that were met with their leaves, and the place of
+/// its next label with a name among what is known.
+#[derive(Drop)]
+struct OfList<'s> {
+    cases: bool,
+    names: IndexMap<&'s [u8], u64>,
+    values: IndexMap<u16, Leaves>,
+    default: Option<Leaves>,
+    next: usize,
+}
+
+impl<'s> OfList<'s> {
+    fn new(alloc: Global, cases: bool, next: usize) -> OfList<'s> {
+        OfList {
+            cases,
+            names: IndexMap::new(alloc),
+            values: IndexMap::new(alloc),
+            default: None,
+            next,
+        }
+    }
+}
+
+/// The lists of commands of a walk.
+impl<'s> Walk<'s> {
+    /// A block.
+    #[cycle(places)]
+    pub fn block(
+        &mut self,
+        allowed: Allowed,
+        tree: &Block<'s>,
+        level: u64,
+    ) -> Result<u64, End<'s>> {
+        let mark = self.mark();
+        let extent = self.declarations(true, &tree.declarations, level)?;
+        let width = self.list(false, allowed, &tree.items, extent.level)?;
+        self.leave(mark);
+        Ok(extent.width.max(width))
+    }
+
+    /// A list of commands, whose labels are known in all of it; in a SWITCHON's own list cases may stand.
+    #[cycle(places)]
+    pub fn list(
+        &mut self,
+        cases: bool,
+        allowed: Allowed,
+        items: &[Item<'s>],
+        level: u64,
+    ) -> Result<u64, End<'s>> {
+        declare_list(&mut self.scope, 0, items)?;
+        let mut of_list = OfList::new(self.alloc, cases, self.known());
+        for item in items {
+            self.know_labels(&item.labels)?;
+        }
+        let mut width = 0u64;
+        for item in items {
+            width = width.max(self.item(&mut of_list, allowed, item, level)?);
+        }
+        Ok(width)
+    }
+
+    /// One item: its labels, and its command.
+    #[cycle(places)]
+    fn item(
+        &mut self,
+        of_list: &mut OfList<'s>,
+        allowed: Allowed,
+        tree: &Item<'s>,
+        level: u64,
+    ) -> Result<u64, End<'s>> {
+        match &tree.command {
+            Some(labelled) => {
+                self.labels(of_list, &tree.labels)?;
+                self.command(allowed, labelled, level)
+            }
+            None => {
+                self.labels(of_list, &tree.labels)?;
+                Ok(0)
+            }
+        }
+    }
+
+    /// Labels with a name are known before their leaves are met.
+    fn know_labels(&mut self, labels: &[Label<'s>]) -> Result<(), End<'s>> {
+        for label in labels {
+            match label {
+                Label::Name(name) => self.know(name)?,
+                Label::Case(_) | Label::Default => {}
+            }
+        }
+        Ok(())
+    }
+
+    /// The labels of an item.
+    #[cycle(places)]
+    fn labels(&mut self, of_list: &mut OfList<'s>, list: &[Label<'s>]) -> Result<(), End<'s>> {
+        for tree in list {
+            self.label(of_list, tree)?;
+        }
+        Ok(())
+    }
+
+    /// A label.
+    #[cycle(places)]
+    fn label(&mut self, of_list: &mut OfList<'s>, tree: &Label<'s>) -> Result<(), End<'s>> {
+        let leaf = self.leaf();
+        match tree {
+            Label::Case(value) => {
+                let value_at = self.constant(value)?;
+                let at = Leaves {
+                    first: leaf,
+                    last: value_at.last,
+                    signs: 0,
+                    calls: value_at.calls,
+                };
+                self.case(of_list, constant(&self.scope, value).get(), at)
+            }
+            Label::Default => self.default(of_list, Leaves::one(leaf)),
+            Label::Name(name) => self.name_label(of_list, name, leaf),
+        }
+    }
+
+    /// CASE with its value. One that may not stand here is at fault by its word alone.
+    fn case(&self, of_list: &mut OfList<'s>, value: u16, at: Leaves) -> Result<(), End<'s>> {
+        if !of_list.cases {
+            self.stop(ScopeError::Misplaced, Leaves::one(at.first), Beside::Nothing)?;
+        }
+        match of_list.values.insert(value, at)? {
+            Some(first) => self.stop(ScopeError::CaseTwice, at, Beside::First(first)),
+            None => Ok(()),
+        }
+    }
+
+    /// DEFAULT.
+    fn default(&self, of_list: &mut OfList<'s>, at: Leaves) -> Result<(), End<'s>> {
+        if !of_list.cases {
+            self.stop(ScopeError::Misplaced, at, Beside::Nothing)?;
+        }
+        if let Some(first) = of_list.default {
+            self.stop(ScopeError::CaseTwice, at, Beside::First(first))?;
+        }
+        of_list.default = Some(at);
+        Ok(())
+    }
+
+    /// A label with a name.
+    fn name_label(
+        &mut self,
+        of_list: &mut OfList<'s>,
+        name: &'s [u8],
+        leaf: u64,
+    ) -> Result<(), End<'s>> {
+        self.once(&mut of_list.names, name, leaf)?;
+        self.declared_at(of_list.next, leaf)?;
+        of_list.next = of_list.next.saturating_add(1);
+        Ok(())
+    }
+}

@@ -1,0 +1,6 @@
+/// Tokens of a section, from the first to the last, by their indexes.
+#[derive(Clone, Copy, Debug, PartialEq, Eq)]
+pub struct Span {
+    pub first: usize,
+    pub last: usize,
+}
