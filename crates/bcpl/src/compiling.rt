@@ -150,8 +150,13 @@ fn write_segments<F: Files>(
     for segment in segments {
         match print(segment, written.out()) {
             Ok(()) => {}
-            Err(TextError::Write) => return Err(Failure::file(alloc, path)),
-            Err(fault) => return Err(Failure::from(fault)),
+            Err(fault) => {
+                written.abandon(rt);
+                return Err(match fault {
+                    TextError::Write => Failure::file(alloc, path),
+                    fault => Failure::from(fault),
+                });
+            }
         }
     }
     written.finish(rt, alloc, path)
@@ -166,11 +171,15 @@ fn write_certificate<F: Files>(
 ) -> Result<(), Failure> {
     let mut written = Written::begin(rt, alloc, path)?;
     match write_cert(alloc, built.entries.as_slice(), written.out()) {
-        Ok(()) => {}
-        Err(CertFault::Write) => return Err(Failure::file(alloc, path)),
-        Err(CertFault::Memory) => return Err(Failure::new(Cause::Certificate)),
+        Ok(()) => written.finish(rt, alloc, path),
+        Err(fault) => {
+            written.abandon(rt);
+            Err(match fault {
+                CertFault::Write => Failure::file(alloc, path),
+                CertFault::Memory => Failure::new(Cause::Certificate),
+            })
+        }
     }
-    written.finish(rt, alloc, path)
 }
 
 /// Refuses a file to be written that is one of the sources, or the text where it is the certificate.

@@ -12,6 +12,7 @@ const MOST: usize = 10;
 const START: u16 = 1;
 
 /// A program's sources, and which of them become a segment each.
+#[derive(Clone, Copy)]
 pub struct Program<'a, 's> {
     pub named: Named<'a, 's>,
     /// The indexes of the mains.

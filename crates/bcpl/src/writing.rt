@@ -12,6 +12,7 @@ const UNFINISHED: &str = ".unfinished";
 
 /// A file that is being written. Where it takes the place of a plain file, or of none, the bytes go to a new file beside it,
 /// which takes its name at the end; a device or a pipe is written to as it is.
+#[derive(Drop)]
 pub struct Written<W: Write + Drop> {
     out: BufWriter<W>,
     /// The path of the file beside it, if there is one.
@@ -57,13 +58,23 @@ impl<W: Write + Drop> Written<W> {
         &mut self.out
     }
 
+    /// Gives the file up: what was written beside it is removed.
+    pub fn abandon<F: Files>(self, rt: &F) {
+        if let Some(beside) = &self.beside {
+            let _ = fs::remove_file(rt, beside.as_str());
+        }
+    }
+
     /// Ends the file, which has its name from now on.
     pub fn finish<F: Files>(self, rt: &F, alloc: Global, path: &str) -> Result<(), Failure> {
-        let mut out = self.out;
+        let Written { mut out, beside } = self;
         if let Err(error) = out.flush() {
+            if let Some(beside) = &beside {
+                let _ = fs::remove_file(rt, beside.as_str());
+            }
             return Err(Failure::io(alloc, &error, path));
         }
-        match &self.beside {
+        match &beside {
             Some(beside) => match fs::rename(rt, beside.as_str(), path) {
                 Ok(()) => Ok(()),
                 Err(error) => Err(Failure::io(alloc, &error, path)),

@@ -170,7 +170,10 @@ fn stretch(tokens: &[Token<'_>], sources: &[Source<'_>], main: usize, span: Toke
     let first = span_of(tokens, sources, main, span.first);
     let last = span_of(tokens, sources, main, span.last);
     if first.file == last.file && first.start <= last.end {
-        Span { end: last.end, ..first }
+        Span {
+            end: last.end,
+            ..first
+        }
     } else {
         first
     }
@@ -187,20 +190,34 @@ fn with_second(
     let main = message.main;
     match second {
         Also::Nothing => Ok(message),
-        Also::First(span) => message.noted(alloc, stretch(tokens, sources, main, span), "the first one"),
+        Also::First(span) => message.noted(
+            alloc,
+            stretch(tokens, sources, main, span),
+            "the first one",
+        ),
         Also::Declared(span) => {
-            message.noted(alloc, stretch(tokens, sources, main, span), "it is declared here")
+            message.noted(
+                alloc,
+                stretch(tokens, sources, main, span),
+                "it is declared here",
+            )
         }
         Also::Number(number) => {
-            let help = format!(in alloc; "its number is {number}; globals are numbered from 0 to 511")?;
+            let help = format!(in alloc;
+                "its number is {number}; globals are numbered from 0 to 511"
+            )?;
             message.helped(alloc, Some(help.as_str()))
         }
         Also::Cells(cells) => {
-            let help = format!(in alloc; "it has {cells} cells: vectors, variables, parameters and what is held while it works")?;
+            let help = format!(in alloc;
+                "it has {cells} cells: vectors, variables, parameters and what is held while it works"
+            )?;
             message.helped(alloc, Some(help.as_str()))
         }
         Also::Places(places) => {
-            let help = format!(in alloc; "it has {places}; cut it into several files, which share routines by GLOBAL")?;
+            let help = format!(in alloc;
+                "it has {places}; cut it into several files, which share routines by GLOBAL"
+            )?;
             message.helped(alloc, Some(help.as_str()))
         }
     }
@@ -235,16 +252,24 @@ pub fn scope_message(
     if main >= sources.len() {
         return Ok(None);
     }
-    let Ok(tokens) = lex(alloc, sources, main) else { return Ok(None) };
-    let Ok(section) = parse(alloc, tokens.as_slice()) else { return Ok(None) };
+    let Ok(tokens) = lex(alloc, sources, main) else {
+        return Ok(None)
+    };
+    let Ok(section) = parse(alloc, tokens.as_slice()) else {
+        return Ok(None)
+    };
     let tokens = tokens.as_slice();
     let found = match resolve(alloc, &section) {
         Ok(_) => None,
         Err(refused) => fault_place(alloc, tokens, &section, refused)?,
     };
-    let place = found.as_ref().map(|found| stretch(tokens, sources, main, found.at));
+    let place = found
+        .as_ref()
+        .map(|found| stretch(tokens, sources, main, found.at));
     let token = found.as_ref().and_then(|found| tokens.get(found.at.first));
-    let Some(message) = message_at(alloc, main, fault, place, token)? else { return Ok(None) };
+    let Some(message) = message_at(alloc, main, fault, place, token)? else {
+        return Ok(None)
+    };
     let message = match found {
         Some(found) => with_second(alloc, message, (tokens, sources), found.also)?,
         None => message,

@@ -101,10 +101,17 @@ fn remedied(
     Ok(None)
 }
 
+/// How a token is spelled; nothing where there is none.
+fn text_of<'s>(token: Option<&Token<'s>>) -> &'s [u8] {
+    match token {
+        Some(token) => token.text,
+        None => b"",
+    }
+}
+
 /// What is said of two tokens side by side that are known mistakes.
 fn help_for_pair(before: Option<&Token<'_>>, at: Option<&Token<'_>>) -> Option<&'static str> {
-    let text = |token: Option<&Token<'_>>| -> &[u8] { token.map_or(b"", |token| token.text) };
-    match (text(before), text(at)) {
+    match (text_of(before), text_of(at)) {
         (b"=", b"=") => Some("equality is written with one ="),
         (b"~", b"=") | (b"!", b"=") => Some("unequal is written ~= or NE"),
         (b"<" | b">", b">" | b"=") => Some("unequal is written ~= or NE, and shifts << and >>"),
