@@ -1,5 +1,6 @@
-"""What the scripts of this folder know of the repository: its crates, what they cost, and the kit at hand."""
+"""What the scripts of this folder know of the repository: its crates, what they cost, the kit at hand, and what a build is at."""
 import os
+import re
 import subprocess
 
 TOP = os.path.dirname(os.path.dirname(os.path.abspath(__file__)))
@@ -54,3 +55,34 @@ def kit():
         return done.stdout.strip()
     except (OSError, subprocess.CalledProcessError):
         return None
+
+
+def processes_of(root):
+    """A process, all that it started and all that these started: for each its processor seconds, with those of what it waited for, and
+    the crate that it is at, where its command line tells one."""
+    tick = os.sysconf("SC_CLK_TCK")
+    fields, children = {}, {}
+    for name in os.listdir("/proc"):
+        if name.isdigit():
+            try:
+                with open(f"/proc/{name}/stat", encoding="utf-8", errors="replace") as file:
+                    fields[int(name)] = file.read().rpartition(")")[2].split()
+            except OSError:
+                continue
+            children.setdefault(int(fields[int(name)][1]), []).append(int(name))
+    found, left = {}, [root]
+    while left:
+        pid = left.pop()
+        if pid in fields:
+            left += children.get(pid, [])
+            found[pid] = sum(map(int, fields[pid][11:15])) / tick, crate_of(pid)
+    return found
+
+
+def crate_of(pid):
+    try:
+        with open(f"/proc/{pid}/cmdline", "rb") as file:
+            found = re.search(rb"\0--crate-name\0(\w+)\0", file.read())
+    except OSError:
+        return None
+    return found[1].decode() if found else None
