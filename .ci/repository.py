@@ -80,9 +80,11 @@ def processes_of(root):
 
 
 def crate_of(pid):
+    """The crate that a process is at. A quick pass over the sources, which proves nothing, is at none."""
     try:
         with open(f"/proc/{pid}/cmdline", "rb") as file:
-            found = re.search(rb"\0--crate-name\0(\w+)\0", file.read())
+            words = file.read()
     except OSError:
         return None
-    return found[1].decode() if found else None
+    found = re.search(rb"\0--crate-name\0(\w+)\0", words)
+    return found[1].decode() if found and b"\0--only\0\0" not in words else None
