@@ -87,4 +87,4 @@ def crate_of(pid):
     except OSError:
         return None
     found = re.search(rb"\0--crate-name\0(\w+)\0", words)
-    return found[1].decode() if found and b"\0--only\0\0" not in words else None
+    return found[1].decode() if found and b"\0--lib\0" not in words else None
