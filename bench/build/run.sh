@@ -1,15 +1,14 @@
 #!/usr/bin/env bash
 # bench/build/run.sh [PROGRAM]: the time and memory of `bcpl build` with a certificate, on a generated program of almost 60,000 tokens and on one
 # of half as many, and on programs that ask much of scopes: the best processor time of ten runs of each, taken in turn. Then where the processor's
-# instructions go, where valgrind is at hand. PROGRAM is the built program (crates/bcpl/out/bcpl, proved and built first, if left out).
+# instructions go, where valgrind is at hand. PROGRAM is the built program (that of ./bcpl, if left out).
 set -eu
 if [ $# -gt 0 ]; then set -- "$(realpath "$1")"; fi
 cd "$(dirname "$0")"
 if [ $# -gt 0 ]; then
     program=$1
 else
-    ../../bcpl --help >/dev/null
-    program=../../crates/bcpl/out/bcpl
+    program=$(../../bcpl --which)
 fi
 work=$(mktemp -d)
 trap 'rm -rf "$work"' EXIT

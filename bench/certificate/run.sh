@@ -1,15 +1,14 @@
 #!/usr/bin/env bash
 # bench/certificate/run.sh [PROGRAM]: the time of `write_cert` over a certificate of 48 MB, and of `bcpl check` over one of 50 MB, the entries of a
 # generated program over and over; and over one of half as many entries each: the best of ten runs, taken in turn. Prints the rates and the
-# ratios. PROGRAM is the built program (crates/bcpl/out/bcpl, proved and built first, if left out).
+# ratios. PROGRAM is the built program (that of ./bcpl, if left out).
 set -eu
 if [ $# -gt 0 ]; then set -- "$(realpath "$1")"; fi
 cd "$(dirname "$0")"
 if [ $# -gt 0 ]; then
     bcpl=$1
 else
-    ../../bcpl --help >/dev/null
-    bcpl=../../crates/bcpl/out/bcpl
+    bcpl=$(../../bcpl --which)
 fi
 . ../workspace.sh
 make_workspace write_bench write.rt.in anyhow bc_cert_write bc_rules_defs bc_core bc_word
