@@ -22,7 +22,7 @@ export class DeviceFault extends Error {}
 // ---- 3. Reading a text
 
 /** The letters of the functions 0 to 7. */
-const FUNCTIONS = "LSAJTFKX";
+export const FUNCTIONS = "LSAJTFKX";
 
 const isDigit = (letter) => letter >= "0" && letter <= "9";
 

@@ -1,0 +1,864 @@
+// The page over the interpreter of intcode.mjs. `make` puts both into index.html.
+import { DeviceFault, FIRST, FUNCTIONS, G, GLOBALS, Machine, Refusal, Streams, linkTexts, signed } from "../javascript/intcode.mjs";
+
+const element = (id) => document.getElementById(id);
+
+/** An element with properties and children; texts may be children. */
+function made(tag, properties = {}, ...children) {
+  const node = Object.assign(document.createElement(tag), properties);
+  node.append(...children);
+  return node;
+}
+
+const grouped = (number) => number.toLocaleString("en-US");
+const counted = (number, one) => `${grouped(number)} ${one}${number === 1 ? "" : "s"}`;
+const encoder = new TextEncoder();
+const decoder = new TextDecoder();
+const bytesOf = (text) => encoder.encode(text);
+
+// ---- What the page keeps
+
+/** The examples that `make` put into the page: `{ name, group, title, text, input, inputs, outputs, steps }`. */
+const examples = JSON.parse(element("examples").textContent);
+
+/** The inputs and outputs, as they are typed in. */
+let inputs = []; // { name, text, bytes, at }: `at` counts the bytes that the run has read
+let outputs = []; // { name, bytes, count }: the bytes stand in a buffer that grows
+
+let image = null; // of the loaded text, or null where none could be loaded
+let machine = null;
+let streams = null;
+let lines = []; // those of the listing
+let spent = 0; // instructions of this run
+let end = null; // the run's end, where it has met one
+let told = ""; // how it last stopped
+let isRunning = false;
+let textIsNew = false; // the text was changed since it was loaded
+let before = {}; // the registers at the stop before
+
+const BREAKPOINT = 1;
+const TARGET = 2;
+/** For each address: BREAKPOINT, TARGET where a step over or out may stop, both, or 0. */
+const marks = new Uint8Array(65536);
+let target = null; // { c, p } of a step over or out
+
+// ---- The streams of a run
+
+/** The most bytes that an output keeps; more are a failure of its device. */
+const OUTPUT_LIMIT = 16_777_216;
+
+function deviceOfInput(input) {
+  input.at = 0;
+  return { name: bytesOf(input.name), read: () => (input.at < input.bytes.length ? input.bytes[input.at++] : -1) };
+}
+
+function deviceOfOutput(output) {
+  output.bytes = new Uint8Array(1024);
+  output.count = 0;
+  const write = (byte) => {
+    if (output.count === OUTPUT_LIMIT) throw new DeviceFault();
+    if (output.count === output.bytes.length) {
+      const larger = new Uint8Array(2 * output.count);
+      larger.set(output.bytes);
+      output.bytes = larger;
+    }
+    output.bytes[output.count] = byte;
+    output.count += 1;
+  };
+  return { name: bytesOf(output.name), write, flush: () => {} };
+}
+
+// ---- What refusals mean
+
+const TEXT_REFUSALS = {
+  BadCharacter: "no item begins with this character",
+  BadNumber: "a digit is wanted here, or the number is out of its range",
+  MissingLabel: "behind the number of a global, L and a label are wanted",
+};
+
+const SENTENCES = {
+  Unended: () => "The text ends inside an item, or its last segment has no Z.",
+  LabelUnset: (segment, label) => `Segment ${segment} speaks of the label ${label}, which stands nowhere in it.`,
+  LabelTwice: (segment, label) => `The label ${label} stands twice in segment ${segment}.`,
+  GlobalTwice: (number) => `The global ${number} is set twice.`,
+  TooLarge: () => "The segments leave less than 64 words for the stack.",
+  NameTooLong: () => "The name of a stream has more than 255 bytes.",
+  NameTwice: () => "Two inputs, or two outputs, have the same name.",
+};
+
+/** The place in front of which stand so many bytes of the text: in characters, and as line and column. */
+function placeAt(text, count) {
+  const front = decoder.decode(bytesOf(text).subarray(0, count));
+  const last = front.split("\n");
+  return { at: front.length, line: last.length, column: last.at(-1).length + 1 };
+}
+
+/** Tells a refusal, and chooses its place in the text. */
+function tellRefusal(refusal) {
+  const [, , name, ...fields] = refusal.message.split(" ");
+  const field = element("text");
+  if (name in TEXT_REFUSALS) {
+    const place = placeAt(field.value, Number(fields[0]));
+    element("fault").textContent =
+      `Refused, line ${place.line}, column ${place.column}: ${TEXT_REFUSALS[name]} (${refusal.message}).`;
+    field.focus();
+    field.setSelectionRange(place.at, place.at + 1);
+  } else {
+    element("fault").textContent = `Refused: ${SENTENCES[name](...fields)} (${refusal.message})`;
+  }
+}
+
+// ---- Loading and restarting
+
+/** Puts the machine at its start, with fresh streams. Gives whether the streams were taken. */
+function restart() {
+  halt();
+  end = null;
+  spent = 0;
+  told = "";
+  before = {};
+  if (image === null) return false;
+  try {
+    streams = new Streams(inputs.map(deviceOfInput), outputs.map(deviceOfOutput));
+  } catch (refusal) {
+    if (!(refusal instanceof Refusal)) throw refusal;
+    tellRefusal(refusal);
+    machine = null;
+    show();
+    return false;
+  }
+  element("fault").textContent = "";
+  machine = new Machine(image, streams);
+  element("speed").textContent = "";
+  show();
+  chooseC();
+  return true;
+}
+
+/** Loads the text that is typed in, and gives whether it was taken. */
+function load() {
+  halt();
+  textIsNew = false;
+  try {
+    image = linkTexts([bytesOf(element("text").value)]);
+  } catch (refusal) {
+    if (!(refusal instanceof Refusal)) throw refusal;
+    image = machine = null;
+    lines = [];
+    show();
+    tellRefusal(refusal);
+    return false;
+  }
+  lines = linesOf(image);
+  marks.fill(0);
+  return restart();
+}
+
+/** Loads the text where it is new, or begins anew where the run has ended; gives whether there is a machine that can go on. */
+function isReady() {
+  if (textIsNew) return load();
+  if (machine === null) return restart();
+  return true;
+}
+
+function loadExample(example) {
+  element("text").value = example.text;
+  inputs = [["SYSIN", example.input], ...example.inputs].map(([name, text]) => ({ name, text, bytes: bytesOf(text), at: 0 }));
+  outputs = ["SYSPRINT", ...example.outputs].map((name) => ({ name, bytes: new Uint8Array(0), count: 0 }));
+  element("budget").value = grouped(example.steps);
+  showStreams();
+  load();
+}
+
+/** Loads files as one text, in the order of their names as they were chosen. */
+async function openFiles(files) {
+  if (files.length === 0) return;
+  const texts = await Promise.all([...files].map((file) => file.text()));
+  element("text").value = texts.join("\n");
+  element("example").value = "";
+  load();
+}
+
+// ---- Running
+
+/** The budget, or null where the field has no number. */
+function budget() {
+  const digits = element("budget").value.replace(/[,\s]/g, "");
+  return /^\d{1,15}$/.test(digits) ? Number(digits) : null;
+}
+
+/** Carries out at most `count` instructions, up to an end or a marked address, and gives why it stopped, or null. */
+function carryOut(count) {
+  const it = machine;
+  const stops = marks;
+  let why = null;
+  let k = 0;
+  while (k < count && why === null) {
+    end = it.step();
+    k += 1;
+    if (end !== null) why = "end";
+    else if (stops[it.c] !== 0) why = reasonToStop(stops[it.c]);
+  }
+  spent += k;
+  return why;
+}
+
+/** Why the mark at C stops, or null: a breakpoint does, and the target of a step where its frame is at work again. */
+function reasonToStop(mark) {
+  if (mark & BREAKPOINT) return "breakpoint";
+  return machine.p === target.p ? "target" : null;
+}
+
+/** How many instructions are carried out between two looks at the clock, and for how many milliseconds in one go. */
+const SLICE = 50_000;
+const GO = 14;
+
+const turns = new MessageChannel();
+let started = 0; // when the run began, and after how many instructions
+let startedAt = 0;
+let shownAt = 0;
+
+/** Runs on until something stops it. The browser gets its turn between goes. */
+function goOn() {
+  if (!isRunning) return;
+  const most = budget() ?? 0;
+  const until = performance.now() + GO;
+  let why = null;
+  while (why === null && spent < most && performance.now() < until) why = carryOut(Math.min(SLICE, most - spent));
+  if (why === null && spent >= most) why = "budget";
+  if (why !== null) {
+    stopped(why);
+  } else {
+    if (performance.now() - shownAt > 100) showProgress();
+    turns.port2.postMessage(null);
+  }
+}
+turns.port1.onmessage = goOn;
+
+/** Begins to run, to a target where there is one. */
+function runTo(newTarget) {
+  if (isRunning || !mayGoOn()) return;
+  target = newTarget;
+  if (target !== null) marks[target.c] |= TARGET;
+  before = registersNow();
+  isRunning = true;
+  started = shownAt = performance.now();
+  startedAt = spent;
+  document.body.classList.add("running");
+  tell("Running …");
+  showButtons();
+  goOn();
+}
+
+/** Whether an instruction may be carried out: says why not, where not. */
+function mayGoOn() {
+  if (!isReady()) return false;
+  if (end !== null) {
+    tell(`The run has ended: ${told} Restart begins it anew.`);
+    return false;
+  }
+  const most = budget();
+  if (most !== null && spent < most) return true;
+  tell(most === null ? "The most instructions must be a number." : `${BUDGET_SPENT} Give it more, or restart.`);
+  return false;
+}
+
+const BUDGET_SPENT = "The budget is spent (ended BudgetSpent).";
+
+/** Stops running, without a word. */
+function halt() {
+  isRunning = false;
+  if (target !== null) marks[target.c] &= ~TARGET;
+  target = null;
+  document.body.classList.remove("running");
+}
+
+/** How a run ended, as a sentence. */
+function sentenceOfEnd() {
+  const at = `at ${placeName(machine.c)}`;
+  if (end === "Finished") return `Finished after ${counted(spent, "instruction")}.`;
+  if (end === "ZeroDivide") return `Ended ${at}: a division by zero (ended ZeroDivide).`;
+  if (end === "Device") return `Ended ${at}: a stream failed, for want of room (ended Device).`;
+  return `Ended ${at}: no such operation (ended ${end}).`;
+}
+
+/** The run stops, for this reason. */
+function stopped(why) {
+  const took = performance.now() - started;
+  const ran = spent - startedAt;
+  halt();
+  const at = `at ${placeName(machine.c)}, after ${counted(spent, "instruction")}`;
+  const sentences = { end: () => sentenceOfEnd(), breakpoint: () => `At the breakpoint ${at}.`, budget: () => BUDGET_SPENT };
+  told = (sentences[why] ?? (() => `Stopped ${at}.`))();
+  element("speed").textContent = ran >= 100_000 ? `, ${(ran / took / 1000).toFixed(1)} million a second` : "";
+  tell(told);
+  show();
+  chooseC();
+}
+
+function run() {
+  if (end !== null && !textIsNew && !restart()) return;
+  runTo(null);
+}
+
+function stop() {
+  if (isRunning) stopped("stop");
+}
+
+function step() {
+  if (isRunning || !mayGoOn()) return;
+  before = registersNow();
+  started = performance.now();
+  startedAt = spent;
+  const why = carryOut(1);
+  if (why === "end") {
+    stopped(why);
+  } else {
+    show();
+    tell(`At ${placeName(machine.c)}.`);
+    chooseC();
+  }
+}
+
+/** Begins anew, with the text that is typed in. */
+const beginAnew = () => (textIsNew ? load() : restart());
+
+/** At a call, runs until it has returned; else a step. */
+function stepOver() {
+  if (isRunning || !isReady()) return;
+  const { length, f } = decoded(machine.c);
+  if (f === 6 && end === null) runTo({ c: (machine.c + length) & 65535, p: machine.p });
+  else step();
+}
+
+/** Runs until the frame at work has returned. */
+function stepOut() {
+  if (isRunning || !isReady()) return;
+  if (machine.p === image.stackBase) return tell("This frame was not called: there is nothing to return to.");
+  runTo({ c: machine.store[(machine.p + 1) & 65535], p: machine.store[machine.p] });
+}
+
+// ---- Instructions and places in words
+
+const OPERATIONS = {
+  1: "A := !A", 2: "A := -A", 3: "A := NOT A", 4: "return", 5: "A := B * A", 6: "A := B / A", 7: "A := B REM A", 8: "A := B + A",
+  9: "A := B - A", 10: "A := B = A", 11: "A := B NE A", 12: "A := B < A", 13: "A := B GE A", 14: "A := B > A", 15: "A := B LE A",
+  16: "A := B << A", 17: "A := B >> A", 18: "A := B & A", 19: "A := B | A", 20: "A := B NEQV A", 21: "A := B EQV A", 22: "finish",
+  23: "switch on A", 24: "select input A", 25: "select output A", 26: "A := the next byte", 27: "write A", 28: "find the input named at A",
+  29: "find the output named at A", 33: "end the input", 34: "end the output",
+};
+
+const EFFECTS = ["B := A; A := D", "!D := A", "A := A + D", "C := D", "C := D if A is not 0", "C := D if A is 0",
+  "the frame moves up by D, and C := A"];
+
+const GLOBAL_NAMES = {
+  1: "START", 11: "SELECTINPUT", 12: "SELECTOUTPUT", 13: "RDCH", 14: "WRCH", 15: "FINDINPUT", 16: "FINDOUTPUT", 17: "ENDREAD",
+  18: "ENDWRITE", 20: "GETBYTE", 21: "PUTBYTE", 22: "WRITES", 23: "WRITEN", 24: "NEWLINE", 25: "WRITEF",
+};
+
+const globalName = (number) => GLOBAL_NAMES[number] ?? `global ${number}`;
+
+/** A word as a printable character in quotes, or nothing. */
+const character = (word) => (word > 32 && word < 127 ? `'${String.fromCharCode(word)}'` : "");
+
+/** The parts of the instruction at an address, and the text that it would have. */
+function decoded(at) {
+  const store = machine?.store ?? image.store;
+  const w = store[at];
+  const isLong = (w & 512) !== 0;
+  const address = isLong ? store[(at + 1) & 65535] : w & 511;
+  const usesP = (w & 2048) !== 0;
+  const usesG = (w & 1024) !== 0;
+  const indirect = (w & 4096) !== 0;
+  const f = w >> 13;
+  const text = FUNCTIONS[f] + (indirect ? "I" : "") + (usesP ? "P" : "") + (usesG ? "G" : "") + address;
+  return { f, indirect, usesP, usesG, isLong, address, text, length: isLong ? 2 : 1 };
+}
+
+/** The place of the segment in which an address lies, with its number, or undefined. */
+function segmentAt(address) {
+  const number = image.places.findIndex((place) => place.start <= address && address < place.end);
+  return number < 0 ? undefined : { ...image.places[number], number };
+}
+
+/** An address with the label that stands at it or in front of it. */
+function placeName(address) {
+  const segment = segmentAt(address);
+  if (segment === undefined) return `${address}`;
+  let best = null;
+  for (const [label, at] of segment.labels) if (at <= address && (best === null || at > best.at)) best = { label, at };
+  if (best === null) return `${address}`;
+  const behind = address - best.at;
+  return `${address} (${labelName(segment, best.label, behind)})`;
+}
+
+const labelName = (segment, label, behind) => `segment ${segment.number}, label ${label}${behind > 0 ? ` + ${behind}` : ""}`;
+
+/** What a word that is an address stands for, in a few words. */
+function standsFor(address) {
+  if (address >= G && address < FIRST) return globalName(address - G);
+  return address < image.stackBase ? placeName(address).replace(/^\d+ ?\(?/, "").replace(")", "") : "";
+}
+
+// ---- The listing
+
+/** The lines of an image: titles, and a line for each item that has words, with the labels that stand at it. */
+function linesOf({ places }) {
+  const found = [{ title: "The start: calls global 1, and finishes" }, { address: 0 }, { address: 1 }, { address: 2 }];
+  places.forEach((place, k) => {
+    found.push({ title: k === 0 ? "Segment 0: the primitives" : `Segment ${k}` });
+    const globals = new Map();
+    for (const item of place.items) if (item.kind === "global") globals.set(item.label, item.number);
+    let labels = [];
+    place.items.forEach((item, i) => {
+      if (item.kind === "label") labels.push(item.label);
+      if (item.kind === "label" || item.kind === "global" || place.low[i]) return;
+      const next = place.low[i + 1] ? place.items[i + 1] : null;
+      found.push({ address: place.addresses[i], item, next, labels, globals: labels.filter((it) => globals.has(it)).map((it) => globals.get(it)) });
+      labels = [];
+    });
+    if (labels.length > 0) found.push({ title: `Labels behind the last word: ${labels.join(", ")}` });
+  });
+  return found;
+}
+
+/** The lines with one for C put in where none stands at it. */
+function linesWithC() {
+  if (machine === null || lines.some((line) => line.address === machine.c)) return lines;
+  const at = lines.findIndex((line) => line.address > machine.c);
+  const line = { address: machine.c, labels: [], isStray: true };
+  return at < 0 ? [...lines, line] : [...lines.slice(0, at), line, ...lines.slice(at)];
+}
+
+/** The words of an item as it was loaded, and those that stand there now. */
+function wordsAt(line) {
+  const store = machine?.store ?? image.store;
+  const isOperation = line.item === undefined || line.item.kind === "operation";
+  const length = isOperation ? decoded(line.address).length : 1;
+  const words = Array.from(store.subarray(line.address, line.address + length));
+  const isChanged = line.address < image.stackBase && words.some((word, i) => word !== image.store[line.address + i]);
+  return { words, isOperation, isChanged };
+}
+
+/** What a line says: the instruction or the data, and what it is about. */
+function wordingOf(line) {
+  const { words, isOperation, isChanged } = wordsAt(line);
+  const { item, next } = line;
+  let wording;
+  if (isOperation) {
+    wording = wordingOfInstruction(line, isChanged);
+  } else if (item.kind === "address" && !isChanged) {
+    wording = { text: `DL${item.label}`, about: placeName(words[0]) };
+  } else if (item.kind === "byte" && !isChanged) {
+    const bytes = [item, next].filter(Boolean).map((it) => it.number);
+    wording = { text: bytes.map((byte) => `C${byte}`).join(" "), about: bytes.map(character).join(" ") };
+  } else {
+    const value = signed(words[0]);
+    wording = { text: `D${words[0]}`, about: [value < 0 ? value : "", character(words[0])].filter((it) => it !== "").join(" ") };
+  }
+  const routines = (line.globals ?? []).map((number) => `${globalName(number)} begins here`);
+  const about = [...routines, isChanged ? "changed" : "", `${wording.about}`].filter((it) => it !== "").join("; ");
+  return { words, text: wording.text, about };
+}
+
+function wordingOfInstruction({ address, item }, isChanged) {
+  const parts = decoded(address);
+  const label = item?.base === "L" && !isChanged ? item.number : undefined;
+  const letters = FUNCTIONS[parts.f] + (parts.indirect ? "I" : "");
+  const text = label === undefined ? parts.text : `${letters}L${label}`;
+  if (parts.f === 7 && !parts.indirect && !parts.usesP && !parts.usesG) return { text, about: OPERATIONS[parts.address] ?? "no operation" };
+  if (parts.usesG && !parts.usesP) return { text, about: parts.address < GLOBALS ? globalName(parts.address) : "" };
+  if (parts.f === 6) return { text, about: "call" };
+  if (label !== undefined) return { text, about: `${parts.address}` };
+  const value = signed(parts.address);
+  if (parts.usesP) return { text, about: "" };
+  return { text, about: value < 0 ? `${value}` : character(value) };
+}
+
+const ROW = 22; // the height of a row, as style.css has it
+let shownLines = [];
+let chosen = 0; // the index of the chosen line
+
+/** Draws the rows that can be seen. */
+function drawListing() {
+  const listing = element("listing");
+  const rows = element("rows");
+  rows.style.height = `${shownLines.length * ROW}px`;
+  const from = Math.max(0, Math.floor(listing.scrollTop / ROW) - 6);
+  const to = Math.min(shownLines.length, from + Math.ceil(listing.clientHeight / ROW) + 12);
+  const drawn = [];
+  for (let i = from; i < to; i += 1) drawn.push(rowOf(i));
+  rows.replaceChildren(...drawn);
+  if (shownLines[chosen] !== undefined) listing.setAttribute("aria-activedescendant", `row-${chosen}`);
+}
+
+function rowOf(i) {
+  const line = shownLines[i];
+  const row = made("div", { id: `row-${i}`, className: "row" });
+  row.style.top = `${i * ROW}px`;
+  row.dataset.line = i;
+  if (line.title) {
+    row.className = "row title";
+    row.setAttribute("role", "presentation");
+    row.textContent = line.title;
+    return row;
+  }
+  const { words, text, about } = wordingOf(line);
+  const hasStop = (marks[line.address] & BREAKPOINT) !== 0;
+  const isC = machine !== null && machine.c === line.address;
+  row.setAttribute("role", "option");
+  row.setAttribute("aria-selected", String(i === chosen));
+  row.setAttribute("aria-label", `${line.address}${line.labels?.length ? `, label ${line.labels.join(", ")}` : ""}, ${text}, ${about}` +
+    `${hasStop ? ", breakpoint" : ""}${isC ? ", C stands here" : ""}`);
+  row.classList.toggle("chosen", i === chosen);
+  row.classList.toggle("at-c", isC);
+  const cells = { stop: hasStop ? "●" : "", here: isC ? "▶" : "", at: line.address, words: words.join(" "), label: (line.labels ?? []).join(" "), text, about };
+  for (const [name, content] of Object.entries(cells)) row.append(made("span", { className: name, textContent: content }));
+  row.title = about;
+  return row;
+}
+
+/** Chooses a line, or the next one in this direction where a title stands; the line is brought into sight. */
+function choose(index, direction = 1) {
+  let i = Math.min(Math.max(index, 0), shownLines.length - 1);
+  while (shownLines[i]?.title && shownLines[i + direction]) i += direction;
+  while (shownLines[i]?.title && shownLines[i + 1]) i += 1;
+  if (shownLines[i] === undefined) return;
+  chosen = i;
+  bringIntoSight(i);
+  drawListing();
+}
+
+function bringIntoSight(i) {
+  const listing = element("listing");
+  const top = i * ROW;
+  const room = listing.clientHeight;
+  if (top < listing.scrollTop + ROW || top > listing.scrollTop + room - 3 * ROW) {
+    listing.scrollTop = Math.max(0, top - Math.floor(room / 3));
+  }
+}
+
+/** Chooses the line at C. */
+function chooseC() {
+  if (machine === null) return;
+  choose(shownLines.findIndex((line) => line.address === machine.c));
+}
+
+function toggleBreakpoint(i = chosen) {
+  const address = shownLines[i]?.address;
+  if (address === undefined) return;
+  marks[address] ^= BREAKPOINT;
+  tell(marks[address] & BREAKPOINT ? `A breakpoint stands at ${placeName(address)}.` : `The breakpoint at ${address} is gone.`);
+  drawListing();
+}
+
+// ---- Registers, frames and store
+
+const registersNow = () => ({ A: machine.a, B: machine.b, C: machine.c, P: machine.p, G });
+
+function showRegisters() {
+  const now = registersNow();
+  const rows = Object.entries(now).map(([name, word]) => {
+    const isNew = before[name] !== undefined && before[name] !== word;
+    const what = name === "A" || name === "B" ? character(word) || standsFor(word) : standsFor(word);
+    return made("tr", {},
+      made("td", { textContent: name, className: { C: "of-c", P: "of-p" }[name] ?? "" }),
+      made("td", { textContent: word, className: isNew ? "new" : "", title: isNew ? `was ${before[name]}` : "" }),
+      made("td", { textContent: signed(word) }),
+      made("td", { textContent: word.toString(16).toUpperCase().padStart(4, "0") }),
+      made("td", { textContent: name === "G" ? "the globals" : what }));
+  });
+  element("register-rows").replaceChildren(...rows);
+}
+
+/** What the next instruction does. */
+function showNext() {
+  const { f, text, usesP, usesG, indirect, address } = decoded(machine.c);
+  const at = (address + (usesP ? machine.p : 0) + (usesG ? G : 0)) & 65535;
+  const d = indirect ? machine.store[at] : at;
+  const line = shownLines.find((it) => it.address === machine.c);
+  const from = indirect ? `the content of ${at}` : usesP || usesG ? "an address" : "the number itself";
+  const effect = f === 7 ? (OPERATIONS[d] ?? "no such operation") : EFFECTS[f];
+  element("next").replaceChildren(
+    end === "Finished" ? "Finished at " : "Next: ", made("code", { textContent: line ? wordingOf(line).text : text }),
+    ` at ${machine.c}. D is ${d}${f === 7 && !indirect ? "" : `, ${from}`}. It does: ${effect}.`);
+}
+
+/** The frames, from that at work down to the first: the address of each, and that behind its last cell. */
+function framesNow() {
+  const found = [];
+  let behind = (machine.p + 10) & 65535;
+  for (let p = machine.p; found.length < 50; p = machine.store[p]) {
+    found.push({ p, behind: Math.max(behind, p) });
+    const next = machine.store[p];
+    if (p === image.stackBase || next >= p || next < image.stackBase) break;
+    behind = p;
+  }
+  return found;
+}
+
+/** The most cells that are shown of a frame. */
+const CELLS = 16;
+
+function showFrames() {
+  const shown = framesNow().map(({ p, behind }, k) => {
+    const isFirst = p === image.stackBase;
+    const name = made("span", { className: k === 0 ? "of-p" : "", textContent: k === 0 ? `${p} = P` : `${p}` });
+    const links = isFirst ? ", the first frame" : ` returns to ${placeName(machine.store[(p + 1) & 65535])}`;
+    const count = Math.min(behind - p, CELLS);
+    const cells = Array.from({ length: count }, (_, i) => cellOf(p, i, isFirst));
+    if (behind - p > CELLS) cells.push(made("span", { textContent: `and ${behind - p - CELLS} more` }));
+    return made("div", { className: "frame" }, name, links, made("div", { className: "cells" }, ...cells));
+  });
+  element("frame-list").replaceChildren(...shown);
+}
+
+function cellOf(p, i, isFirst) {
+  const word = machine.store[(p + i) & 65535];
+  const name = isFirst || i > 1 ? `P!${i}` : ["frame", "return"][i];
+  const cell = made("span", { className: isFirst || i > 1 ? "cell" : "cell link" }, made("small", { textContent: name }), `${word}`);
+  cell.title = [`address ${(p + i) & 65535}`, `signed ${signed(word)}`, character(word)].filter(Boolean).join(", ");
+  return cell;
+}
+
+/** Draws rows of eight words from this address on. */
+function dump(place, from, count) {
+  const { store, c, p } = machine;
+  const rows = [];
+  for (let row = 0; row < count; row += 1) {
+    const first = (from + 8 * row) & 65535;
+    const words = Array.from({ length: 8 }, (_, i) => {
+      const at = (first + i) & 65535;
+      const className = at === c ? "is-c" : at === p ? "is-p" : "";
+      const title = [`address ${at}`, `signed ${signed(store[at])}`, character(store[at]), standsFor(at)].filter(Boolean).join(", ");
+      return made("span", { className, title, textContent: store[at] });
+    });
+    rows.push(made("div", {}, made("span", { className: "from", textContent: first }), ...words));
+  }
+  place.replaceChildren(...rows);
+}
+
+function showStore() {
+  dump(element("around-c"), (machine.c & ~7) - 8, 3);
+  dump(element("around-p"), (machine.p & ~7) - 8, 4);
+  showFromAddress();
+}
+
+function showFromAddress() {
+  const digits = element("address").value.trim();
+  const address = /^\d{1,5}$/.test(digits) && Number(digits) < 65536 ? Number(digits) : null;
+  element("address-is").textContent = address === null ? "an address is a number from 0 to 65535" : standsFor(address);
+  if (address !== null && machine !== null) dump(element("around-address"), address, 3);
+}
+
+// ---- Streams on the page
+
+/** Control characters other than tab and line feed as their pictures. */
+const pictured = (text) => text.replace(/[\0-\x08\x0b-\x1f]/g, (letter) => String.fromCharCode(0x2400 + letter.charCodeAt(0)));
+
+/** The most bytes of an output that are shown. */
+const SHOWN = 20_000;
+
+function fieldOfInput(input, number) {
+  const area = made("textarea", { value: input.text, rows: 2, spellcheck: false, id: `input-${number}` });
+  area.addEventListener("input", () => {
+    input.text = area.value;
+    input.bytes = bytesOf(area.value);
+    showCounts();
+  });
+  const said = made("span", { className: "said" });
+  input.said = said;
+  const title = number === 1 ? made("label", { htmlFor: area.id }, made("b", { textContent: input.name })) : nameField(input, "input", inputs);
+  if (number > 1) area.setAttribute("aria-label", `The bytes of input ${number}`);
+  return made("div", { className: "stream" }, made("div", { className: "line" }, `${number}`, title, said), area);
+}
+
+function fieldOfOutput(output, number) {
+  const pre = made("pre", { tabIndex: 0, id: `output-${number}` });
+  pre.setAttribute("aria-label", `Output ${number}`);
+  const said = made("span", { className: "said" });
+  Object.assign(output, { pre, said, drawn: -1 });
+  const title = number === 1 ? made("b", { textContent: output.name }) : nameField(output, "output", outputs);
+  return made("div", { className: "stream" }, made("div", { className: "line" }, `${number}`, title, said), pre);
+}
+
+/** The name of a stream beside the first one, which can be changed, and a button that takes the stream away. */
+function nameField(stream, side, table) {
+  const name = made("input", { value: stream.name, size: 8, autocomplete: "off", spellcheck: false });
+  name.setAttribute("aria-label", `The name of this ${side}`);
+  name.addEventListener("change", () => {
+    stream.name = name.value;
+    restart();
+  });
+  const away = made("button", { type: "button", textContent: "Remove" });
+  away.setAttribute("aria-label", `Remove the ${side} ${stream.name}`);
+  away.addEventListener("click", () => {
+    table.splice(table.indexOf(stream), 1);
+    showStreams();
+    restart();
+    element(`add-${side}`).focus();
+  });
+  return made("span", { className: "line" }, name, away);
+}
+
+function showStreams() {
+  element("input-list").replaceChildren(...inputs.map((input, i) => fieldOfInput(input, i + 1)));
+  element("output-list").replaceChildren(...outputs.map((output, i) => fieldOfOutput(output, i + 1)));
+}
+
+/** How far each stream is, and which ones are selected. */
+function showCounts() {
+  inputs.forEach((input, i) => {
+    input.said.textContent = `${isSelected("inputs", i)}${input.at} of ${counted(input.bytes.length, "byte")} read`;
+  });
+  outputs.forEach((output, i) => {
+    output.said.textContent = `${isSelected("outputs", i)}${counted(output.count, "byte")}${output.count > SHOWN ? ", the last of which are shown" : ""}`;
+    if (output.drawn === output.count) return;
+    const shown = output.bytes.subarray(Math.max(0, output.count - SHOWN), output.count);
+    output.pre.textContent = pictured(decoder.decode(shown));
+    output.pre.scrollTop = output.pre.scrollHeight;
+    output.drawn = output.count;
+  });
+}
+
+function isSelected(table, i) {
+  if (machine === null) return "";
+  const { streams: all, number } = streams[table];
+  return number === i + 1 ? "selected, " : all[i]?.ended ? "ended, " : "";
+}
+
+function addStream(table, side) {
+  let number = table.length + 1;
+  while (table.some((stream) => stream.name === `NAME${number}`)) number += 1;
+  table.push({ name: `NAME${number}`, text: "", bytes: new Uint8Array(0), at: 0, count: 0 });
+  showStreams();
+  restart();
+  element(`${side}-list`).lastChild.querySelector("input").select();
+}
+
+// ---- Showing it all
+
+function tell(sentence) {
+  element("status").textContent = sentence;
+}
+
+function showProgress() {
+  shownAt = performance.now();
+  element("count").textContent = counted(spent, "instruction");
+  element("speed").textContent = `, ${((spent - startedAt) / (shownAt - started) / 1000).toFixed(1)} million a second`;
+  showCounts();
+}
+
+function showButtons() {
+  const off = { run: isRunning, stop: !isRunning, step: isRunning || end !== null, over: isRunning || end !== null, out: isRunning || end !== null };
+  for (const [id, isOff] of Object.entries(off)) element(id).setAttribute("aria-disabled", String(isOff));
+}
+
+/** Shows the state of everything, as the machine stands still. */
+function show() {
+  shownLines = linesWithC();
+  if (chosen >= shownLines.length) chosen = 0;
+  element("count").textContent = counted(spent, "instruction");
+  element("loaded").textContent = loadedSentence();
+  showButtons();
+  showCounts();
+  drawListing();
+  if (machine === null) {
+    for (const id of ["register-rows", "frame-list", "around-c", "around-p", "around-address", "next"]) element(id).replaceChildren();
+    tell("");
+    return;
+  }
+  showRegisters();
+  showNext();
+  showFrames();
+  showStore();
+  if (spent === 0) tell("Ready at 0.");
+}
+
+function loadedSentence() {
+  if (textIsNew) return "Changed: it is loaded before the next run or step.";
+  if (image === null) return "";
+  return `${counted(image.places.length, "segment")}, with the primitives; the stack begins at ${image.stackBase}.`;
+}
+
+// ---- What the user does
+
+const isField = (node) => node.matches("textarea, select, input:not([type=checkbox])");
+
+const focusOn = (id) => () => element(id).focus();
+
+const KEYS = {
+  r: run, ".": stop, Escape: stop, s: step, o: stepOver, u: stepOut, x: beginAnew, b: () => toggleBreakpoint(), c: chooseC,
+  l: focusOn("listing"), e: focusOn("text"), i: () => element("input-1").focus(), a: () => element("address").select(), "?": () => element("keys").showModal(),
+};
+
+function onKey(event) {
+  if (event.defaultPrevented || element("keys").open) return;
+  if (event.key === "Enter" && (event.ctrlKey || event.metaKey)) {
+    event.preventDefault();
+    load();
+    return;
+  }
+  if (event.ctrlKey || event.metaKey || event.altKey) return;
+  if (isField(event.target)) {
+    if (event.key === "Escape") element("listing").focus();
+    return;
+  }
+  const action = event.key === "Escape" || element("letters").checked ? KEYS[event.key.length === 1 ? event.key.toLowerCase() : event.key] : undefined;
+  if (action === undefined) return;
+  event.preventDefault();
+  action();
+}
+
+function onListingKey(event) {
+  if (event.ctrlKey || event.metaKey || event.altKey) return;
+  const page = Math.max(1, Math.floor(element("listing").clientHeight / ROW) - 1);
+  const moves = { ArrowDown: 1, ArrowUp: -1, PageDown: page, PageUp: -page };
+  if (event.key in moves) choose(chosen + moves[event.key], Math.sign(moves[event.key]));
+  else if (event.key === "Home") choose(0);
+  else if (event.key === "End") choose(shownLines.length - 1, -1);
+  else if (event.key === "Enter" || event.key === " ") toggleBreakpoint();
+  else return;
+  event.preventDefault();
+}
+
+const lineOfEvent = (event) => Number(event.target.closest(".row")?.dataset.line ?? -1);
+
+function listen() {
+  const clicks = { run, stop, step, over: stepOver, out: stepOut, restart: beginAnew, load, "show-keys": KEYS["?"] };
+  for (const [id, action] of Object.entries(clicks)) element(id).addEventListener("click", action);
+  element("add-input").addEventListener("click", () => addStream(inputs, "input"));
+  element("add-output").addEventListener("click", () => addStream(outputs, "output"));
+  document.addEventListener("keydown", onKey);
+  element("listing").addEventListener("keydown", onListingKey);
+  element("listing").addEventListener("scroll", drawListing);
+  element("listing").addEventListener("click", (event) => lineOfEvent(event) >= 0 && choose(lineOfEvent(event)));
+  element("listing").addEventListener("dblclick", (event) => lineOfEvent(event) >= 0 && toggleBreakpoint(lineOfEvent(event)));
+  window.addEventListener("resize", drawListing);
+  element("address").addEventListener("input", showFromAddress);
+  element("text").addEventListener("input", () => {
+    textIsNew = true;
+    element("loaded").textContent = loadedSentence();
+  });
+  element("example").addEventListener("change", () => {
+    const example = examples.find(({ name }) => name === element("example").value);
+    if (example !== undefined) loadExample(example);
+  });
+  element("file").addEventListener("change", (event) => openFiles(event.target.files));
+  element("theme").addEventListener("change", () => (document.documentElement.dataset.theme = element("theme").value));
+}
+
+function begin() {
+  const groups = [...new Set(examples.map(({ group }) => group))].map((group) => {
+    const options = examples.filter((it) => it.group === group).map(({ name, title }) => made("option", { value: name, textContent: title }));
+    return made("optgroup", { label: group }, ...options);
+  });
+  element("example").replaceChildren(made("option", { value: "", textContent: "(a text of your own)" }), ...groups);
+  const wanted = decodeURIComponent(location.hash.replace("#", ""));
+  const first = examples.find(({ name }) => name === wanted) ?? examples[0];
+  element("example").value = first.name;
+  listen();
+  loadExample(first);
+}
+
+begin();
