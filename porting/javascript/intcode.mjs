@@ -19,7 +19,7 @@ export class Refusal extends Error {}
 /** What a stream's device throws where it fails. The run ends as `Device`. */
 export class DeviceFault extends Error {}
 
-// ---- 3. Reading a text
+// ---- 3. Reading
 
 /** The letters of the functions 0 to 7. */
 export const FUNCTIONS = "LSAJTFKX";
@@ -107,7 +107,7 @@ export function readText(bytes) {
   return segments;
 }
 
-// ---- 4. Placing the segments
+// ---- 4. Placing: labels get addresses, and items become words
 
 /** The first address of the globals, which G always holds. */
 export const G = 8;
@@ -116,10 +116,10 @@ export const G = 8;
 export const GLOBALS = 512;
 
 /** The address of the first segment. */
-export const FIRST = G + GLOBALS;
+export const SEGMENTS = G + GLOBALS;
 
-/** The greatest stack base: 64 cells are left for the stack. */
-const GREATEST_BASE = 65472;
+/** The last address at which the stack may begin: 64 cells are left for the stack. */
+const LAST_STACK_BASE = 65472;
 
 /** The call of the routine in global 1, and the end of the run: `LIG1 K2 X22`. */
 const BOOT = [5121, 49154, 57366];
@@ -183,7 +183,7 @@ function refuse(segments, places) {
   });
   const twice = firstRepeated(segments.flat().filter((item) => item.kind === "global").map((item) => item.number));
   if (twice !== undefined) throw new Refusal(`link 3 GlobalTwice ${twice}`);
-  if (places.at(-1).end > GREATEST_BASE) throw new Refusal("link 4 TooLarge");
+  if (places.at(-1).end > LAST_STACK_BASE) throw new Refusal("link 4 TooLarge");
   segments.forEach((items, k) => {
     const unset = items.map(labelUsed).find((label) => label !== undefined && !places[k].labels.has(label));
     if (unset !== undefined) throw new Refusal(`link 1 LabelUnset ${k} ${unset}`);
@@ -222,7 +222,7 @@ function putItem(store, item, address, isLow, labels) {
 export function linkTexts(texts) {
   const segments = [primitives(), ...texts.map(readText).flat()];
   const places = [];
-  for (const items of segments) places.push(layOut(items, places.at(-1)?.end ?? FIRST));
+  for (const items of segments) places.push(layOut(items, places.at(-1)?.end ?? SEGMENTS));
   refuse(segments, places);
   const store = new Uint16Array(65536);
   store.set(BOOT);
@@ -232,7 +232,7 @@ export function linkTexts(texts) {
   return { store, stackBase: places.at(-1).end, places };
 }
 
-// ---- 5. Streams
+// ---- 5. Streams: two tables, each numbered from 1; 0 is no stream
 
 const sameName = (name, other) => name.length === other.length && name.every((byte, i) => byte === other[i]);
 
@@ -243,30 +243,30 @@ class Table {
       if (name.length > 255) throw new Refusal("streams 2 NameTooLong");
       if (streams.slice(0, i).some((before) => sameName(before.name, name))) throw new Refusal("streams 1 NameTwice");
     });
-    this.streams = streams.map((device) => ({ device, ended: false, atEnd: false }));
-    this.number = streams.length > 0 ? 1 : 0; // that of the selected stream, or 0
+    this.streams = streams.map((device) => ({ device, hasEnded: false, isAtEnd: false }));
+    this.selectedNumber = streams.length > 0 ? 1 : 0; // that of the selected stream, or 0
   }
 
   /** The selected stream, or undefined. */
   get selected() {
-    return this.streams[this.number - 1];
+    return this.streams[this.selectedNumber - 1];
   }
 
   /** Selects the stream with this number, or nothing where there is none. */
-  select(number) {
-    this.number = number <= this.streams.length ? number : 0;
+  selectStream(number) {
+    this.selectedNumber = number <= this.streams.length ? number : 0;
   }
 
   /** The number of the stream with this name, or 0 where there is none or a word can't hold it. One that was ended is still found. */
-  find(name) {
+  findStream(name) {
     const number = this.streams.findIndex(({ device }) => sameName(device.name, name)) + 1;
     return number <= 65535 ? number : 0;
   }
 
   /** Ends the selected stream for good; then none is selected. */
-  end() {
-    if (this.selected) this.selected.ended = true;
-    this.number = 0;
+  endStream() {
+    if (this.selected) this.selected.hasEnded = true;
+    this.selectedNumber = 0;
   }
 }
 
@@ -281,24 +281,24 @@ export class Streams {
   }
 
   /** The next byte of the selected input, or 65535. An input that has been at its end stays there. */
-  read() {
+  readByte() {
     const input = this.inputs.selected;
-    if (!input || input.ended || input.atEnd) return 65535;
+    if (!input || input.hasEnded || input.isAtEnd) return 65535;
     const byte = input.device.read();
-    input.atEnd = byte < 0;
-    return input.atEnd ? 65535 : byte;
+    input.isAtEnd = byte < 0;
+    return input.isAtEnd ? 65535 : byte;
   }
 
   /** Writes a byte to the selected output; it is dropped where none is selected or it was ended. */
-  write(byte) {
+  writeByte(byte) {
     const output = this.outputs.selected;
-    if (output && !output.ended) output.device.write(byte);
+    if (output && !output.hasEnded) output.device.write(byte);
   }
 
   /** Ends the selected output, once what was written to it is out. */
   endOutput() {
     this.outputs.selected?.device.flush();
-    this.outputs.end();
+    this.outputs.endStream();
   }
 
   /** Brings out what was written to the outputs, and gives whether no device failed. */
@@ -316,22 +316,62 @@ export class Streams {
   }
 }
 
-// ---- 6. Running
+// ---- 6. Instructions
+
+/** `B op A`, for X5 to X21; A is not 0 for X6 and X7. */
+function operate(D, B, A) {
+  switch (D) {
+    case 5: // *
+      return (signed(B) * signed(A)) & 65535;
+    case 6: // /, which truncates towards 0
+      return Math.trunc(signed(B) / signed(A)) & 65535;
+    case 7: // REM, with the sign of B
+      return signed(B) % signed(A) & 65535;
+    case 8: // +
+      return (B + A) & 65535;
+    case 9: // -
+      return (B - A) & 65535;
+    case 10: // =
+      return truth(B === A);
+    case 11: // NE
+      return truth(B !== A);
+    case 12: // <
+      return truth(signed(B) < signed(A));
+    case 13: // GE
+      return truth(signed(B) >= signed(A));
+    case 14: // >
+      return truth(signed(B) > signed(A));
+    case 15: // LE
+      return truth(signed(B) <= signed(A));
+    case 16: // <<
+      return A > 15 ? 0 : (B << A) & 65535;
+    case 17: // >>, zeros coming in
+      return A > 15 ? 0 : B >> A;
+    case 18: // &
+      return B & A;
+    case 19: // |
+      return B | A;
+    case 20: // NEQV
+      return B ^ A;
+    default: // EQV
+      return 65535 - (B ^ A);
+  }
+}
 
 /** The registers, the store and the streams, and what an instruction does to them. */
 export class Machine {
-  constructor(image, streams) {
-    this.a = 0;
-    this.b = 0;
-    this.c = 0; // the address of the next instruction
-    this.p = image.stackBase; // the address of the frame
-    this.store = image.store.slice();
+  constructor({ store, stackBase }, streams) {
+    this.A = 0;
+    this.B = 0;
+    this.C = 0; // the address of the next instruction
+    this.P = stackBase; // the address of the frame
+    this.store = store.slice();
     this.streams = streams;
   }
 
   /** Carries out at most this many instructions, and gives the end. */
-  run(steps) {
-    for (let left = steps; left > 0; left -= 1) {
+  run(budget) {
+    for (let left = budget; left > 0; left -= 1) {
       const end = this.step();
       if (end !== null) return end;
     }
@@ -340,167 +380,103 @@ export class Machine {
 
   /**
    * Carries out the instruction at C, and gives null, or the end of the run: `Finished`, `ZeroDivide`, `BadInstruction` with the
-   * instruction's address, or `Device`. An instruction that meets an end changes nothing.
+   * instruction's address, or `Device`. An instruction that meets an end changes nothing: so C itself is set behind all else.
    */
   step() {
     const store = this.store;
-    let c = this.c;
-    const w = store[c];
-    c = (c + 1) & 65535;
-    let d = w & 511;
-    if (w & 512) {
-      d = store[c];
-      c = (c + 1) & 65535;
+    let C = this.C;
+    const word = store[C];
+    C = (C + 1) & 65535;
+    let D = word & 511;
+    if (word & 512) {
+      D = store[C];
+      C = (C + 1) & 65535;
     }
-    if (w & 2048) d += this.p;
-    if (w & 1024) d += G;
-    d &= 65535;
-    if (w & 4096) d = store[d];
-    switch (w >> 13) {
+    if (word & 2048) D += this.P;
+    if (word & 1024) D += G;
+    D &= 65535;
+    if (word & 4096) D = store[D];
+    switch (word >> 13) {
       case 0: // L
-        this.b = this.a;
-        this.a = d;
+        this.B = this.A;
+        this.A = D;
         break;
       case 1: // S
-        store[d] = this.a;
+        store[D] = this.A;
         break;
       case 2: // A
-        this.a = (this.a + d) & 65535;
+        this.A = (this.A + D) & 65535;
         break;
       case 3: // J
-        c = d;
+        C = D;
         break;
       case 4: // T
-        if (this.a !== 0) c = d;
+        if (this.A !== 0) C = D;
         break;
       case 5: // F
-        if (this.a === 0) c = d;
+        if (this.A === 0) C = D;
         break;
       case 6: // K
-        d = (this.p + d) & 65535;
-        store[d] = this.p;
-        store[(d + 1) & 65535] = c;
-        this.p = d;
-        c = this.a;
+        D = (this.P + D) & 65535;
+        store[D] = this.P;
+        store[(D + 1) & 65535] = C;
+        this.P = D;
+        C = this.A;
         break;
       case 7: // X
-        return this.execute(d, c);
+        return this.execute(D, C);
     }
-    this.c = c;
+    this.C = C;
     return null;
   }
 
-  /** Carries out the operation X with the number d, where c is the address behind the instruction. */
-  execute(d, c) {
-    const { a, b, p, store } = this;
-    switch (d) {
-      case 1:
-        this.a = store[a];
-        break;
-      case 2:
-        this.a = -a & 65535;
-        break;
-      case 3:
-        this.a = 65535 - a;
-        break;
-      case 4:
-        c = store[(p + 1) & 65535];
-        this.p = store[p];
-        break;
-      case 5: // *
-        this.a = (signed(b) * signed(a)) & 65535;
-        break;
-      case 6: // /, which truncates towards 0
-        if (a === 0) return "ZeroDivide";
-        this.a = Math.trunc(signed(b) / signed(a)) & 65535;
-        break;
-      case 7: // REM, with the sign of B
-        if (a === 0) return "ZeroDivide";
-        this.a = signed(b) % signed(a) & 65535;
-        break;
-      case 8:
-        this.a = (b + a) & 65535;
-        break;
-      case 9:
-        this.a = (b - a) & 65535;
-        break;
-      case 10: // =
-        this.a = truth(b === a);
-        break;
-      case 11: // NE
-        this.a = truth(b !== a);
-        break;
-      case 12:
-        this.a = truth(signed(b) < signed(a));
-        break;
-      case 13: // GE
-        this.a = truth(signed(b) >= signed(a));
-        break;
-      case 14:
-        this.a = truth(signed(b) > signed(a));
-        break;
-      case 15: // LE
-        this.a = truth(signed(b) <= signed(a));
-        break;
-      case 16: // <<
-        this.a = a < 16 ? (b << a) & 65535 : 0;
-        break;
-      case 17: // >>, zeros coming in
-        this.a = a < 16 ? b >> a : 0;
-        break;
-      case 18:
-        this.a = b & a;
-        break;
-      case 19:
-        this.a = b | a;
-        break;
-      case 20: // NEQV
-        this.a = b ^ a;
-        break;
-      case 21: // EQV
-        this.a = 65535 - (b ^ a);
-        break;
-      case 22:
-        return "Finished";
-      case 23:
-        c = this.switchAt(c);
-        break;
-      case 24:
-        this.streams.inputs.select(a);
-        break;
-      case 25:
-        this.streams.outputs.select(a);
-        break;
-      case 28:
-        this.a = this.streams.inputs.find(this.stringAt(a));
-        break;
-      case 29:
-        this.a = this.streams.outputs.find(this.stringAt(a));
-        break;
-      case 33:
-        this.streams.inputs.end();
-        break;
-      case 26:
-      case 27:
-      case 34:
-        if (!this.transfer(d)) return "Device";
-        break;
-      default:
-        return `BadInstruction ${this.c}`;
+  /** Carries out the operation X with the number D, where C is the address behind the instruction. Gives what `step` gives. */
+  execute(D, C) {
+    const { A, P, store, streams } = this;
+    if (D >= 5 && D <= 21) {
+      if (A === 0 && (D === 6 || D === 7)) return "ZeroDivide";
+      this.A = operate(D, this.B, A);
+    } else if (D === 1) {
+      this.A = store[A];
+    } else if (D === 2) {
+      this.A = -A & 65535;
+    } else if (D === 3) {
+      this.A = 65535 - A;
+    } else if (D === 4) {
+      C = store[(P + 1) & 65535];
+      this.P = store[P];
+    } else if (D === 22) {
+      return "Finished";
+    } else if (D === 23) {
+      C = this.switched(C);
+    } else if (D === 24) {
+      streams.inputs.selectStream(A);
+    } else if (D === 25) {
+      streams.outputs.selectStream(A);
+    } else if (D === 26 || D === 27 || D === 34) {
+      if (!this.transfer(D)) return "Device";
+    } else if (D === 28) {
+      this.A = streams.inputs.findStream(this.stringAt(A));
+    } else if (D === 29) {
+      this.A = streams.outputs.findStream(this.stringAt(A));
+    } else if (D === 33) {
+      streams.inputs.endStream();
+    } else {
+      return `BadInstruction ${this.C}`;
     }
-    this.c = c;
+    this.C = C;
     return null;
   }
 
-  /** Where the switch goes whose count, default address and pairs of a value and an address stand at c. */
-  switchAt(c) {
+  /** Where the switch goes whose count, default address and pairs of a value and an address stand at this address. */
+  switched(address) {
     const store = this.store;
-    let pair = (c + 2) & 65535;
-    for (let count = store[c]; count > 0; count -= 1) {
-      if (store[pair] === this.a) return store[(pair + 1) & 65535];
+    let pair = (address + 2) & 65535;
+    for (let count = store[address]; count > 0; count -= 1) {
+      if (store[pair] === this.A) return store[(pair + 1) & 65535];
       pair = (pair + 2) & 65535;
     }
-    return store[(c + 1) & 65535];
+    return store[(address + 1) & 65535];
   }
 
   /** The bytes of the string at this address: its length stands in byte 0, and two bytes in a word, the high one first. */
@@ -513,10 +489,10 @@ export class Machine {
   }
 
   /** Carries out X26, X27 or X34, and gives whether the device did not fail. */
-  transfer(d) {
+  transfer(D) {
     try {
-      if (d === 26) this.a = this.streams.read();
-      else if (d === 27) this.streams.write(this.a & 255);
+      if (D === 26) this.A = this.streams.readByte();
+      else if (D === 27) this.streams.writeByte(this.A & 255);
       else this.streams.endOutput();
       return true;
     } catch (fault) {

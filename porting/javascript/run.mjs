@@ -1,14 +1,15 @@
 #!/usr/bin/env node
-// The interpreter of intcode.mjs at the command line, with the words, the statuses and the lines on standard error of `bcpl`:
-//
-//     run.mjs run --steps N [--in NAME=PATH].. [--to NAME=PATH].. TEXT..    runs texts
-//     run.mjs asm TEXT..                                                    prints the words of the store up to the stack base
-//
-// The status is 0 where all was done, 1 where something was refused, 2 where a run ended otherwise than by finishing, and 3 where the words
-// ask for nothing.
+// ---- 7. The command line, over the interpreter of intcode.mjs, with the words, the statuses and the lines on standard error of `bcpl`.
 import * as fs from "node:fs";
 import { parseArgs } from "node:util";
 import { DeviceFault, Machine, Refusal, Streams, linkTexts } from "./intcode.mjs";
+
+const HELP = `run.mjs run --steps N [--in NAME=PATH].. [--to NAME=PATH].. TEXT..    links texts behind the primitives and runs them
+run.mjs asm TEXT..                                                    prints the words of the store up to the stack base
+
+N is the most instructions that are carried out. Input 1 is standard input, under the name SYSIN; output 1 is standard output, under the name
+SYSPRINT; the files of --in and --to have the numbers from 2 on, in their order. The status is 0 where all was done, 1 where something was
+refused, 2 where a run ended otherwise than by finishing, and 3 where the words ask for nothing. This interpreter is not proved.`;
 
 /** The most bytes that a file may have. */
 const FILE_LIMIT = 16_777_216;
@@ -40,9 +41,17 @@ function withDevice(action) {
 /** The bytes of a file. */
 function contents(path) {
   return withFile(path, () => {
-    const bytes = fs.readFileSync(path);
-    if (bytes.length > FILE_LIMIT) throw new Refusal();
-    return bytes;
+    const file = fs.openSync(path, "r");
+    const pieces = [];
+    let size = 0;
+    for (let count = -1; count !== 0; size += count) {
+      if (size > FILE_LIMIT) throw new Refusal();
+      const piece = Buffer.alloc(65536);
+      count = readInto(file, piece);
+      pieces.push(piece.subarray(0, count));
+    }
+    fs.closeSync(file);
+    return Buffer.concat(pieces);
   });
 }
 
@@ -136,7 +145,11 @@ function parsed(args, options) {
 
 /** Does what the words ask for, and gives the status. */
 function command([name, ...words]) {
-  if (name !== "run" && name !== "asm") throw new BadWords("bcpl: the words begin with run or asm");
+  if (name === "--help") {
+    console.log(HELP);
+    return 0;
+  }
+  if (name !== "run" && name !== "asm") throw new BadWords("bcpl: the words begin with run or asm; --help tells more");
   const many = { type: "string", multiple: true, default: [] };
   const options = name === "run" ? { steps: { type: "string" }, in: many, to: many } : {};
   const { values, positionals: texts } = parsed(words, options);

@@ -1,5 +1,5 @@
 // The page over the interpreter of intcode.mjs. `make` puts both into index.html.
-import { DeviceFault, FIRST, FUNCTIONS, G, GLOBALS, Machine, Refusal, Streams, linkTexts, signed } from "../javascript/intcode.mjs";
+import { DeviceFault, FUNCTIONS, G, GLOBALS, Machine, Refusal, SEGMENTS, Streams, linkTexts, signed } from "../javascript/intcode.mjs";
 
 const element = (id) => document.getElementById(id);
 
@@ -13,7 +13,7 @@ function made(tag, properties = {}, ...children) {
 const grouped = (number) => number.toLocaleString("en-US");
 const counted = (number, one) => `${grouped(number)} ${one}${number === 1 ? "" : "s"}`;
 const encoder = new TextEncoder();
-const decoder = new TextDecoder();
+const decoder = new TextDecoder("utf-8", { ignoreBOM: true });
 const bytesOf = (text) => encoder.encode(text);
 
 // ---- What the page keeps
@@ -33,6 +33,7 @@ let spent = 0; // instructions of this run
 let end = null; // the run's end, where it has met one
 let told = ""; // how it last stopped
 let isRunning = false;
+let text = new Uint8Array(0); // the bytes of the program's text, as they were typed in or read from a file
 let textIsNew = false; // the text was changed since it was loaded
 let before = {}; // the registers at the stop before
 
@@ -40,7 +41,7 @@ const BREAKPOINT = 1;
 const TARGET = 2;
 /** For each address: BREAKPOINT, TARGET where a step over or out may stop, both, or 0. */
 const marks = new Uint8Array(65536);
-let target = null; // { c, p } of a step over or out
+let target = null; // { C, P } of a step over or out
 
 // ---- The streams of a run
 
@@ -86,19 +87,22 @@ const SENTENCES = {
   NameTwice: () => "Two inputs, or two outputs, have the same name.",
 };
 
-/** The place in front of which stand so many bytes of the text: in characters, and as line and column. */
-function placeAt(text, count) {
-  const front = decoder.decode(bytesOf(text).subarray(0, count));
+/** The place in front of which stand so many bytes of the text: in characters of the field, and as line and column. */
+function placeAt(count) {
+  const front = inField(text.subarray(0, count));
   const last = front.split("\n");
   return { at: front.length, line: last.length, column: last.at(-1).length + 1 };
 }
+
+/** Bytes as a field shows them, where each line ends in LF. */
+const inField = (bytes) => decoder.decode(bytes).replace(/\r\n?/g, "\n");
 
 /** Tells a refusal, and chooses its place in the text. */
 function tellRefusal(refusal) {
   const [, , name, ...fields] = refusal.message.split(" ");
   const field = element("text");
   if (name in TEXT_REFUSALS) {
-    const place = placeAt(field.value, Number(fields[0]));
+    const place = placeAt(Number(fields[0]));
     element("fault").textContent =
       `Refused, line ${place.line}, column ${place.column}: ${TEXT_REFUSALS[name]} (${refusal.message}).`;
     field.focus();
@@ -140,7 +144,7 @@ function load() {
   halt();
   textIsNew = false;
   try {
-    image = linkTexts([bytesOf(element("text").value)]);
+    image = linkTexts([text]);
   } catch (refusal) {
     if (!(refusal instanceof Refusal)) throw refusal;
     image = machine = null;
@@ -156,13 +160,19 @@ function load() {
 
 /** Loads the text where it is new, or begins anew where the run has ended; gives whether there is a machine that can go on. */
 function isReady() {
-  if (textIsNew) return load();
+  if (textIsNew || image === null) return load();
   if (machine === null) return restart();
   return true;
 }
 
+/** Puts a text into the field. */
+function setText(bytes) {
+  text = bytes;
+  element("text").value = inField(bytes);
+}
+
 function loadExample(example) {
-  element("text").value = example.text;
+  setText(bytesOf(example.text));
   inputs = [["SYSIN", example.input], ...example.inputs].map(([name, text]) => ({ name, text, bytes: bytesOf(text), at: 0 }));
   outputs = ["SYSPRINT", ...example.outputs].map((name) => ({ name, bytes: new Uint8Array(0), count: 0 }));
   element("budget").value = grouped(example.steps);
@@ -170,11 +180,16 @@ function loadExample(example) {
   load();
 }
 
-/** Loads files as one text, in the order of their names as they were chosen. */
+/** The bytes of files, one behind another, with a line feed between two. */
+async function contentOf(files) {
+  const contents = await Promise.all([...files].map((file) => file.arrayBuffer()));
+  return new Uint8Array(await new Blob(contents.flatMap((content, i) => (i === 0 ? [content] : ["\n", content]))).arrayBuffer());
+}
+
+/** Loads files as one text. */
 async function openFiles(files) {
   if (files.length === 0) return;
-  const texts = await Promise.all([...files].map((file) => file.text()));
-  element("text").value = texts.join("\n");
+  setText(await contentOf(files));
   element("example").value = "";
   load();
 }
@@ -197,7 +212,7 @@ function carryOut(count) {
     end = it.step();
     k += 1;
     if (end !== null) why = "end";
-    else if (stops[it.c] !== 0) why = reasonToStop(stops[it.c]);
+    else if (stops[it.C] !== 0) why = reasonToStop(stops[it.C]);
   }
   spent += k;
   return why;
@@ -206,7 +221,7 @@ function carryOut(count) {
 /** Why the mark at C stops, or null: a breakpoint does, and the target of a step where its frame is at work again. */
 function reasonToStop(mark) {
   if (mark & BREAKPOINT) return "breakpoint";
-  return machine.p === target.p ? "target" : null;
+  return machine.P === target.P ? "target" : null;
 }
 
 /** How many instructions are carried out between two looks at the clock, and for how many milliseconds in one go. */
@@ -239,7 +254,7 @@ turns.port1.onmessage = goOn;
 function runTo(newTarget) {
   if (isRunning || !mayGoOn()) return;
   target = newTarget;
-  if (target !== null) marks[target.c] |= TARGET;
+  if (target !== null) marks[target.C] |= TARGET;
   before = registersNow();
   isRunning = true;
   started = shownAt = performance.now();
@@ -268,14 +283,14 @@ const BUDGET_SPENT = "The budget is spent (ended BudgetSpent).";
 /** Stops running, without a word. */
 function halt() {
   isRunning = false;
-  if (target !== null) marks[target.c] &= ~TARGET;
+  if (target !== null) marks[target.C] &= ~TARGET;
   target = null;
   document.body.classList.remove("running");
 }
 
 /** How a run ended, as a sentence. */
 function sentenceOfEnd() {
-  const at = `at ${placeName(machine.c)}`;
+  const at = `at ${placeName(machine.C)}`;
   if (end === "Finished") return `Finished after ${counted(spent, "instruction")}.`;
   if (end === "ZeroDivide") return `Ended ${at}: a division by zero (ended ZeroDivide).`;
   if (end === "Device") return `Ended ${at}: a stream failed, for want of room (ended Device).`;
@@ -287,7 +302,7 @@ function stopped(why) {
   const took = performance.now() - started;
   const ran = spent - startedAt;
   halt();
-  const at = `at ${placeName(machine.c)}, after ${counted(spent, "instruction")}`;
+  const at = `at ${placeName(machine.C)}, after ${counted(spent, "instruction")}`;
   const sentences = { end: () => sentenceOfEnd(), breakpoint: () => `At the breakpoint ${at}.`, budget: () => BUDGET_SPENT };
   told = (sentences[why] ?? (() => `Stopped ${at}.`))();
   element("speed").textContent = ran >= 100_000 ? `, ${(ran / took / 1000).toFixed(1)} million a second` : "";
@@ -315,7 +330,7 @@ function step() {
     stopped(why);
   } else {
     show();
-    tell(`At ${placeName(machine.c)}.`);
+    tell(`At ${placeName(machine.C)}.`);
     chooseC();
   }
 }
@@ -326,16 +341,16 @@ const beginAnew = () => (textIsNew ? load() : restart());
 /** At a call, runs until it has returned; else a step. */
 function stepOver() {
   if (isRunning || !isReady()) return;
-  const { length, f } = decoded(machine.c);
-  if (f === 6 && end === null) runTo({ c: (machine.c + length) & 65535, p: machine.p });
+  const { length, f } = decoded(machine.C);
+  if (f === 6 && end === null) runTo({ C: (machine.C + length) & 65535, P: machine.P });
   else step();
 }
 
 /** Runs until the frame at work has returned. */
 function stepOut() {
   if (isRunning || !isReady()) return;
-  if (machine.p === image.stackBase) return tell("This frame was not called: there is nothing to return to.");
-  runTo({ c: machine.store[(machine.p + 1) & 65535], p: machine.store[machine.p] });
+  if (machine.P === image.stackBase) return tell("This frame was not called: there is nothing to return to.");
+  runTo({ C: machine.store[(machine.P + 1) & 65535], P: machine.store[machine.P] });
 }
 
 // ---- Instructions and places in words
@@ -396,7 +411,7 @@ const labelName = (segment, label, behind) => `segment ${segment.number}, label 
 
 /** What a word that is an address stands for, in a few words. */
 function standsFor(address) {
-  if (address >= G && address < FIRST) return globalName(address - G);
+  if (address >= G && address < SEGMENTS) return globalName(address - G);
   return address < image.stackBase ? placeName(address).replace(/^\d+ ?\(?/, "").replace(")", "") : "";
 }
 
@@ -424,9 +439,9 @@ function linesOf({ places }) {
 
 /** The lines with one for C put in where none stands at it. */
 function linesWithC() {
-  if (machine === null || lines.some((line) => line.address === machine.c)) return lines;
-  const at = lines.findIndex((line) => line.address > machine.c);
-  const line = { address: machine.c, labels: [], isStray: true };
+  if (machine === null || lines.some((line) => line.address === machine.C)) return lines;
+  const at = lines.findIndex((line) => line.address > machine.C);
+  const line = { address: machine.C, labels: [], isStray: true };
   return at < 0 ? [...lines, line] : [...lines.slice(0, at), line, ...lines.slice(at)];
 }
 
@@ -505,7 +520,7 @@ function rowOf(i) {
   }
   const { words, text, about } = wordingOf(line);
   const hasStop = (marks[line.address] & BREAKPOINT) !== 0;
-  const isC = machine !== null && machine.c === line.address;
+  const isC = machine !== null && machine.C === line.address;
   row.setAttribute("role", "option");
   row.setAttribute("aria-selected", String(i === chosen));
   row.setAttribute("aria-label", `${line.address}${line.labels?.length ? `, label ${line.labels.join(", ")}` : ""}, ${text}, ${about}` +
@@ -541,7 +556,7 @@ function bringIntoSight(i) {
 /** Chooses the line at C. */
 function chooseC() {
   if (machine === null) return;
-  choose(shownLines.findIndex((line) => line.address === machine.c));
+  choose(shownLines.findIndex((line) => line.address === machine.C));
 }
 
 function toggleBreakpoint(i = chosen) {
@@ -554,7 +569,7 @@ function toggleBreakpoint(i = chosen) {
 
 // ---- Registers, frames and store
 
-const registersNow = () => ({ A: machine.a, B: machine.b, C: machine.c, P: machine.p, G });
+const registersNow = () => ({ A: machine.A, B: machine.B, C: machine.C, P: machine.P, G });
 
 function showRegisters() {
   const now = registersNow();
@@ -573,22 +588,22 @@ function showRegisters() {
 
 /** What the next instruction does. */
 function showNext() {
-  const { f, text, usesP, usesG, indirect, address } = decoded(machine.c);
-  const at = (address + (usesP ? machine.p : 0) + (usesG ? G : 0)) & 65535;
+  const { f, text, usesP, usesG, indirect, address } = decoded(machine.C);
+  const at = (address + (usesP ? machine.P : 0) + (usesG ? G : 0)) & 65535;
   const d = indirect ? machine.store[at] : at;
-  const line = shownLines.find((it) => it.address === machine.c);
+  const line = shownLines.find((it) => it.address === machine.C);
   const from = indirect ? `the content of ${at}` : usesP || usesG ? "an address" : "the number itself";
   const effect = f === 7 ? (OPERATIONS[d] ?? "no such operation") : EFFECTS[f];
   element("next").replaceChildren(
     end === "Finished" ? "Finished at " : "Next: ", made("code", { textContent: line ? wordingOf(line).text : text }),
-    ` at ${machine.c}. D is ${d}${f === 7 && !indirect ? "" : `, ${from}`}. It does: ${effect}.`);
+    ` at ${machine.C}. D is ${d}${f === 7 && !indirect ? "" : `, ${from}`}. It does: ${effect}.`);
 }
 
 /** The frames, from that at work down to the first: the address of each, and that behind its last cell. */
 function framesNow() {
   const found = [];
-  let behind = (machine.p + 10) & 65535;
-  for (let p = machine.p; found.length < 50; p = machine.store[p]) {
+  let behind = (machine.P + 10) & 65535;
+  for (let p = machine.P; found.length < 50; p = machine.store[p]) {
     found.push({ p, behind: Math.max(behind, p) });
     const next = machine.store[p];
     if (p === image.stackBase || next >= p || next < image.stackBase) break;
@@ -621,15 +636,16 @@ function cellOf(p, i, isFirst) {
   return cell;
 }
 
-/** Draws rows of eight words from this address on. */
+/** Draws rows of eight words from this address on, or of four where there is no room for eight. */
 function dump(place, from, count) {
-  const { store, c, p } = machine;
+  const { store, C, P } = machine;
+  const across = place.clientWidth < 400 ? 4 : 8;
   const rows = [];
-  for (let row = 0; row < count; row += 1) {
-    const first = (from + 8 * row) & 65535;
-    const words = Array.from({ length: 8 }, (_, i) => {
+  for (let at = 0; at < 8 * count; at += across) {
+    const first = (from + at) & 65535;
+    const words = Array.from({ length: across }, (_, i) => {
       const at = (first + i) & 65535;
-      const className = at === c ? "is-c" : at === p ? "is-p" : "";
+      const className = at === C ? "is-c" : at === P ? "is-p" : "";
       const title = [`address ${at}`, `signed ${signed(store[at])}`, character(store[at]), standsFor(at)].filter(Boolean).join(", ");
       return made("span", { className, title, textContent: store[at] });
     });
@@ -639,8 +655,8 @@ function dump(place, from, count) {
 }
 
 function showStore() {
-  dump(element("around-c"), (machine.c & ~7) - 8, 3);
-  dump(element("around-p"), (machine.p & ~7) - 8, 4);
+  dump(element("around-c"), (machine.C & ~7) - 8, 3);
+  dump(element("around-p"), (machine.P & ~7) - 8, 4);
   showFromAddress();
 }
 
@@ -668,9 +684,16 @@ function fieldOfInput(input, number) {
   });
   const said = made("span", { className: "said" });
   input.said = said;
+  const file = made("input", { type: "file" });
+  file.addEventListener("change", async () => {
+    input.bytes = await contentOf(file.files);
+    input.text = area.value = inField(input.bytes);
+    restart();
+  });
+  const open = made("label", { className: "file" }, "Open a file", file);
   const title = number === 1 ? made("label", { htmlFor: area.id }, made("b", { textContent: input.name })) : nameField(input, "input", inputs);
   if (number > 1) area.setAttribute("aria-label", `The bytes of input ${number}`);
-  return made("div", { className: "stream" }, made("div", { className: "line" }, `${number}`, title, said), area);
+  return made("div", { className: "stream" }, made("div", { className: "line" }, `${number}`, title, said, open), area);
 }
 
 function fieldOfOutput(output, number) {
@@ -723,8 +746,8 @@ function showCounts() {
 
 function isSelected(table, i) {
   if (machine === null) return "";
-  const { streams: all, number } = streams[table];
-  return number === i + 1 ? "selected, " : all[i]?.ended ? "ended, " : "";
+  const { streams: all, selectedNumber: number } = streams[table];
+  return number === i + 1 ? "selected, " : all[i]?.hasEnded ? "ended, " : "";
 }
 
 function addStream(table, side) {
@@ -744,7 +767,7 @@ function tell(sentence) {
 
 function showProgress() {
   shownAt = performance.now();
-  element("count").textContent = counted(spent, "instruction");
+  element("count").textContent = `${grouped(spent)} carried out`;
   element("speed").textContent = `, ${((spent - startedAt) / (shownAt - started) / 1000).toFixed(1)} million a second`;
   showCounts();
 }
@@ -758,7 +781,7 @@ function showButtons() {
 function show() {
   shownLines = linesWithC();
   if (chosen >= shownLines.length) chosen = 0;
-  element("count").textContent = counted(spent, "instruction");
+  element("count").textContent = `${grouped(spent)} carried out`;
   element("loaded").textContent = loadedSentence();
   showButtons();
   showCounts();
@@ -834,9 +857,13 @@ function listen() {
   element("listing").addEventListener("scroll", drawListing);
   element("listing").addEventListener("click", (event) => lineOfEvent(event) >= 0 && choose(lineOfEvent(event)));
   element("listing").addEventListener("dblclick", (event) => lineOfEvent(event) >= 0 && toggleBreakpoint(lineOfEvent(event)));
-  window.addEventListener("resize", drawListing);
+  window.addEventListener("resize", () => {
+    drawListing();
+    if (machine !== null && !isRunning) showStore();
+  });
   element("address").addEventListener("input", showFromAddress);
   element("text").addEventListener("input", () => {
+    text = bytesOf(element("text").value);
     textIsNew = true;
     element("loaded").textContent = loadedSentence();
   });
