@@ -99,6 +99,7 @@ const inField = (bytes) => decoder.decode(bytes).replace(/\r\n?/g, "\n");
 
 /** Tells a refusal, and chooses its place in the text. */
 function tellRefusal(refusal) {
+  tell("There is nothing to run: the text or its streams were refused.");
   const [, , name, ...fields] = refusal.message.split(" ");
   const field = element("text");
   if (name in TEXT_REFUSALS) {
@@ -126,9 +127,9 @@ function restart() {
     streams = new Streams(inputs.map(deviceOfInput), outputs.map(deviceOfOutput));
   } catch (refusal) {
     if (!(refusal instanceof Refusal)) throw refusal;
-    tellRefusal(refusal);
     machine = null;
     show();
+    tellRefusal(refusal);
     return false;
   }
   element("fault").textContent = "";
@@ -224,9 +225,12 @@ function reasonToStop(mark) {
   return machine.P === target.P ? "target" : null;
 }
 
-/** How many instructions are carried out between two looks at the clock, and for how many milliseconds in one go. */
+/** How many instructions are carried out between two looks at the clock. */
 const SLICE = 50_000;
+
+/** For how many milliseconds instructions are carried out in one go, and after how many what they did is shown. */
 const GO = 14;
+const SHOW = 200;
 
 const turns = new MessageChannel();
 let started = 0; // when the run began, and after how many instructions
@@ -244,7 +248,7 @@ function goOn() {
   if (why !== null) {
     stopped(why);
   } else {
-    if (performance.now() - shownAt > 100) showProgress();
+    if (performance.now() - shownAt > SHOW) showProgress();
     turns.port2.postMessage(null);
   }
 }
@@ -359,8 +363,8 @@ const OPERATIONS = {
   1: "A := !A", 2: "A := -A", 3: "A := NOT A", 4: "return", 5: "A := B * A", 6: "A := B / A", 7: "A := B REM A", 8: "A := B + A",
   9: "A := B - A", 10: "A := B = A", 11: "A := B NE A", 12: "A := B < A", 13: "A := B GE A", 14: "A := B > A", 15: "A := B LE A",
   16: "A := B << A", 17: "A := B >> A", 18: "A := B & A", 19: "A := B | A", 20: "A := B NEQV A", 21: "A := B EQV A", 22: "finish",
-  23: "switch on A", 24: "select input A", 25: "select output A", 26: "A := the next byte", 27: "write A", 28: "find the input named at A",
-  29: "find the output named at A", 33: "end the input", 34: "end the output",
+  23: "switch on A", 24: "select input A", 25: "select output A", 26: "A := next byte", 27: "write A", 28: "find input A", 29: "find output A",
+  33: "end the input", 34: "end the output",
 };
 
 const EFFECTS = ["B := A; A := D", "!D := A", "A := A + D", "C := D", "C := D if A is not 0", "C := D if A is 0",
@@ -466,13 +470,13 @@ function wordingOf(line) {
     wording = { text: `DL${item.label}`, about: placeName(words[0]) };
   } else if (item.kind === "byte" && !isChanged) {
     const bytes = [item, next].filter(Boolean).map((it) => it.number);
-    wording = { text: bytes.map((byte) => `C${byte}`).join(" "), about: bytes.map(character).join(" ") };
+    wording = { text: bytes.map((byte) => `C${byte}`).join(" "), about: bytes.map(character).filter(Boolean).join(" ") };
   } else {
     const value = signed(words[0]);
     wording = { text: `D${words[0]}`, about: [value < 0 ? value : "", character(words[0])].filter((it) => it !== "").join(" ") };
   }
-  const routines = (line.globals ?? []).map((number) => `${globalName(number)} begins here`);
-  const about = [...routines, isChanged ? "changed" : "", `${wording.about}`].filter((it) => it !== "").join("; ");
+  const routines = (line.globals ?? []).map((number) => `${globalName(number)}:`);
+  const about = [...routines, isChanged ? "changed," : "", `${wording.about}`].filter((it) => it !== "").join(" ");
   return { words, text: wording.text, about };
 }
 
@@ -602,7 +606,7 @@ function showNext() {
 /** The frames, from that at work down to the first: the address of each, and that behind its last cell. */
 function framesNow() {
   const found = [];
-  let behind = (machine.P + 10) & 65535;
+  let behind = (machine.P + 8) & 65535;
   for (let p = machine.P; found.length < 50; p = machine.store[p]) {
     found.push({ p, behind: Math.max(behind, p) });
     const next = machine.store[p];
@@ -639,7 +643,7 @@ function cellOf(p, i, isFirst) {
 /** Draws rows of eight words from this address on, or of four where there is no room for eight. */
 function dump(place, from, count) {
   const { store, C, P } = machine;
-  const across = place.clientWidth < 400 ? 4 : 8;
+  const across = place.clientWidth < 365 ? 4 : 8;
   const rows = [];
   for (let at = 0; at < 8 * count; at += across) {
     const first = (from + at) & 65535;
@@ -673,7 +677,7 @@ function showFromAddress() {
 const pictured = (text) => text.replace(/[\0-\x08\x0b-\x1f]/g, (letter) => String.fromCharCode(0x2400 + letter.charCodeAt(0)));
 
 /** The most bytes of an output that are shown. */
-const SHOWN = 20_000;
+const SHOWN = 8_000;
 
 function fieldOfInput(input, number) {
   const area = made("textarea", { value: input.text, rows: 2, spellcheck: false, id: `input-${number}` });
@@ -865,6 +869,7 @@ function listen() {
   element("text").addEventListener("input", () => {
     text = bytesOf(element("text").value);
     textIsNew = true;
+    element("example").value = "";
     element("loaded").textContent = loadedSentence();
   });
   element("example").addEventListener("change", () => {
