@@ -1,7 +1,8 @@
-// An interpreter of INTCODE: it reads texts, links them behind the primitives and runs them. It is written to be read and translated, in the
-// order of docs/porting.md. It is not proved; `bcpl` is the interpreter that is.
+// intcode.mjs: reads INTCODE texts, links them behind the primitives and runs them.
 //
-// It knows no browser and no Node. Texts and names are arrays of bytes; the streams of a run are objects that give and take a byte.
+// This interpreter is NOT proved. It was written by hand after docs/porting.md, in the order of that page and with its names, to be
+// read and translated; the program `bcpl` is the one that is proved. It knows no browser and no Node: texts and names are arrays of
+// bytes, and the streams of a run are objects that give and take a byte. The command line stands in run.mjs, a page in porting/page.
 
 // ---- 1. Words: numbers from 0 to 65535; all sums are taken modulo 65536, which is `& 65535`
 
@@ -139,8 +140,8 @@ function sizeOf(item) {
 }
 
 /**
- * Where the items of a segment stand that begins at `start`: the address of the first word of each, the labels with their addresses, and the
- * address behind the last word. `low` has true for a byte that shares the word of the byte in front of it.
+ * Where the items of a segment stand that begins at `start`: the address of the first word of each, the labels with their addresses,
+ * and the address behind the last word. `low` has true for a byte that shares the word of the byte in front of it.
  */
 function layOut(items, start) {
   const addresses = [];

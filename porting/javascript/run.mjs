@@ -7,9 +7,10 @@ import { DeviceFault, Machine, Refusal, Streams, linkTexts } from "./intcode.mjs
 const HELP = `run.mjs run --steps N [--in NAME=PATH].. [--to NAME=PATH].. TEXT..    links texts behind the primitives and runs them
 run.mjs asm TEXT..                                                    prints the words of the store up to the stack base
 
-N is the most instructions that are carried out. Input 1 is standard input, under the name SYSIN; output 1 is standard output, under the name
-SYSPRINT; the files of --in and --to have the numbers from 2 on, in their order. The status is 0 where all was done, 1 where something was
-refused, 2 where a run ended otherwise than by finishing, and 3 where the words ask for nothing. This interpreter is not proved.`;
+N is the most instructions that are carried out. Input 1 is standard input, under the name SYSIN; output 1 is standard output, under
+the name SYSPRINT; the files of --in and --to have the numbers from 2 on, in their order. The status is 0 where all was done, 1 where
+something was refused, 2 where a run ended otherwise than by finishing, and 3 where the words ask for nothing. This interpreter is not
+proved.`;
 
 /** The most bytes that a file may have. */
 const FILE_LIMIT = 16_777_216;

@@ -363,8 +363,8 @@ const OPERATIONS = {
   1: "A := !A", 2: "A := -A", 3: "A := NOT A", 4: "return", 5: "A := B * A", 6: "A := B / A", 7: "A := B REM A", 8: "A := B + A",
   9: "A := B - A", 10: "A := B = A", 11: "A := B NE A", 12: "A := B < A", 13: "A := B GE A", 14: "A := B > A", 15: "A := B LE A",
   16: "A := B << A", 17: "A := B >> A", 18: "A := B & A", 19: "A := B | A", 20: "A := B NEQV A", 21: "A := B EQV A", 22: "finish",
-  23: "switch on A", 24: "select input A", 25: "select output A", 26: "A := next byte", 27: "write A", 28: "find input A", 29: "find output A",
-  33: "end the input", 34: "end the output",
+  23: "switch on A", 24: "select input A", 25: "select output A", 26: "A := next byte", 27: "write A", 28: "find input A",
+  29: "find output A", 33: "end the input", 34: "end the output",
 };
 
 const EFFECTS = ["B := A; A := D", "!D := A", "A := A + D", "C := D", "C := D if A is not 0", "C := D if A is 0",
@@ -400,24 +400,21 @@ function segmentAt(address) {
   return number < 0 ? undefined : { ...image.places[number], number };
 }
 
-/** An address with the label that stands at it or in front of it. */
-function placeName(address) {
+/** The label that stands at an address or in front of it, in words, or nothing. */
+function labelAt(address) {
   const segment = segmentAt(address);
-  if (segment === undefined) return `${address}`;
   let best = null;
-  for (const [label, at] of segment.labels) if (at <= address && (best === null || at > best.at)) best = { label, at };
-  if (best === null) return `${address}`;
+  for (const [label, at] of segment?.labels ?? []) if (at <= address && (best === null || at > best.at)) best = { label, at };
+  if (best === null) return "";
   const behind = address - best.at;
-  return `${address} (${labelName(segment, best.label, behind)})`;
+  return `segment ${segment.number}, label ${best.label}${behind > 0 ? ` + ${behind}` : ""}`;
 }
 
-const labelName = (segment, label, behind) => `segment ${segment.number}, label ${label}${behind > 0 ? ` + ${behind}` : ""}`;
+/** An address with its label. */
+const placeName = (address) => (labelAt(address) === "" ? `${address}` : `${address} (${labelAt(address)})`);
 
-/** What a word that is an address stands for, in a few words. */
-function standsFor(address) {
-  if (address >= G && address < SEGMENTS) return globalName(address - G);
-  return address < image.stackBase ? placeName(address).replace(/^\d+ ?\(?/, "").replace(")", "") : "";
-}
+/** What a word that is an address stands for, in words, or nothing. */
+const standsFor = (address) => (address >= G && address < SEGMENTS ? globalName(address - G) : labelAt(address));
 
 // ---- The listing
 
@@ -433,7 +430,8 @@ function linesOf({ places }) {
       if (item.kind === "label") labels.push(item.label);
       if (item.kind === "label" || item.kind === "global" || place.low[i]) return;
       const next = place.low[i + 1] ? place.items[i + 1] : null;
-      found.push({ address: place.addresses[i], item, next, labels, globals: labels.filter((it) => globals.has(it)).map((it) => globals.get(it)) });
+      const routines = labels.filter((label) => globals.has(label)).map((label) => globals.get(label));
+      found.push({ address: place.addresses[i], item, next, labels, globals: routines });
       labels = [];
     });
     if (labels.length > 0) found.push({ title: `Labels behind the last word: ${labels.join(", ")}` });
@@ -531,7 +529,8 @@ function rowOf(i) {
     `${hasStop ? ", breakpoint" : ""}${isC ? ", C stands here" : ""}`);
   row.classList.toggle("chosen", i === chosen);
   row.classList.toggle("at-c", isC);
-  const cells = { stop: hasStop ? "●" : "", here: isC ? "▶" : "", at: line.address, words: words.join(" "), label: (line.labels ?? []).join(" "), text, about };
+  const signs = { stop: hasStop ? "●" : "", here: isC ? "▶" : "" };
+  const cells = { ...signs, at: line.address, words: words.join(" "), label: (line.labels ?? []).join(" "), text, about };
   for (const [name, content] of Object.entries(cells)) row.append(made("span", { className: name, textContent: content }));
   row.title = about;
   return row;
@@ -695,7 +694,8 @@ function fieldOfInput(input, number) {
     restart();
   });
   const open = made("label", { className: "file" }, "Open a file", file);
-  const title = number === 1 ? made("label", { htmlFor: area.id }, made("b", { textContent: input.name })) : nameField(input, "input", inputs);
+  const first = made("label", { htmlFor: area.id }, made("b", { textContent: input.name }));
+  const title = number === 1 ? first : nameField(input, "input", inputs);
   if (number > 1) area.setAttribute("aria-label", `The bytes of input ${number}`);
   return made("div", { className: "stream" }, made("div", { className: "line" }, `${number}`, title, said, open), area);
 }
@@ -739,7 +739,8 @@ function showCounts() {
     input.said.textContent = `${isSelected("inputs", i)}${input.at} of ${counted(input.bytes.length, "byte")} read`;
   });
   outputs.forEach((output, i) => {
-    output.said.textContent = `${isSelected("outputs", i)}${counted(output.count, "byte")}${output.count > SHOWN ? ", the last of which are shown" : ""}`;
+    const cut = output.count > SHOWN ? ", the last of which are shown" : "";
+    output.said.textContent = `${isSelected("outputs", i)}${counted(output.count, "byte")}${cut}`;
     if (output.drawn === output.count) return;
     const shown = output.bytes.subarray(Math.max(0, output.count - SHOWN), output.count);
     output.pre.textContent = pictured(decoder.decode(shown));
@@ -777,7 +778,8 @@ function showProgress() {
 }
 
 function showButtons() {
-  const off = { run: isRunning, stop: !isRunning, step: isRunning || end !== null, over: isRunning || end !== null, out: isRunning || end !== null };
+  const mayNotStep = isRunning || end !== null;
+  const off = { run: isRunning, stop: !isRunning, step: mayNotStep, over: mayNotStep, out: mayNotStep };
   for (const [id, isOff] of Object.entries(off)) element(id).setAttribute("aria-disabled", String(isOff));
 }
 
@@ -816,7 +818,8 @@ const focusOn = (id) => () => element(id).focus();
 
 const KEYS = {
   r: run, ".": stop, Escape: stop, s: step, o: stepOver, u: stepOut, x: beginAnew, b: () => toggleBreakpoint(), c: chooseC,
-  l: focusOn("listing"), e: focusOn("text"), i: () => element("input-1").focus(), a: () => element("address").select(), "?": () => element("keys").showModal(),
+  l: focusOn("listing"), e: focusOn("text"), i: focusOn("input-1"), a: () => element("address").select(),
+  "?": () => element("keys").showModal(),
 };
 
 function onKey(event) {
@@ -831,8 +834,8 @@ function onKey(event) {
     if (event.key === "Escape") element("listing").focus();
     return;
   }
-  const action = event.key === "Escape" || element("letters").checked ? KEYS[event.key.length === 1 ? event.key.toLowerCase() : event.key] : undefined;
-  if (action === undefined) return;
+  const action = KEYS[event.key.length === 1 ? event.key.toLowerCase() : event.key];
+  if (action === undefined || (event.key !== "Escape" && !element("letters").checked)) return;
   event.preventDefault();
   action();
 }
@@ -882,7 +885,8 @@ function listen() {
 
 function begin() {
   const groups = [...new Set(examples.map(({ group }) => group))].map((group) => {
-    const options = examples.filter((it) => it.group === group).map(({ name, title }) => made("option", { value: name, textContent: title }));
+    const members = examples.filter((example) => example.group === group);
+    const options = members.map(({ name, title }) => made("option", { value: name, textContent: title }));
     return made("optgroup", { label: group }, ...options);
   });
   element("example").replaceChildren(made("option", { value: "", textContent: "(a text of your own)" }), ...groups);
