@@ -87,7 +87,8 @@ class Browser {
     const codes = { Enter: 13, Escape: 27, Tab: 9, Home: 36, End: 35, ArrowDown: 40, ArrowUp: 38 };
     const isLetter = key.length === 1;
     const windowsVirtualKeyCode = codes[key] ?? key.toUpperCase().charCodeAt(0);
-    const event = { key, modifiers, windowsVirtualKeyCode, ...(isLetter && modifiers === 0 ? { text: key } : {}) };
+    const text = key === "Enter" ? "\r" : key;
+    const event = { key, modifiers, windowsVirtualKeyCode, ...((isLetter || key === "Enter") && modifiers === 0 ? { text } : {}) };
     await this.send("Input.dispatchKeyEvent", { type: "keyDown", ...event });
     await this.send("Input.dispatchKeyEvent", { type: "keyUp", ...event });
   }
@@ -312,6 +313,30 @@ async function typesATextAndInput(browser) {
   await browser.value(`document.getElementById("letters").click()`);
 }
 
+/** An input and an output that are added: they are named by keys, and the input is typed in. */
+async function streamsAreAdded(browser) {
+  await browser.value(choosing("hello"));
+  await browser.value(loading(contentOf(top, "examples/intcode/streams.int")));
+  await browser.value(`document.getElementById("add-output").click()`);
+  await browser.type("COPY");
+  await browser.key("Enter");
+  await browser.value(`document.getElementById("add-input").click()`);
+  await browser.type("DATA");
+  await browser.keys("Tab", "Tab", "Tab");
+  await browser.type("line one\nline twø\n");
+  await browser.keys("Escape", "r");
+  await browser.value(STILL);
+  const shown = Object.fromEntries(await browser.value(OUTPUTS));
+  expect("the added output", shown.COPY, "line one\nline twø\n");
+  expect("the first output beside it", shown.SYSPRINT, ".");
+  const said = await browser.value(`[...document.querySelectorAll(".said")].map((it) => it.textContent).join("; ")`);
+  expect("what is said of the streams", said, "selected, 1 byte; ended, 19 bytes; 0 of 0 bytes read; ended, 19 of 19 bytes read");
+  await browser.value(`document.querySelector("#output-list button").click()`);
+  await browser.key("r");
+  await browser.value(STILL);
+  expect("without its output", Object.keys(Object.fromEntries(await browser.value(OUTPUTS))).join(" "), "SYSPRINT");
+}
+
 async function refusalsAreTold(browser) {
   const table = [
     ["L5 Q", /line 1, column 4.*text 1 BadCharacter 3/],
@@ -417,7 +442,7 @@ async function main() {
       const look = () => document.querySelector(".row") ? resolve(true) : setTimeout(look, 20);
       look();
     })`);
-    const checks = { examplesRun, keyboardDrives, refusalsAreTold, runsFast, pictures };
+    const checks = { examplesRun, keyboardDrives, streamsAreAdded, refusalsAreTold, runsFast, pictures };
     for (const [name, check] of Object.entries(checks)) {
       if (!wordBehind("--only") || name.includes(wordBehind("--only"))) await check(browser);
     }
