@@ -144,6 +144,8 @@ function restart() {
 function load() {
   halt();
   textIsNew = false;
+  end = null;
+  spent = 0;
   try {
     image = linkTexts([text]);
   } catch (refusal) {
@@ -233,13 +235,14 @@ const GO = 14;
 const SHOW = 200;
 
 const turns = new MessageChannel();
-let started = 0; // when the run began, and after how many instructions
+let runs = 0; // how many runs were begun
+let started = 0; // when the last one began, and after how many instructions
 let startedAt = 0;
 let shownAt = 0;
 
-/** Runs on until something stops it. The browser gets its turn between goes. */
-function goOn() {
-  if (!isRunning) return;
+/** Runs on until something stops it, where no other run was begun since. The browser gets its turn between goes. */
+function goOn(number) {
+  if (!isRunning || number !== runs) return;
   const most = budget() ?? 0;
   const until = performance.now() + GO;
   let why = null;
@@ -249,10 +252,10 @@ function goOn() {
     stopped(why);
   } else {
     if (performance.now() - shownAt > SHOW) showProgress();
-    turns.port2.postMessage(null);
+    turns.port2.postMessage(number);
   }
 }
-turns.port1.onmessage = goOn;
+turns.port1.onmessage = (event) => goOn(event.data);
 
 /** Begins to run, to a target where there is one. */
 function runTo(newTarget) {
@@ -261,12 +264,13 @@ function runTo(newTarget) {
   if (target !== null) marks[target.C] |= TARGET;
   before = registersNow();
   isRunning = true;
+  runs += 1;
   started = shownAt = performance.now();
   startedAt = spent;
   document.body.classList.add("running");
   tell("Running …");
   showButtons();
-  goOn();
+  goOn(runs);
 }
 
 /** Whether an instruction may be carried out: says why not, where not. */
@@ -423,14 +427,14 @@ function linesOf({ places }) {
   const found = [{ title: "The start: calls global 1, and finishes" }, { address: 0 }, { address: 1 }, { address: 2 }];
   places.forEach((place, k) => {
     found.push({ title: k === 0 ? "Segment 0: the primitives" : `Segment ${k}` });
-    const globals = new Map();
-    for (const item of place.items) if (item.kind === "global") globals.set(item.label, item.number);
+    const globals = place.items.filter((item) => item.kind === "global");
     let labels = [];
     place.items.forEach((item, i) => {
       if (item.kind === "label") labels.push(item.label);
       if (item.kind === "label" || item.kind === "global" || place.low[i]) return;
       const next = place.low[i + 1] ? place.items[i + 1] : null;
-      const routines = labels.filter((label) => globals.has(label)).map((label) => globals.get(label));
+      const here = labels;
+      const routines = globals.filter(({ label }) => here.includes(label)).map(({ number }) => number);
       found.push({ address: place.addresses[i], item, next, labels, globals: routines });
       labels = [];
     });
@@ -450,7 +454,7 @@ function linesWithC() {
 /** The words of an item as it was loaded, and those that stand there now. */
 function wordsAt(line) {
   const store = machine?.store ?? image.store;
-  const isOperation = line.item === undefined || line.item.kind === "operation";
+  const isOperation = line.item === undefined || line.item.kind === "operation" || line.address === machine?.C;
   const length = isOperation ? decoded(line.address).length : 1;
   const words = Array.from(store.subarray(line.address, line.address + length));
   const isChanged = line.address < image.stackBase && words.some((word, i) => word !== image.store[line.address + i]);
@@ -525,8 +529,9 @@ function rowOf(i) {
   const isC = machine !== null && machine.C === line.address;
   row.setAttribute("role", "option");
   row.setAttribute("aria-selected", String(i === chosen));
-  row.setAttribute("aria-label", `${line.address}${line.labels?.length ? `, label ${line.labels.join(", ")}` : ""}, ${text}, ${about}` +
-    `${hasStop ? ", breakpoint" : ""}${isC ? ", C stands here" : ""}`);
+  const labels = (line.labels ?? []).map((label) => `label ${label}`);
+  const said = [line.address, ...labels, text, about, hasStop ? "breakpoint" : "", isC ? "C stands here" : ""];
+  row.setAttribute("aria-label", said.filter((it) => it !== "").join(", "));
   row.classList.toggle("chosen", i === chosen);
   row.classList.toggle("at-c", isC);
   const signs = { stop: hasStop ? "●" : "", here: isC ? "▶" : "" };
