@@ -84,7 +84,7 @@ class Browser {
   }
 
   async key(key, modifiers = 0) {
-    const codes = { Enter: 13, Escape: 27, Tab: 9, Home: 36, End: 35, ArrowDown: 40, ArrowUp: 38 };
+    const codes = { Enter: 13, Escape: 27, Tab: 9, Backspace: 8, Home: 36, End: 35, ArrowDown: 40, ArrowUp: 38 };
     const isLetter = key.length === 1;
     const windowsVirtualKeyCode = codes[key] ?? key.toUpperCase().charCodeAt(0);
     const text = key === "Enter" ? "\r" : key;
@@ -286,11 +286,26 @@ async function keyboardDrives(browser) {
   await browser.value(STILL);
   expect("the run goes on to its end", await browser.value(STATUS), /^Finished after /);
   expect("the output", (await browser.value(OUTPUTS))[0][1], "5040\n");
+  await stepsOverARecursion(browser);
   await browser.keys("?");
   expect("the keys are shown", await browser.value(`document.getElementById("keys").open`), true);
   await browser.keys("Escape");
   expect("Escape closes them", await browser.value(`document.getElementById("keys").open`), false);
   await typesATextAndInput(browser);
+}
+
+/** A step over a call that comes by the address behind it in deeper frames first. */
+async function stepsOverARecursion(browser) {
+  await browser.keys("x");
+  await chooseAddress(browser, 568);
+  await browser.keys("b", "r");
+  await browser.value(STILL);
+  const frame = await browser.value(register("P"));
+  await browser.keys("b", "o");
+  await browser.value(STILL);
+  expect("C behind the call in a recursion", await browser.value(register("C")), "569");
+  expect("P behind the call in a recursion", await browser.value(register("P")), frame);
+  expect("A has 6 factorial", await browser.value(register("A")), "720");
 }
 
 /** A text and an input by the keyboard alone. */
@@ -301,6 +316,8 @@ async function typesATextAndInput(browser) {
   await browser.value(`document.activeElement.select()`);
   await browser.type("1 LIG13 K2 SP2 A1 FL2 LIP2 SP5 LIG14 K3 JL1 2 X4 G1L1 Z");
   await browser.key("Enter", CTRL);
+  await browser.keys("s", "Backspace");
+  expect("a letter in the field is no key", await browser.value(TEXT("count")), "0 carried out");
   await browser.keys("Escape", "i");
   await browser.type("abc");
   await browser.keys("Escape", "r");
