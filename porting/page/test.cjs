@@ -1,6 +1,6 @@
-// test [--only WORD] [--shots DIR]: opens index.html in a headless chromium and uses it: each example runs to its output, the
-// keyboard steps, sets breakpoints and runs, refusals are told with their places, and the speed is measured. It takes
-// docs/porting-page.png; with --shots it takes pictures at three widths, light and dark, into that folder too.
+// test [--only WORD] [--picture] [--shots DIR]: opens index.html in a headless chromium and uses it: each example runs to its
+// output, the keyboard steps, sets breakpoints and runs, refusals are told with their places, and the speed is measured. With
+// --picture it takes docs/porting-page.png anew; with --shots it takes pictures at three widths, light and dark, into that folder.
 //
 // CHROMIUM says which program is the browser. Where there is none, that is said, and the status is 0.
 "use strict";
@@ -413,8 +413,9 @@ async function pictures(browser) {
   const shots = wordBehind("--shots");
   await browser.size(1280, 800);
   await pose(browser);
-  await browser.picture(path.join(top, "docs/porting-page.png"));
-  expect("the picture's bytes", fs.statSync(path.join(top, "docs/porting-page.png")).size <= 200 * 1024, true);
+  const picture = path.join(words.includes("--picture") ? path.join(top, "docs") : browser.profile, "porting-page.png");
+  await browser.picture(picture);
+  expect("that the picture has at most 200 KB", fs.statSync(picture).size <= 200 * 1024, true);
   for (const width of [1400, 1000, 420]) {
     await browser.size(width, 900);
     expect(`at ${width}, how far the page is too wide`, await browser.value(`document.documentElement.scrollWidth - window.innerWidth`), 0);
