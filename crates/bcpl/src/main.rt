@@ -8,12 +8,6 @@ mod devices;
 mod explaining;
 mod loading;
 mod output;
-#[cfg(test)]
-mod program_tests;
-#[cfg(test)]
-mod stored_certificate;
-#[cfg(test)]
-mod tests;
 mod writing;
 
 use crate::commands::{Standard, Terminals, command_on};
