@@ -95,7 +95,11 @@ fn get_missing(
         if get.start == at {
             let name = crate::words::shown(alloc, get.name)?;
             let sentence = format!(in alloc; "no source has the name {name}")?;
-            let help = format!(in alloc; "say which file it is, by --get {name}=PATH")?;
+            let help = if get.name.eq_ignore_ascii_case(b"LIBHDR") {
+                String::from_str(alloc, "the header of the library is LIBHDR, in capitals")?
+            } else {
+                format!(in alloc; "say which file it is, by --get {name}=PATH")?
+            };
             let place = span(file, at, get.end.saturating_sub(at));
             return Message::new(alloc, main, place, sentence.as_str())?.helped(
                 alloc,
@@ -124,10 +128,13 @@ pub fn lexical_message(
         LexError::BadCharacter(file, at) => {
             let text = text_of(file);
             let place = span(file, at, character_size(text, at));
-            Message::new(alloc, main, place, "nothing begins with this character")?.helped(
+            Message::new(
                 alloc,
-                help_for_byte(text, at),
+                main,
+                place,
+                "no word, number or sign begins with this character",
             )?
+            .helped(alloc, help_for_byte(text, at))?
         }
         LexError::NumberTooLarge(file, at) => {
             let place = span(file, at, number_size(text_of(file), at));

@@ -39,7 +39,10 @@ fn undeclared_help(
                 "did you mean {near}? Names are as they are written, capitals and small letters apart"
             )?)
         }
-        None => None,
+        None => Some(String::from_str(
+            alloc,
+            "declare it in front of its use; capitals and small letters are told apart",
+        )?),
     })
 }
 
@@ -57,7 +60,7 @@ fn misplaced(token: Option<&Token<'_>>) -> (&'static str, &'static str) {
     match symbol {
         Some(Symbol::Break) => (
             "BREAK stands in no loop",
-            "it leaves the innermost loop of the same routine and VALOF",
+            "it leaves the innermost loop of the same routine and VALOF; a SWITCHON is left by ENDCASE",
         ),
         Some(Symbol::Loop) => (
             "LOOP stands in no loop",
@@ -146,7 +149,7 @@ fn nameless(fault: &ScopeFault, token: Option<&Token<'_>>) -> Option<(&'static s
         ),
         ScopeFault::NotAssignable => (
             "this has no cell, so it can't be assigned to and has no address",
-            "a cell have variables, statics, globals, !E and E1!E2",
+            "variables, statics, globals, !E and E1!E2 have one; a manifest, a routine and the value of an expression have none",
         ),
         ScopeFault::Misplaced => misplaced(token),
         ScopeFault::FrameTooLarge => (

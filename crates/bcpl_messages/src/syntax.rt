@@ -2,7 +2,7 @@ use crate::brackets::{open_before, tag};
 use crate::likeness::reserved_word;
 use crate::message::Message;
 use crate::trial::{Change, Reach, read_with};
-use crate::wanted::wanted_at;
+use crate::wanted::{could_stand, wanted_at};
 use crate::words::{is_symbol, shown};
 use bc_lex::{Source, lex};
 use bc_lex_tokens::{Symbol, Token, TokenKind};
@@ -44,6 +44,20 @@ const REMEDIES: [Remedy; 4] = [
     },
 ];
 
+/// The place behind the last token of a main; its end where the last one stands in another file.
+fn behind_last(tokens: &[Token<'_>], sources: &[Source<'_>], main: usize) -> Span {
+    let length = sources.get(main).map_or(0, |source| source.text.len());
+    let end = match tokens.last() {
+        Some(token) if token.file == main => token.end,
+        _ => length,
+    };
+    Span {
+        file: main,
+        start: end,
+        end,
+    }
+}
+
 /// The span of a token; of the end where there is no token of this index.
 pub fn span_of(tokens: &[Token<'_>], sources: &[Source<'_>], main: usize, index: usize) -> Span {
     match tokens.get(index) {
@@ -52,14 +66,7 @@ pub fn span_of(tokens: &[Token<'_>], sources: &[Source<'_>], main: usize, index:
             start: token.start,
             end: token.end,
         },
-        None => {
-            let length = sources.get(main).map_or(0, |source| source.text.len());
-            Span {
-                file: main,
-                start: length,
-                end: length,
-            }
-        }
+        None => behind_last(tokens, sources, main),
     }
 }
 
@@ -141,12 +148,13 @@ fn help_for_pair(before: Option<&Token<'_>>, at: Option<&Token<'_>>) -> Option<&
 /// What is said of the token that is refused by itself.
 fn help_for_token(token: Option<&Token<'_>>) -> Option<&'static str> {
     let TokenKind::Symbol(symbol) = token?.kind else {
-        return None
+        return None;
     };
     match symbol {
         Symbol::Else => Some(
             "ELSE and OR belong to TEST .. THEN .. ELSE; an IF has no second command",
         ),
+        Symbol::And => Some("AND goes on with a declaration that LET begins"),
         Symbol::Let | Symbol::Manifest | Symbol::Static | Symbol::Global => {
             Some(
                 "the declarations of a block stand in front of its commands; open a block by $( for further ones",
@@ -158,14 +166,71 @@ fn help_for_token(token: Option<&Token<'_>>) -> Option<&'static str> {
         | Symbol::Until
         | Symbol::For
         | Symbol::SwitchOn
-        | Symbol::Test => {
+        | Symbol::Test
+        | Symbol::Return
+        | Symbol::Break
+        | Symbol::OpenSection => {
             Some(
                 "this begins a command; where an expression stands, write VALOF $( .. RESULTIS E $)",
             )
         }
         Symbol::Vector => Some("a vector is declared by LET V = VEC K, alone in its definition"),
+        Symbol::ResultIs => Some("RESULTIS stands in VALOF $( .. $)"),
         _ => None,
     }
+}
+
+/// What is said of the place that is refused, by what could stand there.
+fn help_for_place(
+    alloc: Global,
+    tokens: &[Token<'_>],
+    index: usize,
+) -> Result<Option<&'static str>, Memory> {
+    let is_symbol_at = |at: usize, symbol: Symbol| match tokens.get(at) {
+        Some(token) => is_symbol(token, symbol),
+        None => false,
+    };
+    if is_symbol_at(index, Symbol::Semicolon)
+        && is_symbol_at(index.saturating_add(1), Symbol::Else)
+    {
+        return Ok(Some("no ; stands in front of ELSE"));
+    }
+    if could_stand(alloc, tokens, index, TokenKind::Symbol(Symbol::Else))? {
+        return Ok(Some(
+            "TEST has two commands, as in TEST E THEN C ELSE D; with one, write IF E DO C",
+        ));
+    }
+    if is_symbol_at(index, Symbol::Comma)
+        && could_stand(alloc, tokens, index, TokenKind::Symbol(Symbol::Colon))?
+    {
+        return Ok(Some(
+            "each value has its own: CASE 1: CASE 2: .. for two, and N:K; M:L in GLOBAL",
+        ));
+    }
+    let is_further = match read_with(alloc, tokens, index, Change::InsertBrackets)? {
+        Reach::End => true,
+        Reach::Behind(next) => next > index.saturating_add(1),
+        Reach::Before => false,
+    };
+    let follows_name = index > 0
+        && matches!(
+            tokens.get(index - 1),
+            Some(Token {
+                kind: TokenKind::Name(_),
+                ..
+            })
+        );
+    if is_further && follows_name {
+        return Ok(Some("a routine is declared and called with brackets, as in NEWLINE()"));
+    }
+    if could_stand(alloc, tokens, index, TokenKind::Symbol(Symbol::Let))?
+        && !could_stand(alloc, tokens, index, TokenKind::Symbol(Symbol::Return))?
+    {
+        return Ok(Some(
+            "outside routines stand declarations alone; commands stand in a routine, as in LET START() BE $( .. $)",
+        ));
+    }
+    Ok(None)
 }
 
 /// What may have been meant, where tokens can't be read on at this index.
@@ -196,7 +261,10 @@ fn help_for(alloc: Global, tokens: &[Token<'_>], index: usize) -> Result<Option<
         Some(help) => Some(help),
         None => match remedied(alloc, tokens, index)? {
             Some(help) => Some(help),
-            None => help_for_token(at),
+            None => match help_for_place(alloc, tokens, index)? {
+                Some(help) => Some(help),
+                None => help_for_token(at),
+            },
         },
     };
     Ok(match help {
@@ -220,12 +288,12 @@ fn expected(
             let text = shown(alloc, token.text)?;
             format!(in alloc; "{text} can't stand here")?
         }
-        None => String::from_str(alloc, "the file ends here, and something is missing")?,
+        None => String::from_str(alloc, "the file ends too early")?,
     };
     let sentence = if wanted.is_empty() {
         found
     } else {
-        format!(in alloc; "{found}; what could stand here: {wanted}")?
+        format!(in alloc; "{found}; here could stand {wanted}")?
     };
     let help = help_for(alloc, tokens, index)?;
     let message = Message::new(alloc, main, Some(place), sentence.as_str())?;

@@ -12,6 +12,8 @@ pub enum Change {
     Replace(TokenKind<'static>),
     /// A pair of section brackets stands in front of the token at the place.
     InsertSection,
+    /// A pair of round brackets stands there, on the line of the token in front of it.
+    InsertBrackets,
 }
 
 /// A token of this kind where another one stands.
@@ -57,6 +59,17 @@ pub fn read_with(
         Change::Replace(kind) => {
             changed.push(in_place(kind, &at))?;
             0
+        }
+        Change::InsertBrackets => {
+            let kinds = [Symbol::OpenBracket, Symbol::CloseBracket];
+            for symbol in kinds {
+                let token = in_place(TokenKind::Symbol(symbol), &at);
+                changed.push(Token {
+                    line_before: false,
+                    ..token
+                })?;
+            }
+            2
         }
         Change::InsertSection => {
             changed.push(in_place(TokenKind::Symbol(Symbol::OpenSection), &at))?;

@@ -1,35 +1,34 @@
 use crate::trial::{Change, Reach, read_with};
-use crate::words::spelling;
+use crate::words::quoted;
 use bc_lex_tokens::{Symbol, Token, TokenKind};
 use bc_word::Memory;
 use std::alloc::Global;
 
-/// The symbols that are told one by one where they could stand.
-const TOLD: [Symbol; 17] = [
+/// The symbols that are told one by one where they could stand, those that tell most first.
+const TOLD: [Symbol; 16] = [
     Symbol::Assign,
     Symbol::Do,
     Symbol::Else,
     Symbol::Be,
-    Symbol::Equal,
     Symbol::To,
     Symbol::By,
     Symbol::Into,
-    Symbol::And,
-    Symbol::Let,
-    Symbol::Vector,
-    Symbol::OpenBracket,
+    Symbol::Equal,
     Symbol::CloseBracket,
     Symbol::Comma,
     Symbol::Colon,
+    Symbol::OpenBracket,
     Symbol::Arrow,
+    Symbol::And,
+    Symbol::Let,
     Symbol::Semicolon,
 ];
 
 /// The most things that are told.
 const MOST: usize = 4;
 
-/// Whether a token of this kind could stand in front of the token at the place.
-fn could_stand(
+/// Whether a token of this kind could stand in front of the token at the place. Memory is answered where a growth was refused.
+pub fn could_stand(
     alloc: Global,
     tokens: &[Token<'_>],
     index: usize,
@@ -39,55 +38,96 @@ fn could_stand(
     Ok(reach != Reach::Before)
 }
 
-/// Adds a thing to a list of them.
-fn add(list: &mut String, count: usize, thing: &str) -> Result<(), Memory> {
-    if count > 0 {
-        list.push_str(", ")?;
-    }
-    list.push_str(thing)?;
-    Ok(())
+/// Whether a symbol could stand there.
+fn could_be(
+    alloc: Global,
+    tokens: &[Token<'_>],
+    index: usize,
+    symbol: Symbol,
+) -> Result<bool, Memory> {
+    could_stand(alloc, tokens, index, TokenKind::Symbol(symbol))
 }
 
-/// What could stand in front of the token at the place, in words, as "an expression" or "DO, :="; empty where that isn't known.
-/// It is found by trying, with the parser itself. Memory is answered where a growth was refused.
-pub fn wanted_at(alloc: Global, tokens: &[Token<'_>], index: usize) -> Result<String, Memory> {
-    let mut list = String::new(alloc);
-    let mut count: usize = 0;
-    let is_command = could_stand(alloc, tokens, index, TokenKind::Symbol(Symbol::Return))?;
-    let is_declaration = could_stand(alloc, tokens, index, TokenKind::Symbol(Symbol::Let))?;
-    let is_expression = could_stand(alloc, tokens, index, TokenKind::Number(0))?;
-    let is_name = could_stand(alloc, tokens, index, TokenKind::Name(b"N"))?;
+/// The kinds of constructs that could begin at a place.
+#[derive(Clone, Copy)]
+struct Beginnings {
+    declaration: bool,
+    command: bool,
+    expression: bool,
+    name: bool,
+    /// An expression that stands in front could go on.
+    operator: bool,
+}
+
+/// What could begin at a place.
+fn beginnings(alloc: Global, tokens: &[Token<'_>], index: usize) -> Result<Beginnings, Memory> {
+    Ok(Beginnings {
+        declaration: could_be(alloc, tokens, index, Symbol::Let)?,
+        command: could_be(alloc, tokens, index, Symbol::Return)?,
+        expression: could_stand(alloc, tokens, index, TokenKind::Number(0))?,
+        name: could_stand(alloc, tokens, index, TokenKind::Name(b"N"))?,
+        operator: could_be(alloc, tokens, index, Symbol::Multiply)?,
+    })
+}
+
+/// Whether a symbol goes without saying beside what could begin there.
+fn is_hidden(symbol: Symbol, begun: Beginnings) -> bool {
+    match symbol {
+        Symbol::Let => begun.declaration,
+        Symbol::OpenBracket => begun.expression || begun.command || begun.operator,
+        Symbol::Equal | Symbol::Arrow => begun.operator,
+        Symbol::And | Symbol::Semicolon => begun.declaration || begun.command || begun.operator,
+        _ => false,
+    }
+}
+
+/// The things that could stand in front of the token at the place.
+fn things(alloc: Global, tokens: &[Token<'_>], index: usize) -> Result<Vec<&'static str>, Memory> {
+    let begun = beginnings(alloc, tokens, index)?;
     let kinds = [
-        (is_declaration, "a declaration"),
-        (is_command, "a command"),
-        (is_expression && !is_command, "an expression"),
-        (is_name && !is_expression && !is_command, "a name"),
+        (begun.declaration, "a declaration"),
+        (begun.command, "a command"),
+        (begun.expression && !begun.command, "an expression"),
+        (begun.name && !begun.expression && !begun.command, "a name"),
     ];
+    let mut things = Vec::new(alloc);
     for (is_wanted, thing) in kinds {
         if is_wanted {
-            add(&mut list, count, thing)?;
-            count = count.saturating_add(1);
+            things.push(thing)?;
         }
     }
-    if !is_command && read_with(alloc, tokens, index, Change::InsertSection)? != Reach::Before {
-        add(&mut list, count, "$(")?;
-        count = count.saturating_add(1);
+    if !begun.command && read_with(alloc, tokens, index, Change::InsertSection)? != Reach::Before {
+        things.push("`$(`")?;
     }
     for symbol in TOLD {
-        let is_begun = is_command || is_expression || is_declaration;
-        let is_hidden = match symbol {
-            Symbol::Let => is_declaration,
-            Symbol::OpenBracket | Symbol::Vector => is_begun,
-            Symbol::Semicolon | Symbol::Arrow => count > 0,
-            _ => false,
-        };
-        if count < MOST
-            && !is_hidden
-            && could_stand(alloc, tokens, index, TokenKind::Symbol(symbol))?
+        if things.len() < MOST
+            && !is_hidden(symbol, begun)
+            && could_be(alloc, tokens, index, symbol)?
         {
-            add(&mut list, count, spelling(symbol))?;
-            count = count.saturating_add(1);
+            things.push(quoted(symbol))?;
         }
+    }
+    if begun.operator {
+        things.push("an operator")?;
+    }
+    Ok(things)
+}
+
+/// What could stand in front of the token at the place, in words, as "an expression" or "`DO` or `:=`"; empty where that isn't
+/// known. It is found by trying, with the parser itself. Memory is answered where a growth was refused.
+pub fn wanted_at(alloc: Global, tokens: &[Token<'_>], index: usize) -> Result<String, Memory> {
+    let things = things(alloc, tokens, index)?;
+    let count = things.len();
+    let mut list = String::new(alloc);
+    for (number, thing) in things.iter().enumerate() {
+        if number > 0 {
+            list.push_str(if number.saturating_add(1) == count {
+                " or "
+            } else {
+                ", "
+            })?;
+        }
+        list.push_str(thing)?;
     }
     Ok(list)
 }

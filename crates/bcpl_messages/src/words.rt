@@ -27,19 +27,17 @@ pub fn is_symbol(token: &Token<'_>, symbol: Symbol) -> bool {
     }
 }
 
-/// The spelling that a symbol is written with.
-pub fn spelling(symbol: Symbol) -> &'static str {
+/// The first spelling of a symbol, as a sentence quotes it; empty for one that no sentence names.
+pub fn quoted(symbol: Symbol) -> &'static str {
     match symbol {
-        Symbol::Assign => ":=",
-        Symbol::OpenSection => "$(",
-        Symbol::CloseSection => "$)",
-        Symbol::OpenBracket => "(",
-        Symbol::CloseBracket => ")",
-        Symbol::Comma => ",",
-        Symbol::Semicolon => ";",
-        Symbol::Colon => ":",
-        Symbol::Equal => "=",
-        Symbol::Arrow => "->",
+        Symbol::Assign => "`:=`",
+        Symbol::OpenBracket => "`(`",
+        Symbol::CloseBracket => "`)`",
+        Symbol::Comma => "`,`",
+        Symbol::Semicolon => "`;`",
+        Symbol::Colon => "`:`",
+        Symbol::Equal => "`=`",
+        Symbol::Arrow => "`->`",
         Symbol::Do => "DO",
         Symbol::Else => "ELSE",
         Symbol::Be => "BE",
@@ -48,7 +46,6 @@ pub fn spelling(symbol: Symbol) -> &'static str {
         Symbol::Into => "INTO",
         Symbol::Let => "LET",
         Symbol::And => "AND",
-        Symbol::Vector => "VEC",
         _ => "",
     }
 }
