@@ -1,0 +1,77 @@
+use crate::bytes::span;
+use crate::kind::Kind;
+use crate::source::{Source, Token};
+use bc_word::Memory;
+use std::alloc::Global;
+
+/// The tag of a section bracket, without underlines' spelling changed; empty where it has none.
+fn tag<'s>(text: &'s [u8], token: &Token) -> &'s [u8] {
+    let whole = span(text, token.start, token.end);
+    span(whole, 2, whole.len())
+}
+
+/// Whether a bracket that is open is closed by this token alone or at the latest.
+fn is_closed_by(text: &[u8], opening: &Token, closing: &Token) -> bool {
+    match closing.kind {
+        Kind::CloseRound => opening.kind == Kind::OpenRound,
+        _ => opening.kind == Kind::OpenSection
+            && (tag(text, closing).is_empty() || tag(text, opening) == tag(text, closing)),
+    }
+}
+
+/// Whether some bracket of a stack is closed by this token.
+fn closes_any(source: Source<'_>, open: &[usize], closing: &Token) -> bool {
+    open.iter().any(|index| match source.tokens.get(*index) {
+        Some(opening) => is_closed_by(source.text, opening, closing),
+        None => false,
+    })
+}
+
+/// Takes brackets from a stack up to the one that this token closes, and writes down that it closes them.
+fn close(
+    source: Source<'_>,
+    open: &mut Vec<usize>,
+    partners: &mut [usize],
+    index: usize,
+    closing: &Token,
+) {
+    for _ in 0..source.tokens.len() {
+        let Some(opener) = open.pop() else {
+            return;
+        };
+        if opener < partners.len() {
+            partners[opener] = index;
+        }
+        let is_last = match source.tokens.get(opener) {
+            Some(opening) => is_closed_by(source.text, opening, closing),
+            None => true,
+        };
+        if is_last {
+            return;
+        }
+    }
+}
+
+/// For each token that opens a bracket the index of the token that closes it; for the others, and where none does, the
+/// number of the tokens. A section bracket with a tag closes all up to the one with its tag.
+///
+/// # Errors
+///
+/// `Memory` where an allocation was refused.
+pub fn partners(alloc: Global, source: Source<'_>) -> Result<Vec<usize>, Memory> {
+    let count = source.tokens.len();
+    let mut partners = vec![in alloc; count; count]?;
+    let mut open = Vec::new(alloc);
+    for (index, token) in source.tokens.iter().enumerate() {
+        match token.kind {
+            Kind::OpenRound | Kind::OpenSection => open.push(index)?,
+            Kind::CloseRound | Kind::CloseSection => {
+                if closes_any(source, open.as_slice(), token) {
+                    close(source, &mut open, partners.as_mut_slice(), index, token);
+                }
+            }
+            _ => {}
+        }
+    }
+    Ok(partners)
+}

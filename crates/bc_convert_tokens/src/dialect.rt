@@ -1,0 +1,176 @@
+use crate::kind::Kind;
+use crate::source::{Source, Token};
+use crate::words::{is_same_word, is_small, reserved};
+use bc_word::Memory;
+use std::alloc::Global;
+
+/// What a source tells of the dialect that it is written in.
+#[derive(Clone, Copy, Debug, PartialEq, Eq)]
+pub struct Dialect {
+    /// Reserved words stand in small letters.
+    pub has_small_words: bool,
+    /// `*` and a round bracket right behind it are a subscript.
+    pub has_star_subscripts: bool,
+}
+
+impl Dialect {
+    /// The dialect of a source whose words are not told apart yet.
+    ///
+    /// Reserved words stand in small letters where the source begins with one, or where `let` and a word stand side by side,
+    /// which is no part of a source in this dialect. `*(` is a subscript where something is assigned to one.
+    pub fn of(source: Source<'_>) -> Dialect {
+        let has_small_words = begins_small(source) || has_small_let(source);
+        Dialect {
+            has_small_words,
+            has_star_subscripts: assigns_to_star(source),
+        }
+    }
+}
+
+/// Whether the first word is a reserved one in small letters.
+fn begins_small(source: Source<'_>) -> bool {
+    let first = source.bytes(0);
+    source.kind(0) == Kind::Word && is_small(first) && reserved(first, true).is_some()
+}
+
+/// Whether `let` stands in front of a word in the same line.
+fn has_small_let(source: Source<'_>) -> bool {
+    for index in 1..source.tokens.len() {
+        let is_in_line = !source.gap(index).contains(&b'\n');
+        if source.kind(index) == Kind::Word
+            && is_in_line
+            && source.bytes(index - 1) == b"let".as_slice()
+        {
+            return true;
+        }
+    }
+    false
+}
+
+/// Whether a `*` and a round bracket stand side by side, without a blank between them.
+fn is_star_subscript(source: Source<'_>, star: usize) -> bool {
+    source.kind(star) == Kind::Star
+        && source.kind(star.saturating_add(1)) == Kind::OpenRound
+        && source.end(star) == source.start(star.saturating_add(1))
+}
+
+/// Whether a command assigns to what `*(` begins the subscript of.
+fn assigns_to_star(source: Source<'_>) -> bool {
+    for star in 1..source.tokens.len() {
+        let closing = source.partner(star.saturating_add(1));
+        if is_star_subscript(source, star)
+            && source.kind(closing) == Kind::CloseRound
+            && source.kind(closing.saturating_add(1)) == Kind::Assign
+        {
+            return true;
+        }
+    }
+    false
+}
+
+/// Whether the word at an index, which is of a kind in old dialects, is a name there all the same: it is declared or assigned
+/// to, or what an operator needs does not follow it.
+fn is_used_as_name(source: Source<'_>, index: usize, kind: Kind) -> bool {
+    let before = if index == 0 {
+        &[]
+    } else {
+        source.bytes(index - 1)
+    };
+    let is_declared = is_same_word(before, b"LET")
+        || is_same_word(before, b"AND")
+        || is_same_word(before, b"FOR");
+    let is_operator = !matches!(kind, Kind::Constant | Kind::Joint);
+    match source.kind(index.saturating_add(1)) {
+        Kind::Assign | Kind::Colon => true,
+        Kind::Comma | Kind::CloseRound | Kind::Semicolon | Kind::Equal | Kind::Relation =>
+            is_declared || is_operator,
+        _ => is_declared,
+    }
+}
+
+/// Whether the word at an index is a name somewhere.
+fn is_name_somewhere(source: Source<'_>, index: usize, kind: Kind) -> bool {
+    for other in 0..source.tokens.len() {
+        if source.kind(other) == Kind::Word
+            && source.is_same(index, other)
+            && is_used_as_name(source, other, kind)
+        {
+            return true;
+        }
+    }
+    false
+}
+
+/// What the word at an index is.
+fn kind_of_word(source: Source<'_>, index: usize, dialect: Dialect) -> Kind {
+    match reserved(source.bytes(index), dialect.has_small_words) {
+        None => Kind::Name,
+        Some(word) if word.kind == Kind::Header => {
+            if source.kind(index.saturating_add(1)) == Kind::Text {
+                Kind::Header
+            } else {
+                Kind::Name
+            }
+        }
+        Some(word) if word.is_name_now && is_name_somewhere(source, index, word.kind) => Kind::Name,
+        Some(word) => word.kind,
+    }
+}
+
+/// What an opening square bracket behind such a token is: round behind an operand in the same line or where an operand is
+/// wanted, else that of a section.
+fn kind_of_square(before: Kind, is_separated: bool) -> Kind {
+    let opens_section = matches!(
+        before,
+        Kind::Be
+            | Kind::Joint
+            | Kind::Valof
+            | Kind::Manifest
+            | Kind::Static
+            | Kind::Global
+            | Kind::Semicolon
+            | Kind::Colon
+            | Kind::OpenSection
+            | Kind::CloseSection
+            | Kind::Foreign
+            | Kind::End
+    );
+    if opens_section || is_separated {
+        Kind::OpenSection
+    } else {
+        Kind::OpenRound
+    }
+}
+
+/// The tokens, with each word told apart and each square bracket taken for a round one or for that of a section.
+///
+/// # Errors
+///
+/// `Memory` where an allocation was refused.
+pub fn classified(
+    alloc: Global,
+    source: Source<'_>,
+    dialect: Dialect,
+) -> Result<Vec<Token>, Memory> {
+    let mut tokens = Vec::new(alloc);
+    let mut open = Vec::new(alloc);
+    let mut before = Kind::End;
+    for (index, token) in source.tokens.iter().enumerate() {
+        let kind = match token.kind {
+            Kind::Word => kind_of_word(source, index, dialect),
+            Kind::OpenSquare => {
+                let kind = kind_of_square(before, token.line_before && before.can_end());
+                open.push(kind)?;
+                kind
+            }
+            Kind::CloseSquare => match open.pop() {
+                Some(Kind::OpenSection) => Kind::CloseSection,
+                _ => Kind::CloseRound,
+            },
+            kind => kind,
+        };
+        tokens.push(Token { kind, ..*token })?;
+        before = kind;
+    }
+    Ok(tokens)
+}

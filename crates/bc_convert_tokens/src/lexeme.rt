@@ -1,0 +1,212 @@
+ghost use Rattle.std.specs.Prelude.{◌≡◌, ◌+◌, ◌<◌, ◌≤◌, length, IfSome};
+
+use crate::bytes::{behind, digit_bytes, hexadecimal_bytes, is_space, line_bytes, name_bytes};
+use crate::kind::Kind;
+
+/// Whether a block comment ends in front.
+fn closes(bytes: &[u8]) -> bool {
+    matches!(bytes, [b'*', b'/', ..])
+}
+
+/// How many bytes the block comment in front has, or `None` where it is not closed.
+fn block_comment(bytes: &[u8]) -> Option<usize>
+    requires { 2 ≤ length bytes.now }
+    ensures { IfSome result (λ n. n ≤ length bytes.now) }
+{
+    for at in 2..bytes.len() {
+        if at + 2 <= bytes.len() && closes(behind(bytes, at)) {
+            return Some(at + 2);
+        }
+    }
+    None
+}
+
+/// How many bytes the blank, the line break or the comment in front has, 0 where none stands there, or where a comment is
+/// not closed.
+fn blank(bytes: &[u8]) -> usize
+    ensures { result ≤ length bytes.now }
+{
+    match bytes {
+        [b'/', b'/', ..] | [b'|', b'|', ..] => line_bytes(bytes),
+        [b'/', b'*', ..] => block_comment(bytes).unwrap_or(0),
+        [byte, ..] if is_space(*byte) => 1,
+        _ => 0,
+    }
+}
+
+/// How many bytes of blanks, line breaks and comments stand in front.
+pub fn gap(bytes: &[u8]) -> usize
+    ensures { result ≤ length bytes.now }
+{
+    let mut at = 0;
+    for _ in 0..bytes.len() {
+        let count = blank(behind(bytes, at));
+        if count == 0 {
+            return at;
+        }
+        at += count;
+    }
+    at
+}
+
+/// How many bytes the string or the constant in front has, with the signs around it, or `None` where it is not closed. It
+/// goes over a line break only behind a `*`.
+fn quoted(bytes: &[u8], close: u8) -> Option<usize>
+    ensures { IfSome result (λ n. n ≤ length bytes.now) }
+{
+    let mut is_escaped = false;
+    let mut goes_on = false;
+    for (at, byte) in bytes.iter().enumerate() {
+        if at == 0 {
+            continue;
+        }
+        if is_escaped {
+            is_escaped = false;
+            goes_on = *byte == b'\n' || *byte == b'\r';
+        } else if goes_on && is_space(*byte) {
+            goes_on = true;
+        } else if goes_on && *byte == b'*' {
+            goes_on = false;
+        } else if *byte == b'*' {
+            is_escaped = true;
+        } else if *byte == close {
+            return Some(at + 1);
+        } else if *byte == b'\n' {
+            return None;
+        } else {
+            goes_on = false;
+        }
+    }
+    None
+}
+
+/// The number in front, with the number of its bytes.
+fn number(bytes: &[u8]) -> (Kind, usize)
+    ensures { result.1 ≤ length bytes.now }
+{
+    let whole = digit_bytes(bytes);
+    match behind(bytes, whole) {
+        [b'.', digit, ..] if digit.is_ascii_digit() => {
+            let fraction = digit_bytes(behind(bytes, whole + 1));
+            (Kind::Floating, whole + 1 + fraction)
+        }
+        _ => (Kind::Number, whole),
+    }
+}
+
+/// The number with a base in front, with the number of its bytes.
+fn based(bytes: &[u8]) -> (Kind, usize)
+    requires { 0 < length bytes.now }
+    ensures { result.1 ≤ length bytes.now }
+{
+    match bytes {
+        [b'#', b'X' | b'x', ..] => (Kind::Number, 2 + hexadecimal_bytes(behind(bytes, 2))),
+        [b'#', b'B' | b'b' | b'O' | b'o', ..] => (Kind::Number, 2 + digit_bytes(behind(bytes, 2))),
+        [b'#', digit, ..] if digit.is_ascii_digit() => (
+            Kind::Number,
+            1 + digit_bytes(behind(bytes, 1)),
+        ),
+        [
+            b'#',
+            b'+' | b'-' | b'*' | b'/' | b'=' | b'<' | b'>' | b'(',
+            ..
+        ] => (Kind::Floating, 2),
+        _ => (Kind::Unknown, 1),
+    }
+}
+
+/// The sign of two bytes in front.
+fn long_sign(bytes: &[u8]) -> Option<Kind>
+    ensures { IfSome result (λ _. 2 ≤ length bytes.now) }
+{
+    match bytes {
+        [b':', b'=', ..] => Some(Kind::Assign),
+        [b'-', b'>', ..] => Some(Kind::Arrow),
+        [b'~' | b'\\', b'=', ..] => Some(Kind::Relation),
+        [b'<' | b'>', b'=', ..] => Some(Kind::Relation),
+        [b'<', b'<', ..] | [b'>', b'>', ..] => Some(Kind::Shift),
+        [b'/', b'\\', ..] => Some(Kind::Conjunction),
+        [b'\\', b'/', ..] => Some(Kind::Disjunction),
+        [b'<', b'>', ..] | [b':', b':', ..] => Some(Kind::Foreign),
+        _ => None,
+    }
+}
+
+/// The sign of one byte.
+fn short_sign(byte: u8) -> Kind {
+    match byte {
+        b'(' => Kind::OpenRound,
+        b')' => Kind::CloseRound,
+        b'[' => Kind::OpenSquare,
+        b']' => Kind::CloseSquare,
+        b'{' => Kind::OpenSection,
+        b'}' => Kind::CloseSection,
+        b',' => Kind::Comma,
+        b';' => Kind::Semicolon,
+        b':' => Kind::Colon,
+        b'=' => Kind::Equal,
+        b'<' | b'>' => Kind::Relation,
+        b'+' | b'-' => Kind::Add,
+        b'*' => Kind::Star,
+        b'/' => Kind::Divide,
+        b'~' | b'\\' | 0xac => Kind::Not,
+        b'&' => Kind::Conjunction,
+        b'|' => Kind::Disjunction,
+        b'!' => Kind::Bang,
+        b'%' => Kind::Percent,
+        b'@' => Kind::Address,
+        b'?' => Kind::Query,
+        b'_' => Kind::Underline,
+        _ => Kind::Unknown,
+    }
+}
+
+/// The sign in front, a section bracket with its whole tag, with the number of its bytes.
+fn sign(bytes: &[u8]) -> (Kind, usize)
+    requires { 0 < length bytes.now }
+    ensures { result.1 ≤ length bytes.now }
+{
+    match bytes {
+        [b'$', b'(', ..] => (Kind::OpenSection, 2 + name_bytes(behind(bytes, 2))),
+        [b'$', b')', ..] => (Kind::CloseSection, 2 + name_bytes(behind(bytes, 2))),
+        [0xc2, 0xac, b'=', ..] => (Kind::Relation, 3),
+        [0xc2, 0xac, ..] => (Kind::Not, 2),
+        [b'/', b'*', ..] => (Kind::Unclosed, bytes.len()),
+        _ => match long_sign(bytes) {
+            Some(kind) => (kind, 2),
+            None => (short_sign(bytes[0]), 1),
+        },
+    }
+}
+
+/// The string or the character constant in front, with the number of its bytes; one that is not closed goes to the end of
+/// its line.
+fn quoted_token(bytes: &[u8], close: u8, kind: Kind) -> (Kind, usize)
+    ensures { result.1 ≤ length bytes.now }
+{
+    match quoted(bytes, close) {
+        Some(count) => (kind, count),
+        None => (Kind::Unclosed, line_bytes(bytes)),
+    }
+}
+
+/// The token in front, where no blank and no comment stands, with the number of its bytes.
+pub fn lexeme(bytes: &[u8]) -> (Kind, usize)
+    requires { 0 < length bytes.now }
+    ensures { result.1 ≤ length bytes.now }
+{
+    let first = bytes[0];
+    if first.is_ascii_alphabetic() {
+        (Kind::Word, name_bytes(bytes))
+    } else if first.is_ascii_digit() {
+        number(bytes)
+    } else if first == b'#' {
+        based(bytes)
+    } else if first == b'"' {
+        quoted_token(bytes, b'"', Kind::Text)
+    } else if first == b'\'' {
+        quoted_token(bytes, b'\'', Kind::Character)
+    } else {
+        sign(bytes)
+    }
+}

@@ -1,0 +1,33 @@
+ghost use Rattle.std.specs.Prelude.{◌≤◌, length};
+
+use crate::bytes::{behind, span};
+use crate::lexeme::{gap, lexeme};
+use crate::source::Token;
+use bc_word::Memory;
+use std::alloc::Global;
+
+/// The tokens of a text, with words that are not told apart yet.
+///
+/// # Errors
+///
+/// `Memory` where an allocation was refused.
+pub fn lex(alloc: Global, text: &[u8]) -> Result<Vec<Token>, Memory> {
+    let mut tokens = Vec::new(alloc);
+    let mut at = 0;
+    for _ in 0..text.len() {
+        let start = at + gap(behind(text, at));
+        let rest = behind(text, start);
+        if rest.is_empty() {
+            return Ok(tokens);
+        }
+        let (kind, count) = lexeme(rest);
+        tokens.push(Token {
+            kind,
+            start,
+            end: start + count,
+            line_before: span(text, at, start).contains(&b'\n'),
+        })?;
+        at = start + count;
+    }
+    Ok(tokens)
+}

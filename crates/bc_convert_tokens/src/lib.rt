@@ -1,0 +1,19 @@
+//! The tokens of sources in old dialects of the language, with what each is and where it stands.
+#![tactic(auto)]
+
+mod brackets;
+mod bytes;
+mod dialect;
+mod kind;
+mod lexeme;
+mod lexing;
+mod source;
+mod words;
+
+pub use brackets::partners;
+pub use bytes::{behind, is_name_byte, span};
+pub use dialect::{Dialect, classified};
+pub use kind::Kind;
+pub use lexing::lex;
+pub use source::{Source, Token};
+pub use words::{ReservedWord, reserved};

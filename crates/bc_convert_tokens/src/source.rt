@@ -1,0 +1,81 @@
+use crate::bytes::span;
+use crate::kind::Kind;
+
+/// A token: what it is, its first byte and the byte behind it, and whether a line break stands in front of it.
+#[derive(Clone, Copy, Debug)]
+pub struct Token {
+    pub kind: Kind,
+    pub start: usize,
+    pub end: usize,
+    pub line_before: bool,
+}
+
+/// A text, its tokens, and for each token that opens a bracket the index of the one that closes it.
+#[derive(Clone, Copy, Debug)]
+pub struct Source<'s> {
+    pub text: &'s [u8],
+    pub tokens: &'s [Token],
+    pub partners: &'s [usize],
+}
+
+impl<'s> Source<'s> {
+    /// What the token at an index is; `End` behind the last one.
+    pub fn kind(self, index: usize) -> Kind {
+        self.tokens.get(index).map_or(Kind::End, |token| token.kind)
+    }
+
+    /// The bytes of the token at an index, or none.
+    pub fn bytes(self, index: usize) -> &'s [u8] {
+        match self.tokens.get(index) {
+            Some(token) => span(self.text, token.start, token.end),
+            None => &[],
+        }
+    }
+
+    /// The bytes between a token and the one in front of it.
+    pub fn gap(self, index: usize) -> &'s [u8] {
+        let start = if index == 0 { 0 } else { self.end(index - 1) };
+        span(self.text, start, self.start(index))
+    }
+
+    /// Where a token begins; behind the last one, where the text ends.
+    pub fn start(self, index: usize) -> usize {
+        self.tokens
+            .get(index)
+            .map_or(self.text.len(), |token| token.start)
+    }
+
+    /// Where a token ends; behind the last one, where the text ends.
+    pub fn end(self, index: usize) -> usize {
+        self.tokens
+            .get(index)
+            .map_or(self.text.len(), |token| token.end)
+    }
+
+    /// The index of the token that closes the bracket at an index, or the number of the tokens.
+    pub fn partner(self, index: usize) -> usize {
+        self.partners
+            .get(index)
+            .copied()
+            .unwrap_or(self.tokens.len())
+    }
+
+    /// Whether a line break or a semicolon separates the token at an index from what stands in front of it.
+    pub fn is_separated(self, index: usize) -> bool {
+        if index == 0 {
+            return true;
+        }
+        let is_on_a_new_line = self
+            .tokens
+            .get(index)
+            .is_some_and(|token| token.line_before);
+        let before = self.kind(index - 1);
+        before == Kind::Semicolon
+            || is_on_a_new_line && before.can_end() && self.kind(index).can_begin()
+    }
+
+    /// Whether two tokens are spelled with the same bytes.
+    pub fn is_same(self, one: usize, other: usize) -> bool {
+        self.bytes(one) == self.bytes(other)
+    }
+}
