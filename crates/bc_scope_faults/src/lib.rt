@@ -7,6 +7,7 @@ mod progress;
 
 pub use faults::judge;
 pub use judging::{
-    Allowed, address_fault, all_held, entry_fault, has_cell, jump_fault, level_at, name_fault, widest,
+    Allowed, address_fault, all_held, entry_fault, has_cell, jump_fault, level_at, name_fault,
+    widest,
 };
 pub use progress::{Extent, Progress};

@@ -164,7 +164,8 @@ impl<'s> Walk<'s> {
             let level = level_at(levels, side.widths.len() as u64);
             let width = self.expression(false, e, level)?;
             side.widths.push(width)?;
-            side.leaves.push(Leaves::expression(first, self.last(first), e))?;
+            side.leaves
+                .push(Leaves::expression(first, self.last(first), e))?;
         }
         Ok(side)
     }

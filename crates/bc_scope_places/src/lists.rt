@@ -131,7 +131,11 @@ impl<'s> Walk<'s> {
     /// CASE with its value. One that may not stand here is at fault by its word alone.
     fn case(&self, of_list: &mut OfList<'s>, value: u16, at: Leaves) -> Result<(), End<'s>> {
         if !of_list.cases {
-            self.stop(ScopeError::Misplaced, Leaves::one(at.first), Beside::Nothing)?;
+            self.stop(
+                ScopeError::Misplaced,
+                Leaves::one(at.first),
+                Beside::Nothing,
+            )?;
         }
         match of_list.values.insert(value, at)? {
             Some(first) => self.stop(ScopeError::CaseTwice, at, Beside::First(first)),

@@ -144,12 +144,7 @@ impl<'s> Walk<'s> {
     }
 
     /// A fault ends the walk, unless an earlier one still waits.
-    pub fn stop(
-        &self,
-        fault: ScopeError<'s>,
-        at: Leaves,
-        beside: Beside,
-    ) -> Result<(), End<'s>> {
+    pub fn stop(&self, fault: ScopeError<'s>, at: Leaves, beside: Beside) -> Result<(), End<'s>> {
         match self.awaited {
             Some(_) => Ok(()),
             None => Err(End::Found(Found { fault, at, beside })),
@@ -157,11 +152,7 @@ impl<'s> Walk<'s> {
     }
 
     /// What judging a name answered, which stands at this leaf.
-    pub fn judged(
-        &mut self,
-        answer: Result<(), ScopeError<'s>>,
-        leaf: u64,
-    ) -> Result<(), End<'s>> {
+    pub fn judged(&mut self, answer: Result<(), ScopeError<'s>>, leaf: u64) -> Result<(), End<'s>> {
         match answer {
             Ok(()) => Ok(()),
             Err(ScopeError::Memory) => Err(End::Memory),
@@ -231,10 +222,12 @@ impl<'s> Walk<'s> {
 
     /// A variable more, at this leaf.
     pub fn know_at(&mut self, name: &'s [u8], leaf: u64) -> Result<(), Memory> {
-        Ok(self.known.push(Known {
-            name,
-            leaf: Some(leaf),
-        })?)
+        Ok(
+            self.known.push(Known {
+                name,
+                leaf: Some(leaf),
+            })?,
+        )
     }
 
     /// This one of what is known is declared at this leaf.

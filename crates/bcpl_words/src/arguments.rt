@@ -124,7 +124,10 @@ fn build_command<'a>(alloc: Global) -> Result<Command<'a>, AllocError> {
             "Compiles BCPL sources to INTCODE text, with a certificate that their code is of least size",
         )
         .after_help(
-            "Each FILE is a section and becomes a segment; the library BLIB stands in front of them as the first segment,\nand GET \"LIBHDR\" declares what it has. Behind `ok` are printed the numbers of segments and of entries of the\ncertificate, and the address at which the stack begins.\n\nExample:\n  bcpl build --out hello.int --cert hello.cert hello.bcpl",
+            "Each FILE is a section and becomes a segment; the library BLIB stands in front of them as the first segment,\n\
+             and GET \"LIBHDR\" declares what it has. Behind `ok` are printed the numbers of segments and of entries of the\n\
+             certificate, and the address at which the stack begins.\n\n\
+             Example:\n  bcpl build --out hello.int --cert hello.cert hello.bcpl",
         )
         .arg(
             Arg::new(alloc, "out")
@@ -175,7 +178,9 @@ fn run_command<'a>(alloc: Global) -> Result<Command<'a>, AllocError> {
     Command::new(alloc, "run")
         .about("Links INTCODE texts behind the primitives and runs them")
         .after_help(
-            "Input 1 is standard input, under the name SYSIN; output 1 is standard output, under the name SYSPRINT.\nA run that ends otherwise than by finishing is told on standard error, with status 2.\n\nExample:\n  bcpl run --steps 1000000 --in DATA=data.txt hello.int",
+            "Input 1 is standard input, under the name SYSIN; output 1 is standard output, under the name SYSPRINT.\n\
+             A run that ends otherwise than by finishing is told on standard error, with status 2.\n\n\
+             Example:\n  bcpl run --steps 1000000 --in DATA=data.txt hello.int",
         )
         .arg(
             Arg::new(alloc, "steps")
@@ -202,7 +207,9 @@ fn check_command<'a>(alloc: Global) -> Result<Command<'a>, AllocError> {
     Command::new(alloc, "check")
         .about("Checks a certificate of least size, and that texts have the code that it lists")
         .after_help(
-            "A yes says of each expression, test and assignment of the certificate that no derivation from the rule table\nhas fewer words. Behind `ok` are printed the number of entries and the sum of their words.\n\nExample:\n  bcpl check hello.cert hello.int",
+            "A yes says of each expression, test and assignment of the certificate that no derivation from the rule table\n\
+             has fewer words. Behind `ok` are printed the number of entries and the sum of their words.\n\n\
+             Example:\n  bcpl check hello.cert hello.int",
         )
         .arg(
             Arg::new(alloc, "CERT")
@@ -224,7 +231,9 @@ fn program<'a>(alloc: Global) -> Result<Command<'a>, AllocError> {
     Command::new(alloc, "bcpl")
         .about("Compiles BCPL to INTCODE, and assembles, links and runs it")
         .after_help(
-            "With no words at all, the INTCODE text on standard input is run for at most 1,000,000 instructions,\nwith an empty input.\n\nExample:\n  bcpl build --out hello.int hello.bcpl\n  bcpl run --steps 1000000 hello.int",
+            "With no words at all, the INTCODE text on standard input is run for at most 1,000,000 instructions,\n\
+             with an empty input.\n\n\
+             Example:\n  bcpl build --out hello.int hello.bcpl\n  bcpl run --steps 1000000 hello.int",
         )
         .bin_name("bcpl")?
         .no_binary_name(true)
