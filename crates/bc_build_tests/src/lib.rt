@@ -1,9 +1,5 @@
-//! Programs that are built and run: tests of all parts together.
+//! What the program can't be asked to build.
 #![tactic(auto)]
 
 #[cfg(test)]
-mod refusals;
-#[cfg(test)]
-mod runs;
-#[cfg(test)]
-mod texts;
+mod tests;

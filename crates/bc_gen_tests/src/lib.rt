@@ -1,4 +1,4 @@
-//! Tests of `generate` on sources: each form of command with its items, and the last label.
+//! The generator where memory is refused, and once where it is given.
 #![tactic(auto)]
 
 #[cfg(test)]

@@ -1,4 +1,3 @@
-mod faults;
 mod gets;
 mod library;
 mod tokens;
@@ -35,21 +34,6 @@ fn expect_kinds(
     );
     for (token, kind) in tokens.iter().zip(expected) {
         assert!(rt; token.kind == *kind, "{token:?} is not {kind:?}");
-    }
-    Ok(())
-}
-
-/// That a text has this fault.
-fn expect_fault(
-    rt: &impl Abort,
-    alloc: Global,
-    text: &[u8],
-    expected: LexError,
-) -> Result<(), Fail> {
-    match tokens_of(alloc, text) {
-        Ok(_) => assert!(rt; false, "{text:?} has tokens"),
-        Err(LexError::Memory) => return Err(LexError::Memory.into()),
-        Err(error) => assert_eq!(rt; error, expected, "in {text:?}"),
     }
     Ok(())
 }

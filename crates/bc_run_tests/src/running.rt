@@ -48,61 +48,6 @@ fn ran<R: Read + Drop>(
     Ok((answer, output))
 }
 
-#[test]
-fn texts_run(rt: HostRuntime) -> Result<(), Fail> {
-    let echo: &[u8] = b"1 LIG13 K2 SP4 LIG14 K2 X4 G1L1 Z";
-    let switch: &[u8] = b"1 L3 X23 D1 DL2 D1 DL3 2 X4 3 L65 SP4 LIG14 K2 X4 G1L1 Z";
-    let chosen: &[u8] = b"1 L1 X23 D1 DL2 D1 DL3 2 X4 3 L65 SP4 LIG14 K2 X4 G1L1 Z";
-    let table: [(&[u8], &[u8], u64, End, &[u8]); 9] = [
-        (HELLO, b"", 12, End::Finished, b"A"),
-        (HELLO, b"", 11, End::BudgetSpent, b"A"),
-        (echo, b"h", 15, End::Finished, b"h"),
-        (echo, b"h", 14, End::BudgetSpent, b"h"),
-        (echo, b"", 15, End::Finished, b"\xff"),
-        (switch, b"", 1000, End::Finished, b""),
-        (chosen, b"", 1000, End::Finished, b"A"),
-        (
-            b"1 X30 G1L1 Z",
-            b"",
-            1000,
-            End::BadInstruction(Word::new(546)),
-            b"",
-        ),
-        (b"Z", b"", 1000, End::BudgetSpent, b""),
-    ];
-    for (text, input, steps, end, wanted) in table {
-        let (answer, output) = ran(rt.alloc(), text, input, steps)?;
-        assert_eq!(rt; answer, Ok(end));
-        assert_eq!(rt; output.as_slice(), wanted);
-    }
-    Ok(())
-}
-
-#[test]
-fn texts_are_refused(rt: HostRuntime) -> Result<(), Fail> {
-    let table: [(&[u8], RunFault); 5] = [
-        (b"Q", RunFault::Text(TextError::BadCharacter(0))),
-        (b"L65536 Z", RunFault::Text(TextError::BadNumber(1))),
-        (b"L5", RunFault::Text(TextError::Unended)),
-        (
-            b"1 1 G14L1 LL7 Z",
-            RunFault::Link(LinkError::LabelTwice(1, Word::new(1))),
-        ),
-        (
-            b"LL7 Z",
-            RunFault::Link(LinkError::LabelUnset(1, Word::new(7))),
-        ),
-    ];
-    for (text, fault) in table {
-        let (answer, output) = ran(rt.alloc(), text, b"", 1000)?;
-        assert_eq!(rt; answer, Err(fault));
-        assert_eq!(rt; output.len(), 0);
-    }
-    let (answer, _) = ran(rt.alloc(), b"1 X4 G14L1 Z".as_slice(), b"", 1000)?;
-    assert!(rt; matches!(&answer, Err(RunFault::Link(LinkError::GlobalTwice(_)))));
-    Ok(())
-}
-
 /// A reader that gives a byte a call, and fails where `left` calls are over.
 #[derive(Drop)]
 struct Failing<'a> {

@@ -1,4 +1,4 @@
-//! Tests of `resolve` on sources.
+//! Names: the calls that no source shows, and where memory is refused.
 #![tactic(auto)]
 
 #[cfg(test)]

@@ -9,13 +9,7 @@ mod devices;
 mod failure;
 mod loading;
 mod output;
-#[cfg(test)]
-mod program_tests;
 mod refusals;
-#[cfg(test)]
-mod stored_certificate;
-#[cfg(test)]
-mod tests;
 
 use crate::commands::command;
 use std::process::ExitCode;
