@@ -116,7 +116,8 @@ rest call (machine.RepeatWhileBody E b sense e s) a =
 rest call (machine.RepeatWhiles E b sense e s) a =
     on_verdict (λ t. around (repeat_while_round (context_at call E) b sense e E.frame s) (choose (agrees sense t) back leave)) a
 rest call (machine.Limits E limit by b s) a =
-    on_nothing (then_do (value (context_at call E) limit E.frame (level_in_for s)) (λ n. then_do (repeated (for_round (context_at call E) n by b E.frame s) tt) out)) a
+    on_nothing (then_do (value (context_at call E) limit E.frame (level_in_for s)) (λ n.
+    then_do (repeated (for_round (context_at call E) n by b E.frame s) tt) out)) a
 rest call (machine.Fors E by b s) a = on_number (λ n. then_do (repeated (for_round (context_at call E) n by b E.frame s) tt) out) a
 rest call (machine.ForBody E limit by b s) a =
     on_exit (λ x. around (for_round (context_at call E) limit by b E.frame s) (behind_body (for_step (context_at call E) by E.frame s) x)) a
