@@ -1,0 +1,12 @@
+pub mod Alike
+pub mod Doing
+pub mod Fuel
+pub mod Joining
+pub mod Kept
+pub mod Lessening
+pub mod Quiet
+pub mod Resting
+pub mod Rounds
+pub mod Running
+pub mod Spending
+pub mod Worths

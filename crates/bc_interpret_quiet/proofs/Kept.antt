@@ -1,0 +1,47 @@
+-- Each step keeps what is left, and lessens it.
+use Rattle.std.proofs.Common.{◌≡◌, ◌<◌, ℕ, List, [], ◌∷◌, Option, Some, None, refl, sym, ap, subst, ◌∙◌, Bool}
+use Rattle.bc_interpret_defs.specs.Quiet.{QuietWork, QuietRest, QuietAt, quiet_step, quiet_meant, quiet_after, quiet_weight, IsLighter, QuietMoves, as_number}
+use Rattle.bc_interpret_defs.specs.Quiet as quiet
+use Rattle.bc_interpret_laws.proofs.Worths.{quiet_steps_keep, quiet_steps_lessen}
+use Rattle.bc_interpret_quiet.specs.declared.forms.Step.{Step}
+use Rattle.bc_interpret_quiet.specs.declared.forms.Step.TheVariants as steps
+use Rattle.bc_interpret_quiet.specs.Views.{work_of, Came, Kept}
+
+-- what came of a step keeps what is left
+pub kept : (S : quiet.Sight) (w : QuietWork) (rs : List QuietRest) (p : Step) (rs1 : List QuietRest) → QuietMoves w rs → Came p (quiet_step S w rs) rs1 → Kept p S w rs rs1
+kept S w rs (steps.On next) rs1 m h =
+    (sym (quiet_steps_keep S w rs ∙ ap (quiet_after S) h), subst (IsLighter (quiet_weight w rs)) h (quiet_steps_lessen S w rs m))
+kept S w rs (steps.Number v) rs1 m h = absurd h
+kept S w rs (steps.Verdict t) rs1 m h = absurd h
+kept S w rs steps.Divides rs1 m h = absurd h
+kept S w rs (steps.Fails c) rs1 m h = quiet_steps_keep S w rs ∙ ap (quiet_after S) h
+
+-- the same where something was left to do
+pub kept_behind : (S : quiet.Sight) (w : QuietWork) (rs : List QuietRest) (r : QuietRest) (rs0 : List QuietRest) (p : Step) (rs1 : List QuietRest) → rs ≡ r ∷ rs0 → QuietMoves w (r ∷ rs0) → Came p (quiet_step S w (r ∷ rs0)) rs1 → Kept p S w rs rs1
+kept_behind S w rs r rs0 p rs1 e m h = subst (λ q. Kept p S w q rs1) (sym e) (kept S w (r ∷ rs0) p rs1 m h)
+
+-- and at the end
+pub number_left : (S : quiet.Sight) (v : ℕ) (rs : List QuietRest) → rs ≡ [] → quiet_meant S (quiet.Give (quiet.Number v)) rs ≡ quiet.Is (quiet.Number v)
+number_left S v rs e = ap (quiet_meant S (quiet.Give (quiet.Number v))) e
+
+-- what is worth a number is that number
+pub number_is : (w : quiet.Worth ℕ) (v : ℕ) → as_number w ≡ quiet.Is (quiet.Number v) → quiet.Is v ≡ w
+number_is (quiet.Is x) v e = cc
+number_is quiet.Divides v e = cc
+number_is quiet.Fails v e = cc
+
+pub divides_is : (w : quiet.Worth ℕ) → as_number w ≡ quiet.Divides → quiet.Divides ≡ w
+divides_is (quiet.Is x) e = cc
+divides_is quiet.Divides e = refl
+divides_is quiet.Fails e = cc
+
+pub fails_is : (w : quiet.Worth ℕ) → as_number w ≡ quiet.Fails → quiet.Fails ≡ w
+fails_is (quiet.Is x) e = cc
+fails_is quiet.Divides e = cc
+fails_is quiet.Fails e = refl
+
+-- no number is a truth
+pub no_verdict : (w : quiet.Worth ℕ) (t : Bool) → as_number w ≡ quiet.Is (quiet.Verdict t) → quiet.Fails ≡ w
+no_verdict (quiet.Is x) t e = cc
+no_verdict quiet.Divides t e = cc
+no_verdict quiet.Fails t e = cc

@@ -1,0 +1,4 @@
+pub mod Kept
+pub mod Stacks
+pub mod Steps
+pub mod Waits

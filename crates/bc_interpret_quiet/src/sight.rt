@@ -1,0 +1,42 @@
+// What an expression is worked out over, and why it fails.
+
+ghost use Rattle.std.specs.Prelude.{◌≡◌, ◌+◌, ◌%◌, IfOk};
+
+use bc_interpret_store::Store;
+use bc_word::Memory;
+
+/// What an expression reads: the cells, the address of each label of its section, by label, and the address of the frame's first cell.
+#[derive(Clone, Copy)]
+pub struct Sight<'c> {
+    pub store: &'c Store,
+    pub addresses: &'c [u16],
+    pub frame: usize,
+}
+
+/// A wild access.
+#[derive(Clone, Copy, Debug, PartialEq, Eq)]
+pub enum Cause {
+    /// The cell at this address was read, and is live, but nothing was ever put into it.
+    Unset(u16),
+    /// The cell at this address was read, and isn't live.
+    Dead(u16),
+    /// The cell at this address was to be written, and isn't live.
+    NoCell(u16),
+    /// This value was called, and is the address of no routine.
+    NotRoutine(u16),
+    /// A routine was called whose frame would begin at this address and pass the address 65,535.
+    FrameTooLarge(usize),
+    /// The program has a part that no source gives: a VALOF that isn't there, or a jump out of a routine.
+    Malformed,
+}
+
+/// The address of the cell at this offset of the frame at this address.
+///
+/// `Memory` comes where no number is so great, which no frame is.
+#[inline(always)]
+pub fn cell_of(frame: usize, offset: usize) -> Result<u16, Memory>
+    ensures { IfOk result (λ a. a ≡ (frame + offset) % 65536) }
+{
+    let address = frame.checked_add(offset).ok_or(Memory)? % 65536;
+    u16::try_from(address).map_err(|_| Memory)
+}

@@ -1,0 +1,8 @@
+//! The store of a run of the source: cells, each of which is dead, or live and unset, or live with a word.
+#![tactic(auto)]
+
+mod cell;
+mod store;
+
+pub use cell::Cell;
+pub use store::Store;
