@@ -2,7 +2,7 @@
 
 use bc_build::{BuildError, build};
 use bc_word::Memory;
-use bcpl_messages::{Named, is_set, message_of, report};
+use bcpl_messages::{Named, is_set, message_of, told_lines};
 use std::alloc::Global;
 
 /// The most refusals that are told.
@@ -26,7 +26,7 @@ fn lines_of(
     fault: &BuildError,
 ) -> Result<String, Memory> {
     match message_of(alloc, program.named.sources, program.mains, fault)? {
-        Some(message) => report(alloc, program.named, &message),
+        Some(message) => told_lines(alloc, program.named, &message),
         None => Ok(String::new(alloc)),
     }
 }

@@ -60,7 +60,7 @@ impl Failure {
 
     /// This failure with further lines.
     pub fn with(self, told: String) -> Failure
-        ensures { result.cause ≡ self.entry.cause }
+        ensures { result.cause ≡ self.cause }
     {
         Failure {
             cause: self.cause,

@@ -16,4 +16,4 @@ mod words;
 
 pub use linking::is_set;
 pub use message::{Message, Note, message_of};
-pub use report::{Named, report};
+pub use report::{Named, told_lines};

@@ -83,32 +83,36 @@ fn add_way(
 
 /// The lines that a message is told in: the place with the sentence, the line with a mark, the GETs that led there, further places,
 /// and the help. Memory is answered where a growth was refused.
-pub fn report(alloc: Global, named: Named<'_, '_>, message: &Message) -> Result<String, Memory> {
-    let mut report = String::new(alloc);
+pub fn told_lines(
+    alloc: Global,
+    named: Named<'_, '_>,
+    message: &Message,
+) -> Result<String, Memory> {
+    let mut lines = String::new(alloc);
     match message.span {
         Some(span) => {
-            add_position(alloc, &mut report, named, span)?;
+            add_position(alloc, &mut lines, named, span)?;
             let sentence = message.sentence.as_str();
-            writeln!(report, ": {sentence}")?;
-            add_excerpt(alloc, &mut report, named, span)?;
-            add_way(alloc, &mut report, named, message.main, span)?;
+            writeln!(lines, ": {sentence}")?;
+            add_excerpt(alloc, &mut lines, named, span)?;
+            add_way(alloc, &mut lines, named, message.main, span)?;
         }
         None => {
             let path = named.path(message.main);
             let sentence = message.sentence.as_str();
-            writeln!(report, "{path}: {sentence}")?;
+            writeln!(lines, "{path}: {sentence}")?;
         }
     }
     for note in &message.notes {
-        report.push_str("  ")?;
-        add_position(alloc, &mut report, named, note.span)?;
+        lines.push_str("  ")?;
+        add_position(alloc, &mut lines, named, note.span)?;
         let sentence = note.sentence.as_str();
-        writeln!(report, ": {sentence}")?;
-        add_excerpt(alloc, &mut report, named, note.span)?;
+        writeln!(lines, ": {sentence}")?;
+        add_excerpt(alloc, &mut lines, named, note.span)?;
     }
     if let Some(help) = &message.help {
         let help = help.as_str();
-        writeln!(report, "  help: {help}")?;
+        writeln!(lines, "  help: {help}")?;
     }
-    Ok(report)
+    Ok(lines)
 }

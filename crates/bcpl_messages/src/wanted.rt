@@ -60,7 +60,7 @@ struct Beginnings {
 }
 
 /// What could begin at a place.
-fn beginnings(alloc: Global, tokens: &[Token<'_>], index: usize) -> Result<Beginnings, Memory> {
+fn what_begins(alloc: Global, tokens: &[Token<'_>], index: usize) -> Result<Beginnings, Memory> {
     Ok(Beginnings {
         declaration: could_be(alloc, tokens, index, Symbol::Let)?,
         command: could_be(alloc, tokens, index, Symbol::Return)?,
@@ -83,7 +83,7 @@ fn is_hidden(symbol: Symbol, begun: Beginnings) -> bool {
 
 /// The things that could stand in front of the token at the place.
 fn things(alloc: Global, tokens: &[Token<'_>], index: usize) -> Result<Vec<&'static str>, Memory> {
-    let begun = beginnings(alloc, tokens, index)?;
+    let begun = what_begins(alloc, tokens, index)?;
     let kinds = [
         (begun.declaration, "a declaration"),
         (begun.command, "a command"),
