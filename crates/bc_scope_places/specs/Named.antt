@@ -1,5 +1,6 @@
 -- The token at a place has the name of a fault, where the fault has one.
 use Rattle.std.specs.Prelude.{◌≡◌, ℕ, List, Option, Some, None, slice_get}
+use Rattle.std.specs.Borrow.{Bor}
 use Rattle.bc_lex_tokens.specs.declared.token.Token.{Token}
 use Rattle.bc_lex_tokens.specs.declared.token.TokenKind.{TokenKind}
 use Rattle.bc_lex_tokens.specs.declared.token.TokenKind.TheVariants as kind
@@ -13,6 +14,11 @@ name_of (code.DeclaredTwice n) = Some n.now
 name_of (code.DynamicFree n) = Some n.now
 name_of (code.GlobalNumber n) = Some n.now
 name_of _ = None
+
+-- a name of the code
+abbrev pub named : Option (Bor (List ℕ)) → Option (List ℕ)
+named None = None
+named (Some n) = Some n.now
 
 -- the name that a token is
 abbrev pub spelled : TokenKind → Option (List ℕ)

@@ -1,5 +1,5 @@
 //! The signs and brackets of an expression around its leaves.
-ghost use Rattle.std.specs.Prelude.{◌≡◌, ◌≤◌, ◌<◌, length};
+ghost use Rattle.std.specs.Prelude.{◌≤◌, ◌<◌, length};
 
 use crate::leaves::Leaves;
 use crate::span::Span;
@@ -29,28 +29,40 @@ fn closes(tokens: &[Token<'_>], i: usize) -> bool {
 }
 
 /// Where these signs begin before a token: brackets may stand between them.
-fn behind_signs(tokens: &[Token<'_>], first: usize, signs: u64) -> usize {
+fn behind_signs(tokens: &[Token<'_>], first: usize, signs: u64) -> usize
+    ensures { result ≤ first }
+{
     let mut begin = first;
     let mut left = signs;
-    let mut i = first;
-    while left > 0 && i > 0 {
-        i -= 1;
+    for back in 0..first {
+        let i = first - 1 - back;
+        if left == 0 {
+            return begin.min(first);
+        }
         if is_sign(tokens, i) {
             left -= 1;
             begin = i;
         } else if !is_symbol(tokens, i, Symbol::OpenBracket) {
-            return begin;
+            return begin.min(first);
         }
     }
-    begin
+    begin.min(first)
 }
 
-/// How many brackets are closed between these tokens and not opened there, and how many are open behind them.
-fn unmatched(tokens: &[Token<'_>], span: Span) -> (usize, usize) {
+/// How many brackets are closed between two tokens and not opened there, and how many are open behind them.
+#[derive(Clone, Copy, Debug, PartialEq, Eq)]
+struct Unmatched {
+    closed: usize,
+    open: usize,
+}
+
+fn count_unmatched(tokens: &[Token<'_>], first: usize, last: usize) -> Unmatched {
     let mut closed = 0usize;
     let mut open = 0usize;
-    let mut i = span.first;
-    while i <= span.last && i < tokens.len() {
+    for i in first..tokens.len() {
+        if i > last {
+            return Unmatched { closed, open };
+        }
         if opens(tokens, i) {
             open = open.saturating_add(1);
         } else if closes(tokens, i) {
@@ -60,45 +72,64 @@ fn unmatched(tokens: &[Token<'_>], span: Span) -> (usize, usize) {
                 closed = closed.saturating_add(1);
             }
         }
-        i += 1;
     }
-    (closed, open)
+    Unmatched { closed, open }
+}
+
+/// Where a bracket begins that is opened for each of these, directly before a token.
+fn behind_open(tokens: &[Token<'_>], first: usize, closed: usize) -> usize
+    ensures { result ≤ first }
+{
+    let mut begin = first;
+    for _each in 0..closed {
+        if begin > 0 && opens(tokens, begin - 1) {
+            begin -= 1;
+        }
+    }
+    begin.min(first)
 }
 
 /// The last token of the calls without arguments, and of the brackets to be closed, that stand behind a token.
-fn behind_calls(tokens: &[Token<'_>], last: usize, calls: u64, open: usize) -> usize {
+fn behind_calls(tokens: &[Token<'_>], last: usize, calls: u64, open: usize) -> usize
+    requires { last < length tokens.now }
+    ensures { (last ≤ result) × (result < length tokens.now) }
+{
+    let greatest = tokens.len() - 1;
     let mut end = last;
     let mut calls = calls;
     let mut open = open;
-    while end + 2 < tokens.len() && (calls > 0 || open > 0) {
-        if open > 0 && closes(tokens, end + 1) {
+    for _each in 0..tokens.len() {
+        let next = end.saturating_add(1);
+        let second = end.saturating_add(2);
+        if open > 0 && closes(tokens, next) {
             open -= 1;
-            end += 1;
-        } else if calls > 0 && opens(tokens, end + 1) && closes(tokens, end + 2) {
+            end = next;
+        } else if calls > 0 && opens(tokens, next) && closes(tokens, second) {
             calls -= 1;
-            end += 2;
+            end = second;
         } else {
-            return end;
+            return end.max(last).min(greatest);
         }
     }
-    if open > 0 && closes(tokens, end + 1) {
-        end += 1;
-    }
-    end
+    end.max(last).min(greatest)
 }
 
 /// The tokens of an expression, of which the first and the last leaf are these.
-pub fn around(tokens: &[Token<'_>], at: Leaves, first: usize, last: usize) -> Span {
-    let mut first = behind_signs(tokens, first, at.signs);
-    let (closed, _open) = unmatched(tokens, Span { first, last });
-    let mut left = closed;
-    while left > 0 && first > 0 && opens(tokens, first - 1) {
-        left -= 1;
-        first -= 1;
-    }
-    let (_closed, open) = unmatched(tokens, Span { first, last });
+pub fn around(tokens: &[Token<'_>], at: Leaves, first: usize, last: usize) -> Span
+    requires in_order { first ≤ last }
+    requires within { last < length tokens.now }
+    ensures { (result.first ≤ result.last) × (result.last < length tokens.now) }
+{
+    let begin = behind_signs(tokens, first, at.signs);
+    let begin = behind_open(tokens, begin, count_unmatched(tokens, begin, last).closed);
+    let end = behind_calls(
+        tokens,
+        last,
+        at.calls,
+        count_unmatched(tokens, begin, last).open,
+    );
     Span {
-        first,
-        last: behind_calls(tokens, last, at.calls, open),
+        first: begin,
+        last: end,
     }
 }

@@ -61,8 +61,8 @@ impl<'s> Walk<'s> {
             self.know_labels(&item.labels)?;
         }
         let mut width = 0u64;
-        for item in items {
-            width = width.max(self.item(&mut of_list, allowed, item, level)?);
+        for tree in items {
+            width = width.max(self.item(&mut of_list, allowed, tree, level)?);
         }
         Ok(width)
     }

@@ -1,6 +1,6 @@
 //! Where a fault stands among the tokens of its section.
-ghost use Rattle.std.specs.Prelude.{◌≡◌, ◌<◌, ◌≤◌, length, IfOk, IfSome};
-ghost use Rattle.bc_scope_places.specs.Named.{name_of, HasName};
+ghost use Rattle.std.specs.Prelude.{◌≡◌, ◌<◌, ◌≤◌, length, true, Some, IfOk, IfSome};
+ghost use Rattle.bc_scope_places.specs.Named.{name_of, named, spelled, HasName};
 
 use crate::brackets::around;
 use crate::leaves::{Leaves, token_of};
@@ -37,7 +37,9 @@ pub struct FaultPlace {
 }
 
 /// The name that a fault is about.
-fn name_of<'s>(fault: ScopeError<'s>) -> Option<&'s [u8]> {
+fn name_of<'s>(fault: ScopeError<'s>) -> Option<&'s [u8]>
+    ensures { named result ≡ name_of fault.entry }
+{
     match fault {
         ScopeError::Undeclared(name)
         | ScopeError::DeclaredTwice(name)
@@ -53,28 +55,37 @@ fn name_of<'s>(fault: ScopeError<'s>) -> Option<&'s [u8]> {
     }
 }
 
+/// Whether a token is this name.
+#[tactic(auto, using(crate::proofs::Bytes::same_bytes))]
+fn is_name(kind: TokenKind<'_>, name: &[u8]) -> bool
+    ensures { result ≡ true → spelled kind.entry ≡ Some name.now }
+{
+    match kind {
+        TokenKind::Name(spelled) => spelled == name,
+        TokenKind::Symbol(_)
+        | TokenKind::Number(_)
+        | TokenKind::Character(_)
+        | TokenKind::String(_) => false,
+    }
+}
+
 /// Whether the token at this place has this name, if a name is wanted.
-fn has_name(tokens: &[Token<'_>], i: usize, name: Option<&[u8]>) -> bool {
+fn has_name(tokens: &[Token<'_>], i: usize, name: Option<&[u8]>) -> bool
+    ensures { result ≡ true → HasName tokens.now i (named name.entry) }
+{
     match name {
         None => true,
-        Some(name) => {
-            if i < tokens.len() {
-                match tokens[i].kind {
-                    TokenKind::Name(spelled) => spelled == name,
-                    TokenKind::Symbol(_)
-                    | TokenKind::Number(_)
-                    | TokenKind::Character(_)
-                    | TokenKind::String(_) => false,
-                }
-            } else {
-                false
-            }
-        }
+        Some(name) => match tokens.get(i) {
+            Some(token) => is_name(token.kind, name),
+            None => false,
+        },
     }
 }
 
 /// The tokens of these leaves, with the signs and brackets that belong to them.
-fn span_of(tokens: &[Token<'_>], at: Leaves) -> Option<Span> {
+fn span_of(tokens: &[Token<'_>], at: Leaves) -> Option<Span>
+    ensures { IfSome result (λ s. (s.first ≤ s.last) × (s.last < length tokens.now)) }
+{
     let first = token_of(tokens, at.first)?;
     let last = token_of(tokens, at.last)?;
     if first <= last {
@@ -124,8 +135,8 @@ fn found<'s>(alloc: Global, section: &Section<'s>) -> Result<Option<Found<'s>>, 
 ///
 /// The section is the one that `bc_parse` reads from these tokens, and the fault is the one that `bc_scope::resolve`
 /// refuses it by. The place is that of the construct: a name; the expression of `NotConstant` and `NotAssignable`; the
-/// word BREAK, LOOP, ENDCASE, RETURN, RESULTIS, CASE or DEFAULT, the name behind a GOTO, a label that is used in a
-/// constant, or the names that are declared as variables outside of routines; the second declaration, CASE or DEFAULT;
+/// word BREAK, LOOP, ENDCASE, RETURN, RESULTIS, CASE or DEFAULT, the name behind a GOTO, a label that is used as a
+/// value, or the names that are declared as variables outside of routines; the second declaration, CASE or DEFAULT;
 /// the name of the first routine whose frame is too large; and the name, TABLE or string of the one with which the
 /// places are more than 8,000.
 ///

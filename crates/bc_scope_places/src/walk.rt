@@ -200,9 +200,9 @@ impl<'s> Walk<'s> {
     fn newest(&self, name: &[u8]) -> Option<usize>
         ensures { IfSome result (λ i. i < length self.now.known.items) }
     {
-        let mut i = self.known.len();
-        while i > 0 {
-            i -= 1;
+        let count = self.known.len();
+        for back in 0..count {
+            let i = count - 1 - back;
             if self.known[i].name == name {
                 return Some(i);
             }

@@ -1,0 +1,7 @@
+-- Bytes that are found equal.
+use Rattle.std.proofs.Common.{◌≡◌, ℕ, List, true}
+use Rattle.std.specs.Str.{bytes_eq}
+use Rattle.std.proofs.lemmas.Slice.Eq.{bytes_eq-Decides}
+
+pub same_bytes : (a b : List ℕ) → bytes_eq a b ≡ true → a ≡ b
+same_bytes a b e = (bytes_eq-Decides a b).0 e
