@@ -116,6 +116,14 @@ fn get_missing(
     .helped(alloc, Some("it is written GET \"LIBHDR\""))
 }
 
+/// The text of a source; nothing for one that isn't there.
+fn text_of<'s>(sources: &[Source<'s>], file: usize) -> &'s [u8] {
+    match sources.get(file) {
+        Some(source) => source.text,
+        None => b"",
+    }
+}
+
 /// What is said of a text that has no tokens.
 pub fn lexical_message(
     alloc: Global,
@@ -123,10 +131,9 @@ pub fn lexical_message(
     main: usize,
     fault: LexError,
 ) -> Result<Option<Message>, Memory> {
-    let text_of = |file: usize| -> &[u8] { sources.get(file).map_or(b"", |source| source.text) };
     let message = match fault {
         LexError::BadCharacter(file, at) => {
-            let text = text_of(file);
+            let text = text_of(sources, file);
             let place = span(file, at, character_size(text, at));
             Message::new(
                 alloc,
@@ -137,7 +144,7 @@ pub fn lexical_message(
             .helped(alloc, help_for_byte(text, at))?
         }
         LexError::NumberTooLarge(file, at) => {
-            let place = span(file, at, number_size(text_of(file), at));
+            let place = span(file, at, number_size(text_of(sources, file), at));
             Message::new(
                 alloc,
                 main,
@@ -166,7 +173,7 @@ pub fn lexical_message(
             )?
         }
         LexError::Unterminated(file, at) => {
-            let (sentence, help) = unterminated(text_of(file), at);
+            let (sentence, help) = unterminated(text_of(sources, file), at);
             Message::new(alloc, main, span(file, at, 1), sentence)?.helped(alloc, Some(help))?
         }
         LexError::BadEscape(file, at) => {
@@ -177,7 +184,13 @@ pub fn lexical_message(
                 ),
             )?
         }
-        LexError::GetMissing(file, at) => get_missing(alloc, text_of(file), main, file, at)?,
+        LexError::GetMissing(file, at) => get_missing(
+            alloc,
+            text_of(sources, file),
+            main,
+            file,
+            at,
+        )?,
         LexError::GetTooDeep(file, at) => {
             Message::new(
                 alloc,
