@@ -150,7 +150,7 @@ pub fn linking_message(
 
 /// What is said of a main whose code has too many labels.
 pub fn labels_message(alloc: Global, main: usize) -> Result<Option<Message>, Memory> {
-    let sentence = "the code of this file has more than 20000 labels";
+    let sentence = "the code of a file has more than 20000 labels";
     let help = "cut it into several files, which share routines by GLOBAL";
     Ok(Some(Message::new(alloc, main, None, sentence)?.helped(alloc, Some(help))?))
 }

@@ -98,9 +98,8 @@ pub fn told_lines(
             add_way(alloc, &mut lines, named, message.main, span)?;
         }
         None => {
-            let path = named.path(message.main);
             let sentence = message.sentence.as_str();
-            writeln!(lines, "{path}: {sentence}")?;
+            writeln!(lines, "{sentence}")?;
         }
     }
     for note in &message.notes {

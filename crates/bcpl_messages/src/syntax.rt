@@ -92,13 +92,16 @@ fn is_remedy(
     })
 }
 
+/// In how many tokens, the one that is refused and those in front of it, a remedy is looked for.
+const LOOK_BACK: usize = 12;
+
 /// The help of a remedy that gets further, if there is one.
 fn remedied(
     alloc: Global,
     tokens: &[Token<'_>],
     index: usize,
 ) -> Result<Option<&'static str>, Memory> {
-    for back in 0..4 {
+    for back in 0..LOOK_BACK {
         for remedy in &REMEDIES {
             if index >= back && is_remedy(alloc, tokens, index, index - back, remedy)? {
                 return Ok(Some(remedy.help));
