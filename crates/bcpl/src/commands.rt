@@ -244,10 +244,8 @@ fn build_and_warn<F: Files, O: Write + Drop, E: Write + Drop>(
     };
     match compile(rt, alloc, order, shows, out) {
         Ok(warnings) => {
-            if is_terminal || order.places == Places::Always {
-                let _ = err.write_all(warnings.as_str().as_bytes());
-                let _ = err.flush();
-            }
+            let _ = err.write_all(warnings.as_str().as_bytes());
+            let _ = err.flush();
             0
         }
         Err(failure) => status(Err(failure), shows, err),

@@ -101,7 +101,7 @@ fn paths_of<'a>(alloc: Global, order: &BuildOrder<'a>) -> Result<Vec<&'a str>, F
     Ok(paths)
 }
 
-/// Builds the program of BLIB and the files. Where it is refused, `shows` says whether places are told.
+/// Builds the program of BLIB and the files, with what there is to warn of. `shows` says whether places and warnings are told.
 fn built<F: Files>(
     rt: &F,
     alloc: Global,
@@ -121,7 +121,7 @@ fn built<F: Files>(
     };
     match build(alloc, sources.as_slice(), mains.as_slice()) {
         Ok(built) => {
-            let warnings = if order.warns {
+            let warnings = if order.warns && shows {
                 warnings_of(alloc, &program)?
             } else {
                 String::new(alloc)
@@ -242,7 +242,7 @@ fn tell<O: Write + Drop>(alloc: Global, built: &Built, out: &mut O) -> Result<()
 }
 
 /// Builds a program, writes its text and certificate, and tells of its size; gives what there is to warn of. `shows` says whether
-/// the place of a refusal is told.
+/// the place of a refusal, and warnings, are told.
 pub fn compile<F: Files, O: Write + Drop>(
     rt: &F,
     alloc: Global,
