@@ -1,5 +1,6 @@
 #!/usr/bin/env node
 // ---- 7. The command line, over the interpreter of intcode.mjs, with the words, the statuses and the lines on standard error of `bcpl`.
+// It is not proved either.
 import * as fs from "node:fs";
 import { parseArgs } from "node:util";
 import { DeviceFault, Machine, Refusal, Streams, linkTexts } from "./intcode.mjs";

@@ -1,0 +1,5 @@
+pub mod Written
+pub mod Loops
+pub mod Programs
+pub mod Wild
+pub mod Maps

@@ -1,0 +1,3 @@
+mod Valofs
+pub mod Marks
+pub mod Words

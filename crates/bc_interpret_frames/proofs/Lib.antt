@@ -1,0 +1,2 @@
+pub mod Valofs
+pub mod Waits

@@ -1,0 +1,64 @@
+// Parts of a routine that wait to be looked at.
+
+ghost use Rattle.std.specs.Prelude.{◌≡◌, ◌+◌, max, OnOk, IfOk};
+ghost use Rattle.bc_interpret_frames.specs.Parts.{cells_of, cells_of_both, weight_of_part, weight_of_both, greatest, weight_of_all};
+
+use bc_core::{Block, Command, CoreExp, Declaration, ListItem, Valof, Variable};
+use bc_word::Memory;
+
+/// The VALOFs that stand within a part of a routine, and the first one's number.
+#[derive(Clone, Copy)]
+pub(crate) struct Within<'c> {
+    pub first: usize,
+    pub valofs: &'c [Valof],
+}
+
+/// A part of a routine, with the level at which its work begins.
+#[derive(Clone, Copy)]
+pub(crate) enum Part<'c> {
+    Expression(Within<'c>, &'c CoreExp, usize),
+    Arguments(Within<'c>, &'c [CoreExp], usize),
+    Command(Within<'c>, &'c Command, usize),
+    Block(Within<'c>, &'c Block, usize),
+    Declarations(Within<'c>, &'c [Declaration], usize),
+    Variables(Within<'c>, &'c [Variable], usize),
+    Items(Within<'c>, &'c [ListItem], usize),
+}
+
+/// Puts a part behind those that wait.
+///
+/// `Memory` comes where an allocation was refused.
+#[tactic(auto, using(crate::proofs::Waits::greatest_more, crate::proofs::Waits::weight_more))]
+pub(crate) fn put<'c>(part: Part<'c>, waiting: &mut Vec<Part<'c>>) -> Result<(), Memory>
+    ensures greatest { OnOk result (greatest waiting.new.items ≡ max (cells_of part.entry) (greatest waiting.old.items)) }
+    ensures weight { OnOk result (weight_of_all waiting.new.items ≡ weight_of_part part.entry + 1 + weight_of_all waiting.old.items) }
+{
+    waiting.push(part)?;
+    Ok(())
+}
+
+/// Puts two parts behind those that wait.
+///
+/// `Memory` comes where an allocation was refused.
+#[tactic(auto, using(crate::proofs::Waits::grown))]
+pub(crate) fn put_both<'c>(
+    first: Part<'c>,
+    second: Part<'c>,
+    waiting: &mut Vec<Part<'c>>,
+) -> Result<(), Memory>
+    ensures greatest { OnOk result (greatest waiting.new.items ≡ max (cells_of_both first.entry second.entry) (greatest waiting.old.items)) }
+    ensures weight { OnOk result (weight_of_all waiting.new.items ≡ weight_of_both first.entry second.entry + weight_of_all waiting.old.items) }
+{
+    put(first, waiting)?;
+    put(second, waiting)
+}
+
+/// A level above this one.
+///
+/// `Memory` comes where no number is so great, which no level of a frame is.
+#[inline(always)]
+pub(crate) fn above(s: usize, n: usize) -> Result<usize, Memory>
+    ensures { IfOk result (λ r. r ≡ s + n) }
+{
+    s.checked_add(n).ok_or(Memory)
+}

@@ -1,0 +1,52 @@
+// The size of a routine's frame.
+
+ghost use Rattle.std.specs.Prelude.{◌≡◌, map, IfOk};
+ghost use Rattle.bc_core.specs.View.{valof_of, routine_of, body_of};
+ghost use Rattle.bc_core.specs.Layout.{frame_size as size_of_frame, cells_of_body};
+ghost use Rattle.bc_interpret_frames.specs.Parts.{bodies, cells_of, greatest};
+
+use crate::expand::expand;
+use crate::part::{Part, Within, above};
+use bc_core::{Body, Routine, Valof};
+use bc_word::Memory;
+use std::alloc::Global;
+
+/// The most cells that one of these parts, or a part of them, takes.
+#[tactic(auto, using(crate::proofs::Waits::greatest_more, crate::proofs::Waits::weight_more))]
+fn most<'c>(waiting: &mut Vec<Part<'c>>) -> Result<usize, Memory>
+    ensures { IfOk result (λ most. most ≡ greatest waiting.old.items) }
+{
+    let mut most = 0;
+    while let Some(part) = waiting.pop() {
+        let own = expand(part, waiting)?;
+        if own > most {
+            most = own;
+        }
+    }
+    Ok(most)
+}
+
+/// The whole body of a routine.
+fn whole<'c>(within: Within<'c>, body: &'c Body, level: usize) -> Part<'c>
+    ensures { cells_of result ≡ cells_of_body (bodies within.entry) (body_of body.now) level }
+{
+    match body {
+        Body::Value(e) => Part::Expression(within, e, level),
+        Body::Commands(block) => Part::Block(within, block, level),
+    }
+}
+
+/// How many cells the frame of a routine takes in a section with these VALOFs: its links, its parameters, its variables, and what its
+/// expressions hold. No native stack is taken for the depth of the tree.
+///
+/// `Memory` comes where an allocation was refused.
+pub fn frame_size(alloc: Global, valofs: &[Valof], routine: &Routine) -> Result<usize, Memory>
+    ensures { IfOk result (λ size. size ≡ size_of_frame (map valof_of valofs.now) (routine_of routine.now)) }
+{
+    let level = above(2, routine.parameters as usize)?;
+    let within = Within { first: 0, valofs };
+    let mut waiting = Vec::new(alloc);
+    waiting.push(whole(within, &routine.body, level))?;
+    let cells = most(&mut waiting)?;
+    Ok(if cells > level { cells } else { level })
+}

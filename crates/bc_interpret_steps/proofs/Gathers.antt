@@ -1,0 +1,48 @@
+-- Arguments that are gathered.
+use Rattle.std.proofs.Common.{◌≡◌, ℕ, Bool, true, false, not, List, [], ◌∷◌, ◌++◌, reverse, refl, sym, ap, subst, ◌∙◌, append_assoc}
+use Rattle.std.proofs.lemmas.List.{append-nil, reverse-append}
+use Rattle.bc_interpret_steps.specs.declared.rests.Rest.{Rest}
+use Rattle.bc_interpret_steps.specs.declared.rests.Rest.TheVariants as rests
+use Rattle.bc_interpret_steps.specs.Code.{given_for, stack, given, then_given, Gathering}
+use Rattle.bc_interpret_steps.proofs.Piles.{given_more}
+
+reversed_last : (vs : List ℕ) (v : ℕ) → reverse (vs ++ v ∷ []) ≡ v ∷ reverse vs
+reversed_last vs v = reverse-append vs (v ∷ [])
+
+-- none is here yet
+pub begins : (fresh : Bool) (old : List Rest) → Gathering (not fresh) (given_for fresh (given old)) old []
+begins true old = refl
+begins false old = sym (append-nil (given old))
+
+-- one more is here
+pub gathered : (wanted : List ℕ) (old new : List Rest) (v : ℕ) (first : Bool) (vs : List ℕ) → old ≡ new ++ rests.Given v first ∷ [] → wanted ≡ given old ++ reverse vs → Gathering (not first) wanted new (vs ++ v ∷ [])
+gathered wanted old new v true vs e h =
+    h ∙ (ap (λ xs. given xs ++ reverse vs) e ∙ (ap (λ ws. ws ++ reverse vs) (given_more new (rests.Given v true)) ∙ sym (reversed_last vs v)))
+gathered wanted old new v false vs e h =
+    h ∙ (ap (λ xs. given xs ++ reverse vs) e ∙ (ap (λ ws. ws ++ reverse vs) (given_more new (rests.Given v false))
+    ∙ (append_assoc (given new) (v ∷ []) (reverse vs) ∙ ap (λ ws. given new ++ ws) (sym (reversed_last vs v)))))
+
+-- what stands there is no argument, and is put back
+pub none_more : (wanted : List ℕ) (old new : List Rest) (r : Rest) (vs : List ℕ) → old ≡ new ++ r ∷ [] → ((ws : List ℕ) → then_given ws r ≡ []) → wanted ≡ given old ++ reverse vs → wanted ≡ reverse vs
+none_more wanted old new r vs e n h =
+    h ∙ (ap (λ xs. given xs ++ reverse vs) e ∙ ap (λ ws. ws ++ reverse vs) (given_more new r ∙ n (given new)))
+
+pub put_back : (before old new after : List Rest) (r : Rest) → stack old ≡ stack before → old ≡ new ++ r ∷ [] → after ≡ new ++ r ∷ [] → stack after ≡ stack before
+put_back before old new after r h e f = ap stack (f ∙ sym e) ∙ h
+
+-- the test is the loop's
+pub still : (more : Bool) (wanted : List ℕ) (left : List Rest) (vs : List ℕ) → more ≡ true → Gathering more wanted left vs → wanted ≡ given left ++ reverse vs
+still more wanted left vs e h = let P : Bool → Type 0 = λ m. Gathering m wanted left vs in subst P e h
+
+pub gathered_on : (more : Bool) (wanted : List ℕ) (old new : List Rest) (r : Rest) (v : ℕ) (first : Bool) (vs ws : List ℕ) → more ≡ true → Gathering more wanted old vs → old ≡ new ++ r ∷ [] → r ≡ rests.Given v first → ws ≡ vs ++ v ∷ [] → Gathering (not first) wanted new ws
+gathered_on more wanted old new r v first vs ws t h e is w =
+    let P : List ℕ → Type 0 = λ us. Gathering (not first) wanted new us in
+    subst P (sym w) (gathered wanted old new v first vs (e ∙ ap (λ q. new ++ q ∷ []) is) (still more wanted old vs t h))
+
+-- nothing is left
+pub none_left : (wanted : List ℕ) (old : List Rest) (vs : List ℕ) → old ≡ [] → wanted ≡ given old ++ reverse vs → wanted ≡ reverse vs
+none_left wanted old vs e h = h ∙ ap (λ xs. given xs ++ reverse vs) e
+
+-- all are here
+pub ended : (more : Bool) (wanted : List ℕ) (left : List Rest) (vs : List ℕ) → more ≡ false → Gathering more wanted left vs → reverse vs ≡ wanted
+ended more wanted left vs e h = let P : Bool → Type 0 = λ m. Gathering m wanted left vs in sym (subst P e h)

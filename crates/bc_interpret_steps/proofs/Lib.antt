@@ -1,0 +1,15 @@
+pub mod Arrivals
+pub mod Counts
+pub mod Entries
+pub mod Frames
+pub mod Gathers
+pub mod Handing
+pub mod Loads
+pub mod Loops
+pub mod Misplaced
+pub mod Performs
+pub mod Piles
+pub mod Quiet
+pub mod Turns
+pub mod Valofs
+pub mod Writes

@@ -1,0 +1,72 @@
+-- Rounds of a FOR.
+use Rattle.std.proofs.Common.{◌≡◌, ◌+◌, ◌%◌, ℕ, Bool, true, false, List, ◌∷◌, sym, ap, refl, ◌∙◌}
+use Rattle.bc_machine_defs.specs.Streams.{Content}
+use Rattle.bc_word.specs.Words.{holds}
+use Rattle.bc_core.specs.Commands.{Block}
+use Rattle.bc_core.specs.Level.{level_in_for}
+use Rattle.bc_core.specs.Loop.{end_relation}
+use Rattle.bc_core.specs.Map.{Placed}
+use Rattle.bc_core.specs.Exit.{Exit, Past}
+use Rattle.bc_core.specs.Store.{Dead, Unset, Set, cell_at}
+use Rattle.bc_core.specs.Outcome as outcomes
+use Rattle.bc_core.specs.Outcome.{Done, Wild, Going, followed, then_do, choose, content_of_cell, write, in_turn}
+use Rattle.bc_interpret_defs.specs.Machine.{Spot, Rest, Step, cell_of, go, give, Left, Enter, ForBody, Round, round_step, behind, next}
+use Rattle.bc_interpret_steps.specs.declared.state.State.{State}
+use Rattle.bc_interpret_steps.specs.Came.{state_of, Turned, Wrote}
+use Rattle.bc_interpret_quiet.specs.declared.sight.Cause.{Cause}
+use Rattle.std.proofs.Common.{Some, None}
+
+abbrev tested : Spot → (limit by : ℕ) → Block → ℕ → List Rest → ℕ → Step
+tested E limit by b s rs i = choose (holds (end_relation by) i limit) (give (Left Past) rs) (go (Enter E b (level_in_for s)) (ForBody E limit by b s ∷ rs))
+
+pub round_dead : (E : Spot) (limit by : ℕ) (b : Block) (s : ℕ) (rs : List Rest) (st : outcomes.State) → Dead ≡ cell_at st.cells (cell_of E s) → round_step E limit by b s rs st ≡ Wild
+round_dead E limit by b s rs st e = ap (λ c. followed (content_of_cell c st) (tested E limit by b s rs)) (sym e)
+
+pub round_unset : (E : Spot) (limit by : ℕ) (b : Block) (s : ℕ) (rs : List Rest) (st : outcomes.State) → Unset ≡ cell_at st.cells (cell_of E s) → round_step E limit by b s rs st ≡ Wild
+round_unset E limit by b s rs st e = ap (λ c. followed (content_of_cell c st) (tested E limit by b s rs)) (sym e)
+
+pub round_past : (E : Spot) (limit by : ℕ) (b : Block) (s i : ℕ) (rs : List Rest) (st : outcomes.State) → Set i ≡ cell_at st.cells (cell_of E s) → holds (end_relation by) i limit ≡ true → round_step E limit by b s rs st ≡ give (Left Past) rs st
+round_past E limit by b s i rs st e t =
+    ap (λ c. followed (content_of_cell c st) (tested E limit by b s rs)) (sym e)
+    ∙ ap (λ t. choose t (give (Left Past) rs) (go (Enter E b (level_in_for s)) (ForBody E limit by b s ∷ rs)) st) t
+
+pub round_on : (E : Spot) (limit by : ℕ) (b : Block) (s i : ℕ) (rs : List Rest) (st : outcomes.State) → Set i ≡ cell_at st.cells (cell_of E s) → holds (end_relation by) i limit ≡ false → round_step E limit by b s rs st ≡ go (Enter E b (level_in_for s)) (ForBody E limit by b s ∷ rs) st
+round_on E limit by b s i rs st e t =
+    ap (λ c. followed (content_of_cell c st) (tested E limit by b s rs)) (sym e)
+    ∙ ap (λ t. choose t (give (Left Past) rs) (go (Enter E b (level_in_for s)) (ForBody E limit by b s ∷ rs)) st) t
+
+-- behind the body
+abbrev added : Spot → (limit by : ℕ) → Block → ℕ → List Rest → ℕ → Step
+added E limit by b s rs i = then_do (write (cell_of E s) ((i + by) % 65536)) (λ u. in_turn (go (Round E limit by b s) rs))
+
+pub stepped_dead : (program : List Placed) (E : Spot) (limit by : ℕ) (b : Block) (s : ℕ) (rs : List Rest) (st : outcomes.State) → Dead ≡ cell_at st.cells (cell_of E s) → next program (ForBody E limit by b s) (Left Past) rs st ≡ Wild
+stepped_dead program E limit by b s rs st e = ap (λ c. followed (content_of_cell c st) (added E limit by b s rs)) (sym e)
+
+pub stepped_unset : (program : List Placed) (E : Spot) (limit by : ℕ) (b : Block) (s : ℕ) (rs : List Rest) (st : outcomes.State) → Unset ≡ cell_at st.cells (cell_of E s) → next program (ForBody E limit by b s) (Left Past) rs st ≡ Wild
+stepped_unset program E limit by b s rs st e = ap (λ c. followed (content_of_cell c st) (added E limit by b s rs)) (sym e)
+
+stepped_set : (program : List Placed) (E : Spot) (limit by : ℕ) (b : Block) (s i : ℕ) (rs : List Rest) (st : outcomes.State) → Set i ≡ cell_at st.cells (cell_of E s) → next program (ForBody E limit by b s) (Left Past) rs st ≡ added E limit by b s rs i st
+stepped_set program E limit by b s i rs st e = ap (λ c. followed (content_of_cell c st) (added E limit by b s rs)) (sym e)
+
+-- the variable isn't live, which can't be where it was read
+pub stepped_wild : (program : List Placed) (E : Spot) (limit by : ℕ) (b : Block) (s i : ℕ) (rs : List Rest) (old new : State) (c : Cause) → Set i ≡ cell_at old.store (cell_of E s) → Wrote old (cell_of E s) ((i + by) % 65536) (Some c) new
+    → (streams : Content) → next program (ForBody E limit by b s) (Left Past) rs (state_of old streams) ≡ Wild
+stepped_wild program E limit by b s i rs old new c e h streams =
+    stepped_set program E limit by b s i rs (state_of old streams) e ∙ ap (λ o. followed o (λ u. in_turn (go (Round E limit by b s) rs))) (h streams)
+
+pub stepped_going : (program : List Placed) (E : Spot) (limit by : ℕ) (b : Block) (s i : ℕ) (rs : List Rest) (old middle new : State) → Set i ≡ cell_at old.store (cell_of E s) → Wrote old (cell_of E s) ((i + by) % 65536) None middle → Turned false middle new
+    → (streams : Content) → next program (ForBody E limit by b s) (Left Past) rs (state_of old streams) ≡ Going streams
+stepped_going program E limit by b s i rs old middle new e h t streams =
+    stepped_set program E limit by b s i rs (state_of old streams) e
+    ∙ (ap (λ o. followed o (λ u. in_turn (go (Round E limit by b s) rs))) (h streams) ∙ t.0 (go (Round E limit by b s) rs) streams)
+
+pub stepped_on : (program : List Placed) (E : Spot) (limit by : ℕ) (b : Block) (s i : ℕ) (rs : List Rest) (old middle new : State) → Set i ≡ cell_at old.store (cell_of E s) → Wrote old (cell_of E s) ((i + by) % 65536) None middle → Turned true middle new
+    → (streams : Content) → next program (ForBody E limit by b s) (Left Past) rs (state_of old streams) ≡ go (Round E limit by b s) rs (state_of new streams)
+stepped_on program E limit by b s i rs old middle new e h t streams =
+    stepped_set program E limit by b s i rs (state_of old streams) e
+    ∙ (ap (λ o. followed o (λ u. in_turn (go (Round E limit by b s) rs))) (h streams) ∙ t (go (Round E limit by b s) rs) streams)
+
+-- where control goes on behind the body, it goes on as past it
+pub for_behind : (program : List Placed) (E : Spot) (limit by : ℕ) (b : Block) (s : ℕ) (x : Exit) (rs : List Rest) → ((again : Step) (rs : List Rest) → behind again x rs ≡ again)
+    → next program (ForBody E limit by b s) (Left Past) rs ≡ next program (ForBody E limit by b s) (Left x) rs
+for_behind program E limit by b s x rs h = sym (h (next program (ForBody E limit by b s) (Left Past) rs) rs)

@@ -1,0 +1,106 @@
+-- What came of a step, as the interpreter has it.
+use Rattle.std.specs.Prelude.{ℕ, ◌≡◌, ◌+◌, Bool, true, false, List, Option, Some, None}
+use Rattle.bc_machine_defs.specs.Streams.{Content}
+use Rattle.bc_core.specs.Store.{Dead, cell_at}
+use Rattle.bc_core.specs.Outcome as outcomes
+use Rattle.bc_core.specs.Outcome.{followed, in_turn, left, second_side, write}
+use Rattle.bc_interpret_defs.specs.Quiet as quiet
+use Rattle.bc_interpret_defs.specs.Quiet.{settled}
+use Rattle.bc_core.specs.Exit as exits
+use Rattle.bc_core.specs.Lists as lists
+use Rattle.bc_core.specs.Primitive as primitives
+use Rattle.bc_core.specs.Primitive.{primitive_work}
+use Rattle.bc_interpret_quiet.specs.declared.sight.Cause.{Cause}
+use Rattle.bc_interpret_quiet.specs.declared.worth.Worth.{Worth}
+use Rattle.bc_interpret_quiet.specs.declared.worth.Worth.TheVariants as worths
+use Rattle.bc_interpret_steps.specs.declared.state.State.{State}
+use Rattle.bc_interpret_steps.specs.declared.calls.Room.{Room}
+use Rattle.bc_interpret_steps.specs.declared.calls.Room.TheVariants as rooms
+use Rattle.bc_interpret_steps.specs.declared.forms.Work.{Work}
+use Rattle.bc_interpret_steps.specs.declared.forms.Work.TheVariants as works
+use Rattle.bc_interpret_steps.specs.declared.forms.Primitive.{Primitive}
+use Rattle.bc_interpret_steps.specs.declared.forms.Primitive.TheVariants as primitive_forms
+use Rattle.bc_interpret_steps.specs.declared.forms.Ending.{Ending}
+use Rattle.bc_interpret_steps.specs.declared.forms.Ending.TheVariants as endings
+use Rattle.bc_interpret_steps.specs.declared.forms.Exit.{Exit}
+use Rattle.bc_interpret_steps.specs.declared.forms.Progress.{Progress}
+use Rattle.bc_interpret_steps.specs.declared.forms.Progress.TheVariants as progress
+use Rattle.bc_interpret_defs.specs.Machine as machine
+use Rattle.bc_interpret_defs.specs.Machine.{give, behind, frame_taken}
+use Rattle.bc_interpret_steps.specs.declared.rests.Rest.{Rest}
+use Rattle.bc_interpret_steps.specs.Code.{work_of, exit_of, stack, given}
+
+abbrev pub state_of : State → Content → outcomes.State
+state_of st streams = record { cells = st.store; streams = streams; turns = st.turns }
+
+abbrev pub ending : Ending → outcomes.Ending
+ending endings.Finished = outcomes.Finished
+ending endings.ZeroDivide = outcomes.ZeroDivide
+
+abbrev pub primitive_of : Primitive → primitives.Primitive
+primitive_of (primitive_forms.Select side) = primitives.Select side
+primitive_of primitive_forms.ReadByte = primitives.ReadByte
+primitive_of primitive_forms.WriteByte = primitives.WriteByte
+primitive_of (primitive_forms.Find side) = primitives.Find side
+primitive_of (primitive_forms.EndStream side) = primitives.EndStream side
+
+abbrev pub at : List ℕ → Work → List machine.Rest → machine.At
+at vs w rs = record { work = work_of vs w; rests = rs }
+
+-- Whatever the streams hold: this came of a step, with what is left to do, the arguments that are given and the state then. A primitive
+-- is yet to be served: its work stands in front of what is left, and its argument's cell is given back behind it.
+abbrev pub Came : machine.Step → (old : State) → Progress → List machine.Rest → List ℕ → (new : State) → Type 0
+Came r old (progress.On w) rs vs new = (streams : Content) → r (state_of old streams) ≡ outcomes.Done (at vs w rs) (state_of new streams)
+Came r old (progress.Serve q f) rs vs new =
+    (streams : Content)
+    → r (state_of old streams) ≡ followed (left 1 (f + 2) (primitive_work (primitive_of q) f (state_of new streams))) (λ v. give (machine.Number v) rs)
+Came r old progress.Answered rs vs new = ⊥
+Came r old (progress.Ended e) rs vs new = (streams : Content) → r (state_of old streams) ≡ outcomes.Ended (ending e) streams
+Came r old progress.Going rs vs new = (streams : Content) → r (state_of old streams) ≡ outcomes.Going streams
+Came r old (progress.Wild c) rs vs new = (streams : Content) → r (state_of old streams) ≡ outcomes.Wild
+
+-- the same where what is left to do stands in the interpreter's list
+abbrev pub Goes : (List machine.Rest → machine.Step) → (before : List Rest) → (old : State) → Progress → (after : List Rest) → (new : State) → Type 0
+Goes f before old p after new = Came (f (stack before)) old p (stack after) (given after) new
+
+-- a turn was taken, or none is left
+abbrev pub Turned : Bool → State → State → Type 0
+Turned true old new = (r : machine.Step) (streams : Content) → in_turn r (state_of old streams) ≡ r (state_of new streams)
+Turned false old new = ((r : machine.Step) (streams : Content) → in_turn r (state_of old streams) ≡ outcomes.Going streams) × (new ≡ old)
+
+-- a cell was written, or isn't live
+abbrev pub Wrote : State → (address word : ℕ) → Option Cause → State → Type 0
+Wrote old a w None new = (streams : Content) → write a w (state_of old streams) ≡ outcomes.Done tt (state_of new streams)
+Wrote old a w (Some c) new = (streams : Content) → write a w (state_of old streams) ≡ outcomes.Wild
+
+-- what comes of an expression that is worth this
+abbrev pub progress_of : Worth → Progress
+progress_of (worths.Is v) = progress.On (works.Number v)
+progress_of worths.Divides = progress.Ended endings.ZeroDivide
+progress_of (worths.Fails c) = progress.Wild c
+
+-- what comes behind a loop's body that control leaves so
+abbrev pub IsBehind : Option Exit → exits.Exit → Type 0
+IsBehind None x = (again : machine.Step) (rs : List machine.Rest) → behind again x rs ≡ again
+IsBehind (Some y) x = (again : machine.Step) (rs : List machine.Rest) → behind again x rs ≡ give (machine.Left (exit_of y)) rs
+
+-- how control leaves a SWITCHON whose list it leaves so
+abbrev pub IsBehindCases : (out within : exits.Exit) → Type 0
+IsBehindCases out within = (st : outcomes.State) → lists.behind_cases within st ≡ outcomes.Done out st
+
+-- whether a call goes on in a frame at f
+abbrev pub Framed : Room → (f size : ℕ) → State → State → Type 0
+Framed rooms.Fits f size old new = (r : machine.Step) (streams : Content) → frame_taken f size r (state_of old streams) ≡ r (state_of new streams)
+Framed rooms.TooLarge f size old new = (r : machine.Step) (streams : Content) → frame_taken f size r (state_of old streams) ≡ outcomes.Wild
+Framed rooms.NoTurn f size old new = (r : machine.Step) (streams : Content) → frame_taken f size r (state_of old streams) ≡ outcomes.Going streams
+
+abbrev pub primitive_if : Option Primitive → Option primitives.Primitive
+primitive_if None = None
+primitive_if (Some q) = Some (primitive_of q)
+
+abbrev pub IsPrimitive : Option Primitive → ℕ → Type 0
+IsPrimitive found a = primitive_if found ≡ primitives.primitive_among primitives.primitives a
+
+-- an assignment without call, whose sides are worth these
+abbrev pub both_worth : quiet.Worth ℕ → quiet.Worth ℕ → List machine.Rest → machine.Step
+both_worth w x rs st = followed (second_side false (settled w st) (settled x) (λ word address. write address word) st) (λ u. give machine.Nothing rs)

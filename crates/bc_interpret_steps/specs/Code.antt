@@ -1,0 +1,171 @@
+-- What the interpreter's values stand for.
+use Rattle.std.specs.Prelude.{◌≡◌, ℕ, Bool, true, false, List, [], ◌∷◌, ◌++◌, map, reverse, slice_index_or, Option, Some, None}
+use Rattle.bc_core.specs.View.{exp, args, items, variable, declarations, command, block_of, valof_of}
+use Rattle.bc_core.specs.Commands as commands
+use Rattle.bc_core.specs.Exit as exits
+use Rattle.bc_core.specs.Lists as lists
+use Rattle.bc_interpret_defs.specs.Machine as machine
+use Rattle.bc_interpret_steps.specs.declared.forms.Spot.{Spot}
+use Rattle.bc_interpret_steps.specs.declared.forms.Exit.{Exit}
+use Rattle.bc_interpret_steps.specs.declared.forms.Exit.TheVariants as exit_forms
+use Rattle.bc_interpret_steps.specs.declared.forms.Entry.{Entry}
+use Rattle.bc_interpret_steps.specs.declared.forms.Entry.TheVariants as entries
+use Rattle.bc_interpret_steps.specs.declared.forms.Work.{Work}
+use Rattle.bc_interpret_steps.specs.declared.forms.Work.TheVariants as works
+use Rattle.bc_interpret_steps.specs.declared.rests.NumberRest.{NumberRest}
+use Rattle.bc_interpret_steps.specs.declared.rests.NumberRest.TheVariants as number_rests
+use Rattle.bc_interpret_steps.specs.declared.rests.ValueRest.{ValueRest}
+use Rattle.bc_interpret_steps.specs.declared.rests.ValueRest.TheVariants as value_rests
+use Rattle.bc_interpret_steps.specs.declared.rests.TruthRest.{TruthRest}
+use Rattle.bc_interpret_steps.specs.declared.rests.TruthRest.TheVariants as truth_rests
+use Rattle.bc_interpret_steps.specs.declared.rests.NothingRest.{NothingRest}
+use Rattle.bc_interpret_steps.specs.declared.rests.NothingRest.TheVariants as nothing_rests
+use Rattle.bc_interpret_steps.specs.declared.rests.ExitRest.{ExitRest}
+use Rattle.bc_interpret_steps.specs.declared.rests.ExitRest.TheVariants as exit_rests
+use Rattle.bc_interpret_steps.specs.declared.rests.Rest.{Rest}
+use Rattle.bc_interpret_steps.specs.declared.rests.Rest.TheVariants as rests
+
+abbrev pub spot_of : Spot → machine.Spot
+spot_of E = record { address = λ l. slice_index_or E.addresses.now l 0; first = E.first; valofs = map valof_of E.valofs.now; frame = E.frame }
+
+abbrev pub exit_of : Exit → exits.Exit
+exit_of exit_forms.Past = exits.Past
+exit_of exit_forms.Broke = exits.Broke
+exit_of exit_forms.Looped = exits.Looped
+exit_of exit_forms.LeftCases = exits.LeftCases
+exit_of exit_forms.Returned = exits.Returned
+exit_of (exit_forms.Resulted v) = exits.Resulted v
+exit_of (exit_forms.Jumped l) = exits.Jumped l
+
+abbrev pub entry_of : Entry → lists.Entry
+entry_of entries.Beginning = lists.Beginning
+entry_of (entries.AtCase v) = lists.AtCase v
+entry_of entries.AtDefault = lists.AtDefault
+entry_of (entries.AtLabel l) = lists.AtLabel l
+
+-- the arguments that are given: none yet, or these
+abbrev pub given_for : (fresh : Bool) → List ℕ → List ℕ
+given_for true vs = []
+given_for false vs = vs
+
+-- with the arguments that are given where it stands
+abbrev pub work_of : List ℕ → Work → machine.Work
+work_of vs (works.Evaluate E e s) = machine.Evaluate (spot_of E) (exp e.now) s
+work_of vs (works.Decide E e s) = machine.Decide (spot_of E) (exp e.now) s
+work_of vs (works.Argue a) = machine.Argue (spot_of a.spot) (given_for a.fresh vs) (args a.left.now) a.level (exp a.routine.now) a.count a.s
+work_of vs (works.Store E v a s) = machine.Store (spot_of E) (exp v.now) (exp a.now) s
+work_of vs (works.Perform E c s) = machine.Perform (spot_of E) (command c.now) s
+work_of vs (works.While E c b s) = machine.Perform (spot_of E) (commands.While c.now.sense (exp c.now.test) (block_of b.now)) s
+work_of vs (works.Repeat E b s) = machine.Perform (spot_of E) (commands.Repeat (block_of b.now)) s
+work_of vs (works.RepeatWhile E b c s) = machine.Perform (spot_of E) (commands.RepeatWhile (block_of b.now) c.now.sense (exp c.now.test)) s
+work_of vs (works.Enter E b s) = machine.Enter (spot_of E) (block_of b.now) s
+work_of vs (works.Declare E ds is s level) = machine.Declare (spot_of E) (declarations ds.now) (items is.now) s level
+work_of vs (works.Initialise E xs k s) = machine.Initialise (spot_of E) (map variable xs.now) k s
+work_of vs (works.Listing E is s at) = machine.Listing (spot_of E) (items is.now) s (entry_of at)
+work_of vs (works.Round E limit by b s) = machine.Round (spot_of E) limit by (block_of b.now) s
+work_of vs (works.Number v) = machine.Give (machine.Number v)
+work_of vs (works.Verdict t) = machine.Give (machine.Verdict t)
+work_of vs works.Nothing = machine.Give machine.Nothing
+work_of vs (works.Left x) = machine.Give (machine.Left (exit_of x))
+
+abbrev pub number_rest : List ℕ → NumberRest → machine.Rest
+number_rest vs number_rests.Loads = machine.Loads
+number_rest vs number_rests.Negates = machine.Negates
+number_rest vs number_rests.Complements = machine.Complements
+number_rest vs number_rests.Tests = machine.Tests
+number_rest vs (number_rests.Operates E op e s) = machine.Operates (spot_of E) op (exp e.now) s
+number_rest vs (number_rests.Operated op x) = machine.Operated op x
+number_rest vs (number_rests.Argues a) = machine.Argues (spot_of a.spot) (given_for a.fresh vs) (args a.left.now) a.level (exp a.routine.now) a.count a.s
+
+abbrev pub value_rest : ValueRest → machine.Rest
+value_rest (value_rests.Stores E a s) = machine.Stores (spot_of E) (exp a.now) s
+value_rest (value_rests.Stored w) = machine.Stored w
+value_rest (value_rests.StoresAt a) = machine.StoresAt a
+value_rest value_rests.Drops = machine.Drops
+value_rest (value_rests.Fors E by b s) = machine.Fors (spot_of E) by (block_of b.now) s
+value_rest (value_rests.Switches E is s) = machine.Switches (spot_of E) (items is.now) s
+value_rest value_rests.Leaves = machine.Leaves
+
+abbrev pub truth_rest : TruthRest → machine.Rest
+truth_rest truth_rests.Opposes = machine.Opposes
+truth_rest (truth_rests.Conjoins E e s) = machine.Conjoins (spot_of E) (exp e.now) s
+truth_rest (truth_rests.Disjoins E e s) = machine.Disjoins (spot_of E) (exp e.now) s
+truth_rest (truth_rests.Selects E x y s) = machine.Selects (spot_of E) (exp x.now) (exp y.now) s
+truth_rest (truth_rests.Ifs E sense b s) = machine.Ifs (spot_of E) sense (block_of b.now) s
+truth_rest (truth_rests.Chooses E b c s) = machine.Chooses (spot_of E) (block_of b.now) (block_of c.now) s
+truth_rest (truth_rests.Whiles E c b s) = machine.Whiles (spot_of E) c.now.sense (exp c.now.test) (block_of b.now) s
+truth_rest (truth_rests.RepeatWhiles E b c s) = machine.RepeatWhiles (spot_of E) (block_of b.now) c.now.sense (exp c.now.test) s
+
+abbrev pub nothing_rest : NothingRest → machine.Rest
+nothing_rest nothing_rests.Passes = machine.Passes
+nothing_rest (nothing_rests.Limits E limit by b s) = machine.Limits (spot_of E) (exp limit.now) by (block_of b.now) s
+nothing_rest (nothing_rests.Declares E ds is s level) = machine.Declares (spot_of E) (declarations ds.now) (items is.now) s level
+nothing_rest (nothing_rests.Initialises E xs k s) = machine.Initialises (spot_of E) (map variable xs.now) k s
+
+abbrev pub exit_rest : ExitRest → machine.Rest
+exit_rest exit_rests.Returns = machine.Returns
+exit_rest exit_rests.Results = machine.Results
+exit_rest (exit_rests.WhileBody E c b s) = machine.WhileBody (spot_of E) c.now.sense (exp c.now.test) (block_of b.now) s
+exit_rest (exit_rests.RepeatBody E b s) = machine.RepeatBody (spot_of E) (block_of b.now) s
+exit_rest (exit_rests.RepeatWhileBody E b c s) = machine.RepeatWhileBody (spot_of E) (block_of b.now) c.now.sense (exp c.now.test) s
+exit_rest (exit_rests.ForBody E limit by b s) = machine.ForBody (spot_of E) limit by (block_of b.now) s
+exit_rest exit_rests.Cases = machine.Cases
+exit_rest (exit_rests.Follows E is s) = machine.Follows (spot_of E) (items is.now) s
+exit_rest (exit_rests.Listed E is s) = machine.Listed (spot_of E) (items is.now) s
+
+-- what is left to do with one more in front, where these arguments are given
+abbrev pub stacked : List machine.Rest → List ℕ → Rest → List machine.Rest
+stacked rs vs (rests.Number r) = number_rest vs r ∷ rs
+stacked rs vs (rests.Value r) = value_rest r ∷ rs
+stacked rs vs (rests.Calls fresh f) = machine.Calls (given_for fresh vs) f ∷ rs
+stacked rs vs (rests.Truth r) = truth_rest r ∷ rs
+stacked rs vs (rests.Nothing r) = nothing_rest r ∷ rs
+stacked rs vs (rests.Exit r) = exit_rest r ∷ rs
+stacked rs vs (rests.Closes n a) = machine.Closes n a ∷ rs
+stacked rs vs (rests.Given v first) = rs
+
+-- the arguments that are given then
+abbrev pub then_given : List ℕ → Rest → List ℕ
+then_given vs (rests.Number r) = []
+then_given vs (rests.Value r) = []
+then_given vs (rests.Calls fresh f) = []
+then_given vs (rests.Truth r) = []
+then_given vs (rests.Nothing r) = []
+then_given vs (rests.Exit r) = []
+then_given vs (rests.Closes n a) = []
+then_given vs (rests.Given v first) = given_for first vs ++ v ∷ []
+
+-- the last one put is the first one to be done
+abbrev pub stack_on : List machine.Rest → List ℕ → List Rest → List machine.Rest
+stack_on rs vs [] = rs
+stack_on rs vs (x ∷ xs) = stack_on (stacked rs vs x) (then_given vs x) xs
+
+abbrev pub given_on : List ℕ → List Rest → List ℕ
+given_on vs [] = vs
+given_on vs (x ∷ xs) = given_on (then_given vs x) xs
+
+abbrev pub stack : List Rest → List machine.Rest
+stack xs = stack_on [] [] xs
+
+abbrev pub given : List Rest → List ℕ
+given xs = given_on [] xs
+
+-- what was taken of what is left to do, which is no argument
+abbrev pub Taken : Option Rest → (old new : List Rest) → Type 0
+Taken None old new = stack old ≡ []
+Taken (Some (rests.Given v first)) old new = ⊥
+Taken (Some r) old new = stack old ≡ stacked (stack new) (given new) r
+
+-- the argument that this is, and whether it is the first one; or it is none, and ends those that are given
+abbrev pub IsGiven : Option (ℕ × Bool) → Rest → Type 0
+IsGiven None r = (vs : List ℕ) → then_given vs r ≡ []
+IsGiven (Some g) r = r ≡ rests.Given g.0 g.1
+
+-- the arguments that were given are here, the last one first, and the rest is left
+abbrev pub Gathered : (fresh : Bool) → (old new : List Rest) → (arguments : List ℕ) → Type 0
+Gathered fresh old new arguments = (stack new ≡ stack old) × (reverse arguments ≡ given_for fresh (given old))
+
+-- For proofs: of the arguments that are wanted the last ones are here already, and the others are still given, or there are none.
+abbrev pub Gathering : (more : Bool) → (wanted : List ℕ) → (left : List Rest) → (arguments : List ℕ) → Type 0
+Gathering true wanted left arguments = wanted ≡ given left ++ reverse arguments
+Gathering false wanted left arguments = wanted ≡ reverse arguments

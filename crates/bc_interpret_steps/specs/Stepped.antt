@@ -1,0 +1,59 @@
+-- What a step came to, with the end of the whole run.
+use Rattle.std.specs.Prelude.{ℕ, ◌≡◌, List, [], Vec, Result, IfOk}
+use Rattle.std.specs.declared.alloc.Global.{Global}
+use Rattle.bc_core.specs.Map.{Placed}
+use Rattle.bc_interpret_defs.specs.Machine as machine
+use Rattle.bc_interpret_defs.specs.Machine.{step, next}
+use Rattle.bc_interpret_defs.specs.Running.{Moves}
+use Rattle.bc_interpret_steps.specs.declared.state.State.{State}
+use Rattle.bc_interpret_steps.specs.declared.forms.Progress.{Progress}
+use Rattle.bc_interpret_steps.specs.declared.forms.Progress.TheVariants as progress
+use Rattle.bc_interpret_steps.specs.declared.rests.Rest.{Rest}
+use Rattle.bc_interpret_steps.specs.declared.sections.Callable.{Callable}
+use Rattle.bc_interpret_steps.specs.Code.{stack, given}
+use Rattle.bc_interpret_steps.specs.Came.{Came, Goes}
+use Rattle.bc_interpret_steps.specs.Sections.{IsTable}
+
+-- this came of a step; or the answer of the whole run stands there
+abbrev pub Stepped :
+    List Placed → machine.Work → (rs : List machine.Rest) → (old : State) → Progress → List machine.Rest → List ℕ → (new : State) → Type 0
+Stepped program w rs old progress.Answered rs1 vs1 new = ((a : machine.Answer) × (w ≡ machine.Give a)) × (rs ≡ []) × (new ≡ old)
+Stepped program w rs old p rs1 vs1 new = Moves w rs × Came (step program w rs) old p rs1 vs1 new
+
+-- whatever the program is, where what is left to do stands in the interpreter's list
+abbrev pub Works : machine.Work → (before : List Rest) → (old : State) → Progress → (after : List Rest) → (new : State) → Type 0
+Works w before old p after new = (program : List Placed) → Stepped program w (stack before) old p (stack after) (given after) new
+
+-- The same of what a call answers, if memory sufficed. For proofs: what is worked on in one step,
+abbrev pub Does :
+    {E : Type 0} → machine.Work → (before : Vec Rest Global) → (old : State) → Result Progress E → (after : Vec Rest Global) → (new : State) → Type 0
+Does w before old result after new = IfOk result (λ p. Works w before.items old p after.items new)
+
+-- which leaves the state alone
+abbrev pub Leads : {E : Type 0} → machine.Work → (before : Vec Rest Global) → Result Progress E → (after : Vec Rest Global) → Type 0
+Leads w before result after = (st : State) → Does w before st result after st
+
+-- and what is left to do,
+abbrev pub Begins : {E : Type 0} → machine.Work → Result Progress E → Type 0
+Begins w result = (program : List Placed) (st : State) (rs : List machine.Rest) (vs : List ℕ) → IfOk result (λ p. Stepped program w rs st p rs vs st)
+
+-- an answer that is taken by what is left to do first,
+abbrev pub Takes :
+    {E : Type 0}
+    → machine.Rest → machine.Answer → (before : Vec Rest Global) → (old : State) → Result Progress E → (after : Vec Rest Global) → (new : State) → Type 0
+Takes r a before old result after new = (program : List Placed) → IfOk result (λ p. Goes (next program r a) before.items old p after.items new)
+
+-- which leaves what is behind it alone,
+abbrev pub Gives : machine.Rest → machine.Answer → (old : State) → Progress → (new : State) → Type 0
+Gives r a old p new = (program : List Placed) (rs : List machine.Rest) (vs : List ℕ) → Came (next program r a rs) old p rs vs new
+
+abbrev pub GivesIfOk : {E : Type 0} → machine.Rest → machine.Answer → (old : State) → Result Progress E → (new : State) → Type 0
+GivesIfOk r a old result new = (program : List Placed) (rs : List machine.Rest) (vs : List ℕ) → IfOk result (λ p. Came (next program r a rs) old p rs vs new)
+
+-- and a step of a program with such a table
+abbrev pub StepsOver :
+    {E : Type 0}
+    → List Callable → machine.Work → (before : Vec Rest Global) → (old : State) → Result Progress E → (after : Vec Rest Global) → (new : State) → Type 0
+StepsOver table w before old result after new =
+    (program : List Placed) → IsTable program table
+    → IfOk result (λ p. Stepped program w (stack before.items) old p (stack after.items) (given after.items) new)

@@ -1,0 +1,120 @@
+// What is done with an answer: it is handed to what is left to do first.
+
+ghost use Rattle.bc_interpret_defs.specs.Machine as machine;
+ghost use Rattle.bc_interpret_steps.specs.Code.{exit_of};
+ghost use Rattle.bc_interpret_steps.specs.Stepped.{StepsOver};
+
+use crate::calls::arrive;
+use crate::exits::{exit_taken, nothing_taken};
+use crate::forms::{Exit, Progress, Work};
+use crate::numbers::{number_taken, value_taken};
+use crate::rests::Rest;
+use crate::sections::Callable;
+use crate::state::{Stacks, State};
+use crate::truths::truth_taken;
+use bc_interpret_quiet::Cause;
+use bc_word::Memory;
+
+/// A number is handed on.
+pub(crate) fn give_number<'c>(
+    table: &[Callable<'c>],
+    v: u16,
+    stacks: &mut Stacks<'c>,
+    state: &mut State,
+) -> Result<Progress<'c>, Memory>
+    ensures { StepsOver table.now (machine.Give (machine.Number v)) stacks.old.rests state.old result stacks.new.rests state.new }
+{
+    match stacks.take() {
+        None => Ok(Progress::Answered),
+        Some(Rest::Number(rest)) => Ok(number_taken(&rest, v, &mut stacks.rests, state)?),
+        Some(Rest::Value(rest)) => Ok(value_taken(&rest, v, &mut stacks.rests, state)?),
+        Some(Rest::Calls(fresh, frame)) => Ok(arrive(table, v, fresh, frame, stacks, state)?),
+        Some(Rest::Closes(count, from)) => {
+            state.store.close(count, from);
+            Ok(Progress::On(Work::Number(v)))
+        }
+        Some(Rest::Truth(_) | Rest::Nothing(_) | Rest::Exit(_) | Rest::Given(_, _)) => Ok(
+            Progress::Wild(Cause::Malformed),
+        ),
+    }
+}
+
+/// A truth is handed on.
+pub(crate) fn give_verdict<'c>(
+    table: &[Callable<'c>],
+    t: bool,
+    stacks: &mut Stacks<'c>,
+    state: &mut State,
+) -> Result<Progress<'c>, Memory>
+    ensures { StepsOver table.now (machine.Give (machine.Verdict t)) stacks.old.rests state.old result stacks.new.rests state.new }
+{
+    match stacks.take() {
+        None => Ok(Progress::Answered),
+        Some(Rest::Truth(rest)) => Ok(truth_taken(&rest, t, &mut stacks.rests, state)?),
+        Some(Rest::Closes(count, from)) => {
+            state.store.close(count, from);
+            Ok(Progress::On(Work::Verdict(t)))
+        }
+        Some(
+            Rest::Number(_)
+            | Rest::Value(_)
+            | Rest::Calls(_, _)
+            | Rest::Nothing(_)
+            | Rest::Exit(_)
+            | Rest::Given(_, _),
+        ) => { Ok(Progress::Wild(Cause::Malformed)) }
+    }
+}
+
+/// What is left behind a store or an initialiser goes on.
+pub(crate) fn give_nothing<'c>(
+    table: &[Callable<'c>],
+    stacks: &mut Stacks<'c>,
+    state: &mut State,
+) -> Result<Progress<'c>, Memory>
+    ensures { StepsOver table.now (machine.Give machine.Nothing) stacks.old.rests state.old result stacks.new.rests state.new }
+{
+    match stacks.take() {
+        None => Ok(Progress::Answered),
+        Some(Rest::Nothing(rest)) => Ok(nothing_taken(&rest, &mut stacks.rests)?),
+        Some(Rest::Closes(count, from)) => {
+            state.store.close(count, from);
+            Ok(Progress::On(Work::Nothing))
+        }
+        Some(
+            Rest::Number(_)
+            | Rest::Value(_)
+            | Rest::Calls(_, _)
+            | Rest::Truth(_)
+            | Rest::Exit(_)
+            | Rest::Given(_, _),
+        ) => { Ok(Progress::Wild(Cause::Malformed)) }
+    }
+}
+
+/// Control has left a command.
+pub(crate) fn give_exit<'c>(
+    table: &[Callable<'c>],
+    exit: Exit,
+    stacks: &mut Stacks<'c>,
+    state: &mut State,
+) -> Result<Progress<'c>, Memory>
+    ensures { StepsOver table.now (machine.Give (machine.Left (exit_of exit))) stacks.old.rests state.old result stacks.new.rests state.new }
+{
+    match stacks.take() {
+        None => Ok(Progress::Answered),
+        Some(Rest::Exit(rest)) => Ok(exit_taken(&rest, exit, &mut stacks.rests, state)?),
+        Some(Rest::Closes(count, from)) => {
+            state.store.close(count, from);
+            Ok(Progress::On(Work::Left(exit)))
+        }
+        Some(
+            Rest::Number(_)
+            | Rest::Value(_)
+            | Rest::Calls(_, _)
+            | Rest::Truth(_)
+            | Rest::Nothing(_)
+            | Rest::Given(_, _),
+        ) => { Ok(Progress::Wild(Cause::Malformed)) }
+    }
+}

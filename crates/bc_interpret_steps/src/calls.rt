@@ -1,0 +1,133 @@
+// Into a routine or a primitive.
+
+ghost use Rattle.std.specs.Prelude.{Some, IfOk};
+ghost use Rattle.bc_core.specs.Meaning.{OfLibrary};
+ghost use Rattle.bc_interpret_steps.specs.Arrived.{Enters, Arrives};
+ghost use Rattle.bc_interpret_steps.specs.Came.{Framed, IsPrimitive, primitive_of};
+ghost use Rattle.bc_interpret_steps.specs.Sections.{IsSized, callee_of};
+
+use crate::forms::{Primitive, Progress, Spot, Work};
+use crate::rests::{ExitRest, Rest, above, put};
+use crate::sections::{Callable, routine_at};
+use crate::state::{Stacks, State, turn};
+use bc_core::Body;
+use bc_interpret_quiet::Cause;
+use bc_machine_defs::Side;
+use bc_word::Memory;
+
+/// Whether a call goes on.
+#[derive(Clone, Copy)]
+pub(crate) enum Room {
+    /// It does, and its turn is taken.
+    Fits,
+    /// Its frame would pass the address 65,535.
+    TooLarge,
+    /// No turn is left.
+    NoTurn,
+}
+
+/// Takes the turn of a call with a frame of this size, if the frame fits.
+#[tactic(auto, using(crate::proofs::Frames::too_large, crate::proofs::Frames::no_turn, crate::proofs::Frames::fits))]
+fn take_room(frame: usize, size: usize, state: &mut State) -> Result<Room, Memory>
+    ensures { IfOk result (λ found. Framed found frame size state.old state.new) }
+{
+    if above(frame, size)? > 65536 {
+        return Ok(Room::TooLarge);
+    }
+    if !turn(state) {
+        return Ok(Room::NoTurn);
+    }
+    Ok(Room::Fits)
+}
+
+/// The primitive whose code stands at this address.
+fn primitive_at(address: u16) -> Option<Primitive>
+    ensures { IsPrimitive result address }
+{
+    match address {
+        520 => Some(Primitive::Select(Side::Input)),
+        524 => Some(Primitive::Select(Side::Output)),
+        528 => Some(Primitive::ReadByte),
+        530 => Some(Primitive::WriteByte),
+        534 => Some(Primitive::Find(Side::Input)),
+        537 => Some(Primitive::Find(Side::Output)),
+        540 => Some(Primitive::EndStream(Side::Input)),
+        543 => Some(Primitive::EndStream(Side::Output)),
+        _ => None,
+    }
+}
+
+/// Into a primitive, in the frame at this address.
+fn enter_primitive<'c>(
+    primitive: Primitive,
+    frame: usize,
+    stacks: &mut Stacks<'c>,
+    state: &mut State,
+) -> Result<Progress<'c>, Memory>
+    ensures { Enters (Some (OfLibrary (primitive_of primitive))) frame stacks.old state.old result stacks.new state.new }
+{
+    match take_room(frame, 3, state)? {
+        Room::TooLarge => Ok(Progress::Wild(Cause::FrameTooLarge(frame))),
+        Room::NoTurn => Ok(Progress::Going),
+        Room::Fits => {
+            state.store.pass(1, above(frame, 2)?, &mut stacks.arguments);
+            Ok(Progress::Serve(primitive, frame))
+        }
+    }
+}
+
+/// Into a routine, in the frame at this address.
+fn enter_routine<'c>(
+    entry: Callable<'c>,
+    frame: usize,
+    stacks: &mut Stacks<'c>,
+    state: &mut State,
+) -> Result<Progress<'c>, Memory>
+    ensures { IsSized entry.entry → Enters (Some (callee_of entry.entry)) frame stacks.old state.old result stacks.new state.new }
+{
+    match take_room(frame, entry.frame, state)? {
+        Room::TooLarge => Ok(Progress::Wild(Cause::FrameTooLarge(frame))),
+        Room::NoTurn => Ok(Progress::Going),
+        Room::Fits => {
+            let parameters = entry.routine.parameters as usize;
+            let from = above(frame, 2)?;
+            let level = above(2, parameters)?;
+            state.store.pass(parameters, from, &mut stacks.arguments);
+            put(Rest::Closes(parameters, from), &mut stacks.rests)?;
+            let spot = Spot {
+                addresses: entry.section.addresses,
+                first: 0,
+                valofs: entry.section.valofs,
+                frame,
+            };
+            match &entry.routine.body {
+                Body::Value(e) => Ok(Progress::On(Work::Evaluate(spot, e, level))),
+                Body::Commands(block) => {
+                    put(Rest::Exit(ExitRest::Returns), &mut stacks.rests)?;
+                    Ok(Progress::On(Work::Enter(spot, block, level)))
+                }
+            }
+        }
+    }
+}
+
+/// A value is called, in the frame at this address, with the arguments that are given, or with none where the call is `fresh`.
+pub(crate) fn arrive<'c>(
+    table: &[Callable<'c>],
+    routine: u16,
+    fresh: bool,
+    frame: usize,
+    stacks: &mut Stacks<'c>,
+    state: &mut State,
+) -> Result<Progress<'c>, Memory>
+    ensures { Arrives table.now routine fresh frame stacks.old state.old result stacks.new state.new }
+{
+    stacks.gather(fresh)?;
+    match routine_at(table, routine) {
+        Some(entry) => enter_routine(entry, frame, stacks, state),
+        None => match primitive_at(routine) {
+            Some(primitive) => enter_primitive(primitive, frame, stacks, state),
+            None => Ok(Progress::Wild(Cause::NotRoutine(routine))),
+        },
+    }
+}

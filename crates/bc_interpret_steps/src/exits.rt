@@ -1,0 +1,192 @@
+// What is done where control leaves a command, and behind a store.
+
+ghost use Rattle.bc_core.specs.Exit.{Past};
+ghost use Rattle.bc_core.specs.View.{block_of};
+ghost use Rattle.bc_interpret_defs.specs.Machine as machine;
+ghost use Rattle.bc_interpret_steps.specs.declared.state.State.{State as StateValue};
+ghost use Rattle.bc_interpret_steps.specs.Code.{spot_of, exit_of, exit_rest, nothing_rest};
+ghost use Rattle.bc_interpret_steps.specs.Came.{IsBehind, IsBehindCases};
+ghost use Rattle.bc_interpret_steps.specs.Stepped.{Takes, Gives, GivesIfOk};
+
+use crate::forms::{Entry, Exit, Progress, Spot, Work};
+use crate::lists::has_label;
+use crate::rests::{ExitRest, NothingRest, Rest, TruthRest, ValueRest, above, put};
+use crate::state::{State, put_word, turn};
+use bc_core::Block;
+use bc_interpret_quiet::{Cause, cell_of};
+use bc_interpret_store::Cell;
+use bc_word::Memory;
+
+/// What comes behind a loop's body: none where the loop goes on, else how it is left.
+#[inline(always)]
+fn behind(exit: Exit) -> Option<Exit>
+    ensures { IsBehind result (exit_of exit) }
+{
+    match exit {
+        Exit::Past | Exit::Looped => None,
+        Exit::Broke => Some(Exit::Past),
+        Exit::LeftCases => Some(Exit::LeftCases),
+        Exit::Returned => Some(Exit::Returned),
+        Exit::Resulted(v) => Some(Exit::Resulted(v)),
+        Exit::Jumped(l) => Some(Exit::Jumped(l)),
+    }
+}
+
+/// A FOR goes on behind its body: its variable is stepped, which takes a turn.
+#[tactic(auto, using(crate::proofs::Loops::stepped_dead, crate::proofs::Loops::stepped_unset))]
+fn step_variable<'c>(
+    spot: Spot<'c>,
+    limit: u16,
+    by: u16,
+    body: &'c Block,
+    s: usize,
+    state: &mut State,
+) -> Result<Progress<'c>, Memory>
+    ensures { GivesIfOk (machine.ForBody (spot_of spot.entry) limit by (block_of body.now) s) (machine.Left Past) state.old result state.new }
+{
+    let address = cell_of(spot.frame, s)?;
+    let value = match state.store.at(address) {
+        Cell::Dead => return Ok(Progress::Wild(Cause::Dead(address))),
+        Cell::Unset => return Ok(Progress::Wild(Cause::Unset(address))),
+        Cell::Set(word) => word,
+    };
+    if let Some(cause) = put_word(state, address, value.wrapping_add(by)) {
+        return Ok(Progress::Wild(cause));
+    }
+    if !turn(state) {
+        return Ok(Progress::Going);
+    }
+    Ok(Progress::On(Work::Round(spot, limit, by, body, s)))
+}
+
+/// What is done where control leaves a command.
+pub(crate) fn exit_taken<'c>(
+    rest: &ExitRest<'c>,
+    exit: Exit,
+    rests: &mut Vec<Rest<'c>>,
+    state: &mut State,
+) -> Result<Progress<'c>, Memory>
+    ensures { Takes (exit_rest rest.now) (machine.Left (exit_of exit)) rests.old state.old result rests.new state.new }
+{
+    match rest {
+        ExitRest::Returns => Ok(returned(exit)),
+        ExitRest::Results => Ok(resulted(exit)),
+        ExitRest::WhileBody(spot, condition, body, s) => match behind(exit) {
+            Some(left) => Ok(Progress::On(Work::Left(left))),
+            None => {
+                if !turn(state) {
+                    return Ok(Progress::Going);
+                }
+                Ok(Progress::On(Work::While(*spot, condition, body, *s)))
+            }
+        },
+        ExitRest::RepeatBody(spot, body, s) => match behind(exit) {
+            Some(left) => Ok(Progress::On(Work::Left(left))),
+            None => {
+                if !turn(state) {
+                    return Ok(Progress::Going);
+                }
+                Ok(Progress::On(Work::Repeat(*spot, body, *s)))
+            }
+        },
+        ExitRest::RepeatWhileBody(spot, body, condition, s) => match behind(exit) {
+            Some(left) => Ok(Progress::On(Work::Left(left))),
+            None => {
+                put(
+                    Rest::Truth(TruthRest::RepeatWhiles(*spot, body, condition, *s)),
+                    rests,
+                )?;
+                Ok(Progress::On(Work::Decide(*spot, &condition.test, *s)))
+            }
+        },
+        ExitRest::ForBody(spot, limit, by, body, s) => match behind(exit) {
+            Some(left) => Ok(Progress::On(Work::Left(left))),
+            None => step_variable(*spot, *limit, *by, body, *s, state),
+        },
+        ExitRest::Cases => Ok(Progress::On(Work::Left(behind_cases(exit)))),
+        ExitRest::Follows(spot, items, s) => match exit {
+            Exit::Past => Ok(Progress::On(Work::Listing(*spot, items, *s, Entry::Beginning))),
+            Exit::Broke
+            | Exit::Looped
+            | Exit::LeftCases
+            | Exit::Returned
+            | Exit::Resulted(_)
+            | Exit::Jumped(_) => { Ok(Progress::On(Work::Left(exit))) }
+        },
+        ExitRest::Listed(spot, items, s) => match exit {
+            Exit::Jumped(label) => {
+                if has_label(items, label) {
+                    put(Rest::Exit(ExitRest::Listed(*spot, items, *s)), rests)?;
+                    return Ok(Progress::On(Work::Listing(*spot, items, *s, Entry::AtLabel(label))));
+                }
+                Ok(Progress::On(Work::Left(exit)))
+            }
+            Exit::Past
+            | Exit::Broke
+            | Exit::Looped
+            | Exit::LeftCases
+            | Exit::Returned
+            | Exit::Resulted(_) => { Ok(Progress::On(Work::Left(exit))) }
+        },
+    }
+}
+
+/// The value of a routine of BE, which control leaves so.
+fn returned<'c>(exit: Exit) -> Progress<'c>
+    ensures { (st : StateValue) → Gives machine.Returns (machine.Left (exit_of exit)) st result st }
+{
+    match exit {
+        Exit::Past | Exit::Returned => Progress::On(Work::Number(0)),
+        Exit::Broke | Exit::Looped | Exit::LeftCases | Exit::Resulted(_) | Exit::Jumped(_) =>
+            Progress::Wild(Cause::Malformed),
+    }
+}
+
+/// The value of a VALOF, whose body control leaves so.
+fn resulted<'c>(exit: Exit) -> Progress<'c>
+    ensures { (st : StateValue) → Gives machine.Results (machine.Left (exit_of exit)) st result st }
+{
+    match exit {
+        Exit::Past => Progress::On(Work::Number(0)),
+        Exit::Resulted(v) => Progress::On(Work::Number(v)),
+        Exit::Broke | Exit::Looped | Exit::LeftCases | Exit::Returned | Exit::Jumped(_) =>
+            Progress::Wild(Cause::Malformed),
+    }
+}
+
+/// How control leaves a SWITCHON whose list it leaves so.
+fn behind_cases(exit: Exit) -> Exit
+    ensures { IsBehindCases (exit_of result) (exit_of exit) }
+{
+    match exit {
+        Exit::LeftCases => Exit::Past,
+        Exit::Past
+        | Exit::Broke
+        | Exit::Looped
+        | Exit::Returned
+        | Exit::Resulted(_)
+        | Exit::Jumped(_) => exit,
+    }
+}
+
+/// What is done behind a store or an initialiser.
+pub(crate) fn nothing_taken<'c>(
+    rest: &NothingRest<'c>,
+    rests: &mut Vec<Rest<'c>>,
+) -> Result<Progress<'c>, Memory>
+    ensures { (st : StateValue) → Takes (nothing_rest rest.now) machine.Nothing rests.old st result rests.new st }
+{
+    match rest {
+        NothingRest::Passes => Ok(Progress::On(Work::Left(Exit::Past))),
+        NothingRest::Limits(spot, limit, by, body, s) => {
+            put(Rest::Value(ValueRest::Fors(*spot, *by, body, *s)), rests)?;
+            Ok(Progress::On(Work::Evaluate(*spot, limit, above(*s, 2)?)))
+        }
+        NothingRest::Declares(spot, declarations, items, s, level) => {
+            Ok(Progress::On(Work::Declare(*spot, declarations, items, *s, *level)))
+        }
+        NothingRest::Initialises(spot, variables, k, s) => Ok(Progress::On(Work::Initialise(
+            *spot, variables, *k, *s,
+        ))),
+    }
+}

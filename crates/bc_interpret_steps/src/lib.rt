@@ -1,0 +1,24 @@
+//! The steps of a run of a resolved program. Each takes what is at work and what is left to do to the next, as the machine of
+//! `bc_interpret_defs` does, and none takes native stack for the depth of calls or of trees.
+#![tactic(auto)]
+
+mod answers;
+mod arguments;
+mod calls;
+mod commands;
+mod evaluate;
+mod exits;
+mod forms;
+mod lists;
+mod numbers;
+mod rests;
+mod sections;
+mod state;
+mod steps;
+mod truths;
+
+pub use forms::{Arguments, Ending, Exit, Primitive, Progress, Spot, Work};
+pub use rests::{ExitRest, NothingRest, NumberRest, Rest, TruthRest, ValueRest, put};
+pub use sections::{Callable, Section};
+pub use state::{Stacks, State};
+pub use steps::step;

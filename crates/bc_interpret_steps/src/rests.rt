@@ -1,0 +1,131 @@
+// What is left to do with answers: the last one put is the first one to be done.
+
+ghost use Rattle.std.specs.Prelude.{◌≡◌, ◌+◌, OnOk, IfOk};
+ghost use Rattle.bc_interpret_steps.specs.Code.{stack, given, stacked, then_given, Taken};
+
+use crate::forms::{Arguments, Spot};
+use bc_core::{Block, Condition, CoreExp, Declaration, ListItem, Variable};
+use bc_word::{Memory, Op};
+
+/// What is done with a number within an expression.
+#[derive(Clone, Copy)]
+pub enum NumberRest<'c> {
+    Loads,
+    Negates,
+    Complements,
+    Tests,
+    /// The second operand is worked out; then it is the second operand of this one.
+    Operates(Spot<'c>, Op, &'c CoreExp, usize),
+    Operated(Op, u16),
+    Argues(Arguments<'c>),
+}
+
+/// What is done with the number that an expression comes to in a command.
+#[derive(Clone, Copy)]
+pub enum ValueRest<'c> {
+    Stores(Spot<'c>, &'c CoreExp, usize),
+    Stored(u16),
+    StoresAt(u16),
+    Drops,
+    Fors(Spot<'c>, u16, &'c Block, usize),
+    Switches(Spot<'c>, &'c [ListItem], usize),
+    Leaves,
+}
+
+/// What is done with a truth.
+#[derive(Clone, Copy)]
+pub enum TruthRest<'c> {
+    Opposes,
+    Conjoins(Spot<'c>, &'c CoreExp, usize),
+    Disjoins(Spot<'c>, &'c CoreExp, usize),
+    Selects(Spot<'c>, &'c CoreExp, &'c CoreExp, usize),
+    Ifs(Spot<'c>, bool, &'c Block, usize),
+    Chooses(Spot<'c>, &'c Block, &'c Block, usize),
+    Whiles(Spot<'c>, &'c Condition, &'c Block, usize),
+    RepeatWhiles(Spot<'c>, &'c Block, &'c Condition, usize),
+}
+
+/// What is done behind a store or an initialiser.
+#[derive(Clone, Copy)]
+pub enum NothingRest<'c> {
+    Passes,
+    Limits(Spot<'c>, &'c CoreExp, u16, &'c Block, usize),
+    Declares(Spot<'c>, &'c [Declaration], &'c [ListItem], usize, usize),
+    Initialises(Spot<'c>, &'c [Variable], usize, usize),
+}
+
+/// What is done where control leaves a command.
+#[derive(Clone, Copy)]
+pub enum ExitRest<'c> {
+    Returns,
+    Results,
+    WhileBody(Spot<'c>, &'c Condition, &'c Block, usize),
+    RepeatBody(Spot<'c>, &'c Block, usize),
+    RepeatWhileBody(Spot<'c>, &'c Block, &'c Condition, usize),
+    /// The limit, and the step.
+    ForBody(Spot<'c>, u16, u16, &'c Block, usize),
+    Cases,
+    /// The items behind a command.
+    Follows(Spot<'c>, &'c [ListItem], usize),
+    /// A whole list, which a jump may enter again.
+    Listed(Spot<'c>, &'c [ListItem], usize),
+}
+
+/// What is left to do with an answer.
+#[derive(Clone, Copy)]
+pub enum Rest<'c> {
+    Number(NumberRest<'c>),
+    Value(ValueRest<'c>),
+    /// Whether the call has no argument, and the address of its frame.
+    Calls(bool, usize),
+    Truth(TruthRest<'c>),
+    Nothing(NothingRest<'c>),
+    Exit(ExitRest<'c>),
+    /// So many cells from this address on are given back.
+    Closes(usize, usize),
+    /// An argument of the call whose rest comes next, and whether it is the first one.
+    Given(u16, bool),
+}
+
+/// Puts what is left to do in front of the rest.
+///
+/// `Memory` comes where an allocation was refused.
+#[inline(always)]
+#[tactic(auto, using(crate::proofs::Piles::stack_more, crate::proofs::Piles::given_more))]
+pub fn put<'c>(rest: Rest<'c>, rests: &mut Vec<Rest<'c>>) -> Result<(), Memory>
+    ensures stack { OnOk result (stack rests.new.items ≡ stacked (stack rests.old.items) (given rests.old.items) rest.entry) }
+    ensures given { OnOk result (given rests.new.items ≡ then_given (given rests.old.items) rest.entry) }
+{
+    rests.push(rest)?;
+    Ok(())
+}
+
+/// Takes what is to be done first of what is left. Arguments that no call has taken are dropped.
+#[tactic(auto, using(crate::proofs::Piles::stack_more, crate::proofs::Piles::given_more))]
+pub(crate) fn take<'c>(rests: &mut Vec<Rest<'c>>) -> Option<Rest<'c>>
+    ensures { Taken result rests.old.items rests.new.items }
+{
+    while let Some(rest) = rests.pop() {
+        match rest {
+            Rest::Given(_, _) => {}
+            Rest::Number(_)
+            | Rest::Value(_)
+            | Rest::Calls(_, _)
+            | Rest::Truth(_)
+            | Rest::Nothing(_)
+            | Rest::Exit(_)
+            | Rest::Closes(_, _) => return Some(rest),
+        }
+    }
+    None
+}
+
+/// A level above this one.
+///
+/// `Memory` comes where no number is so great, which no level of a frame is.
+#[inline(always)]
+pub(crate) fn above(s: usize, n: usize) -> Result<usize, Memory>
+    ensures { IfOk result (λ r. r ≡ s + n) }
+{
+    s.checked_add(n).ok_or(Memory)
+}

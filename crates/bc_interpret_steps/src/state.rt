@@ -1,0 +1,51 @@
+// The store and the turns of a run, and memory that serves again.
+
+ghost use Rattle.bc_interpret_steps.specs.Came.{Turned, Wrote};
+
+use crate::rests::Rest;
+use bc_core::CoreExp;
+use bc_interpret_quiet::{Cause, Rest as QuietRest};
+use bc_interpret_store::Store;
+
+/// The store, and the turns that are left.
+#[derive(Drop)]
+pub struct State {
+    pub store: Store,
+    pub turns: u64,
+}
+
+/// What is left to do, and memory that serves again: for parts of an expression without call, for expressions that wait to be looked at,
+/// and for the arguments of a call.
+#[derive(Drop)]
+pub struct Stacks<'c> {
+    pub rests: Vec<Rest<'c>>,
+    pub quiet: Vec<QuietRest<'c>>,
+    pub waiting: Vec<&'c CoreExp>,
+    pub arguments: Vec<u16>,
+}
+
+/// Takes a turn, if one is left, and answers whether one was.
+#[inline(always)]
+#[tactic(auto, using(crate::proofs::Turns::turn_left, crate::proofs::Turns::no_turn_left))]
+pub(crate) fn turn(state: &mut State) -> bool
+    ensures { Turned result state.old state.new }
+{
+    if state.turns == 0 {
+        return false;
+    }
+    state.turns -= 1;
+    true
+}
+
+/// The cell at this address gets a word: none where it is live, else the wild access.
+#[inline(always)]
+#[tactic(auto, using(crate::proofs::Writes::wrote, crate::proofs::Writes::wrote_not))]
+pub(crate) fn put_word(state: &mut State, address: u16, word: u16) -> Option<Cause>
+    ensures { Wrote state.old address word result state.new }
+{
+    if state.store.write(address, word) {
+        None
+    } else {
+        Some(Cause::NoCell(address))
+    }
+}

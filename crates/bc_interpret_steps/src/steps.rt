@@ -1,0 +1,90 @@
+// One step.
+
+ghost use Rattle.bc_interpret_steps.specs.Code.{work_of, given};
+ghost use Rattle.bc_interpret_steps.specs.Stepped.{StepsOver};
+
+use crate::answers::{give_exit, give_nothing, give_number, give_verdict};
+use crate::arguments::argue;
+use crate::commands::{
+    declare, enter, initialise, perform, repeat, repeat_while, round, store, while_loop,
+};
+use crate::evaluate::{decide, evaluate};
+use crate::forms::{Progress, Work};
+use crate::lists::listing;
+use crate::sections::Callable;
+use crate::state::{Stacks, State};
+use bc_word::Memory;
+
+/// One step of a run, and what comes of it.
+///
+/// `Memory` comes where an allocation was refused.
+pub fn step<'c>(
+    table: &[Callable<'c>],
+    work: Work<'c>,
+    stacks: &mut Stacks<'c>,
+    state: &mut State,
+) -> Result<Progress<'c>, Memory>
+    ensures { StepsOver table.now (work_of (given stacks.old.rests.items) work.entry) stacks.old.rests state.old result stacks.new.rests state.new }
+{
+    match work {
+        Work::Evaluate(spot, e, s) => Ok(evaluate(spot, e, s, stacks, state)?),
+        Work::Decide(spot, e, s) => Ok(decide(spot, e, s, &mut stacks.rests)?),
+        Work::Argue(arguments) => Ok(argue(arguments, &mut stacks.rests)?),
+        Work::Store(spot, value, address, s) => Ok(store(spot, value, address, s, stacks, state)?),
+        Work::Perform(spot, command, s) => Ok(perform(spot, command, s, &mut stacks.rests, state)?),
+        Work::While(spot, condition, body, s) => Ok(while_loop(
+            spot,
+            condition,
+            body,
+            s,
+            &mut stacks.rests,
+        )?),
+        Work::Repeat(spot, body, s) => Ok(repeat(spot, body, s, &mut stacks.rests)?),
+        Work::RepeatWhile(spot, body, condition, s) => Ok(repeat_while(
+            spot,
+            body,
+            condition,
+            s,
+            &mut stacks.rests,
+        )?),
+        Work::Enter(spot, block, s) => Ok(enter(spot, block, s)?),
+        Work::Declare(spot, declarations, items, s, level) => {
+            Ok(declare(
+                spot,
+                declarations,
+                items,
+                (s, level),
+                &mut stacks.rests,
+                state,
+            )?)
+        }
+        Work::Initialise(spot, variables, k, s) => Ok(initialise(
+            spot,
+            variables,
+            k,
+            s,
+            &mut stacks.rests,
+            state,
+        )?),
+        Work::Listing(spot, items, s, entry) => Ok(listing(
+            spot,
+            items,
+            s,
+            entry,
+            &mut stacks.rests,
+        )?),
+        Work::Round(spot, limit, by, body, s) => Ok(round(
+            spot,
+            limit,
+            by,
+            body,
+            s,
+            &mut stacks.rests,
+            state,
+        )?),
+        Work::Number(v) => Ok(give_number(table, v, stacks, state)?),
+        Work::Verdict(t) => Ok(give_verdict(table, t, stacks, state)?),
+        Work::Nothing => Ok(give_nothing(table, stacks, state)?),
+        Work::Left(exit) => Ok(give_exit(table, exit, stacks, state)?),
+    }
+}

@@ -1,0 +1,5 @@
+pub mod Operands
+pub mod Values
+pub mod Tests
+pub mod Refusals
+pub mod Least
