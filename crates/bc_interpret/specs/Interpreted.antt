@@ -1,0 +1,32 @@
+-- What a run of sections comes to, where their places stand as in an image.
+use Rattle.std.specs.Prelude.{ℕ, ◌≡◌, ◌≤◌, List, map, drop}
+use Rattle.bc_machine_defs.specs.Streams.{Content}
+use Rattle.bc_machine.specs.Rose.{Rose}
+use Rattle.bc_machine_image.specs.declared.image.Image.{Image}
+use Rattle.bc_machine_image.specs.declared.image.SegmentPlace.{SegmentPlace}
+use Rattle.bc_link.specs.Labels.{label_address}
+use Rattle.bc_core.specs.Commands.{Core}
+use Rattle.bc_core.specs.Map.{Map}
+use Rattle.bc_core.specs.Meaning.{meaning}
+use Rattle.bc_interpret.specs.declared.run.Outcome.{Outcome}
+use Rattle.bc_interpret.specs.declared.run.Outcome.TheVariants.{Device}
+use Rattle.bc_interpret.specs.Results.{IsResult}
+
+-- where an image has the places of its sections, which stand behind the primitives, and where its stack begins
+abbrev pub map_of : Image → Map
+map_of image = record { places = map (λ (place : SegmentPlace). label_address place.labels) (drop 1 image.places); stack_base = image.stack_base }
+
+-- Over streams whose content may be known: where it is, it stays so, and the run came to what the sections mean, with the output that
+-- the meaning has. A device fails only where the count of failures rose or stands at its greatest value.
+pub record Interpreted (cores : List Core) (image : Image) (turns : ℕ)
+    (known tells : Type 0) (before after : Content) (failures risen : ℕ) (outcome : Outcome) : Type 0 where
+  pub means : known → IsResult (meaning cores (map_of image) before turns) outcome after
+  pub kept : known → tells
+  pub failed : outcome ≡ Device → Rose failures risen
+  pub counted : failures ≤ risen
+
+-- the same over streams that tell what is known of them, what they hold and how often they failed
+abbrev pub InterpretedOn :
+    {T : Type 0} → (T → Type 0) → (T → Content) → (T → ℕ) → List Core → Image → ℕ → T → T → Outcome → Type 0
+InterpretedOn {T} known content failures cores image turns streams streams_new outcome =
+    Interpreted cores image turns (known streams) (known streams_new) (content streams) (content streams_new) (failures streams) (failures streams_new) outcome

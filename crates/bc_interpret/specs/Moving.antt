@@ -1,0 +1,129 @@
+-- For proofs: how far a run is.
+use Rattle.std.specs.Prelude.{ℕ, ◌≡◌, ◌<◌, ◌≤◌, List}
+use Rattle.bc_machine_defs.specs.Streams.{Content}
+use Rattle.bc_machine.specs.Rose.{Rose}
+use Rattle.bc_core.specs.Map.{Placed, standing}
+use Rattle.bc_core.specs.Start.{start_cells}
+use Rattle.bc_core.specs.Meaning.{Result, calls, result_of, meaning_over, entered_at}
+use Rattle.bc_interpret_defs.specs.Machine as machine
+use Rattle.bc_interpret_defs.specs.Resume.{meant}
+use Rattle.bc_interpret_defs.specs.Weight.{weight}
+use Rattle.bc_interpret_steps.specs.declared.forms.Work.{Work}
+use Rattle.bc_interpret_steps.specs.declared.forms.Work.TheVariants as works
+use Rattle.bc_interpret_steps.specs.declared.forms.Progress.{Progress}
+use Rattle.bc_interpret_steps.specs.declared.rests.Rest.{Rest}
+use Rattle.bc_interpret_steps.specs.declared.sections.Callable.{Callable}
+use Rattle.bc_interpret_steps.specs.declared.state.State.{State}
+use Rattle.bc_interpret_steps.specs.Code.{stack, given}
+use Rattle.bc_interpret_steps.specs.Came.{state_of, at}
+use Rattle.bc_interpret_steps.specs.Sections.{IsTable}
+use Rattle.bc_interpret_steps.specs.Stepped.{Stepped}
+use Rattle.bc_interpret.specs.declared.run.Run.{Run}
+use Rattle.bc_interpret.specs.declared.run.Moved.{Moved}
+use Rattle.bc_interpret.specs.declared.run.Moved.TheVariants.{On, Over}
+use Rattle.bc_interpret.specs.declared.run.Outcome.{Outcome}
+use Rattle.bc_interpret.specs.declared.run.Outcome.TheVariants as outs
+use Rattle.bc_interpret.specs.declared.serve.Served.{Served}
+use Rattle.bc_interpret.specs.declared.serve.Served.TheVariants as forms
+use Rattle.bc_interpret.specs.Results.{IsResult}
+
+-- some program has this table
+abbrev pub HasProgram : List Callable → Type 0
+HasProgram table = (program : List Placed) × IsTable program table
+
+-- this work, with what is left to do
+abbrev pub at_of : Work → List Rest → machine.At
+at_of w rests = at (given rests) w (stack rests)
+
+abbrev pub weight_of : Work → List Rest → ℕ
+weight_of w rests = let a = at_of w rests in weight a.work a.rests
+
+-- what a step came to
+abbrev pub StepIs : List Placed → Work → List Rest → State → Progress → List Rest → State → Type 0
+StepIs program w rests old p rests1 new = let a = at_of w rests in Stepped program a.work a.rests old p (stack rests1) (given rests1) new
+
+-- the result of what is left of a run, by the calls of this program that nest at most n deep
+abbrev pub left_of : List Placed → ℕ → Work → List Rest → State → Content → Result
+left_of program n w rests st streams = result_of (meant (calls program n) (at_of w rests) (state_of st streams))
+
+-- how a primitive's work moves a run
+abbrev pub moved_of : Served → Moved
+moved_of (forms.Number v) = On (works.Number v)
+moved_of (forms.Wild c) = Over (outs.Wild c)
+moved_of forms.Device = Over outs.Device
+
+-- this result is that of what is left, or that with which the run is over
+abbrev pub Comes : List Placed → ℕ → Result → Moved → Run → Content → Type 0
+Comes program n r (On w) run streams = r ≡ left_of program n w run.stacks.rests.items run.state streams
+Comes program n r (Over o) run streams = IsResult r o streams
+
+abbrev pub Keeps : List Callable → Work → Run → Content → Moved → Run → Content → Type 0
+Keeps table w old before moved new after =
+    (program : List Placed) → IsTable program table → (n : ℕ) → old.state.turns < n
+    → Comes program n (left_of program n w old.stacks.rests.items old.state before) moved new after
+
+abbrev pub Lessened : Work → Run → Moved → Run → Type 0
+Lessened w old (On next) new =
+    (new.state.turns ≤ old.state.turns) × (old.state.turns ≤ new.state.turns → weight_of next new.stacks.rests.items < weight_of w old.stacks.rests.items)
+Lessened w old (Over o) new = Unit {0}
+
+abbrev pub TookTurn : Moved → Run → Run → Type 0
+TookTurn (On next) old new = new.state.turns < old.state.turns
+TookTurn (Over o) old new = Unit {0}
+
+-- what one step came to, over streams whose content may be known
+pub record Advanced (table : List Callable) (w : Work) (old new : Run)
+    (known tells : Type 0) (before after : Content) (failures risen : ℕ) (moved : Moved) : Type 0 where
+  pub keeps : known → Keeps table w old before moved new after
+  pub lessened : Lessened w old moved new
+  pub kept : known → tells
+  pub failed : moved ≡ Over outs.Device → Rose failures risen
+  pub counted : failures ≤ risen
+
+-- what steps came to, up to one that took a turn
+pub record Stretched (table : List Callable) (w : Work) (old new : Run)
+    (known tells : Type 0) (before after : Content) (failures risen : ℕ) (moved : Moved) : Type 0 where
+  pub keeps : known → Keeps table w old before moved new after
+  pub turn : TookTurn moved old new
+  pub kept : known → tells
+  pub failed : moved ≡ Over outs.Device → Rose failures risen
+  pub counted : failures ≤ risen
+
+-- what a run came to at its end
+pub record Completed (table : List Callable) (w : Work) (old : Run)
+    (known tells : Type 0) (before after : Content) (failures risen : ℕ) (outcome : Outcome) : Type 0 where
+  pub means : known → (program : List Placed) → IsTable program table → (n : ℕ) → old.state.turns < n
+      → IsResult (left_of program n w old.stacks.rests.items old.state before) outcome after
+  pub kept : known → tells
+  pub failed : outcome ≡ outs.Device → Rose failures risen
+  pub counted : failures ≤ risen
+
+-- the same over streams that tell what is known of them, what they hold and how often they failed
+
+abbrev pub AdvancedOn :
+    {T : Type 0} → (T → Type 0) → (T → Content) → (T → ℕ) → List Callable → Work → (old new : Run) → T → T → Moved → Type 0
+AdvancedOn {T} known content failures table w old new streams streams_new moved =
+    Advanced table w old new (known streams) (known streams_new) (content streams) (content streams_new) (failures streams) (failures streams_new) moved
+
+abbrev pub StretchedOn :
+    {T : Type 0} → (T → Type 0) → (T → Content) → (T → ℕ) → List Callable → Work → (old new : Run) → T → T → Moved → Type 0
+StretchedOn {T} known content failures table w old new streams streams_new moved =
+    Stretched table w old new (known streams) (known streams_new) (content streams) (content streams_new) (failures streams) (failures streams_new) moved
+
+abbrev pub CompletedOn :
+    {T : Type 0} → (T → Type 0) → (T → Content) → (T → ℕ) → List Callable → Work → Run → T → T → Outcome → Type 0
+CompletedOn {T} known content failures table w old streams streams_new outcome =
+    Completed table w old (known streams) (known streams_new) (content streams) (content streams_new) (failures streams) (failures streams_new) outcome
+
+-- what the run of a program came to from its start
+pub record RunOf (program : List Placed) (stack_base turns : ℕ)
+    (known tells : Type 0) (before after : Content) (failures risen : ℕ) (outcome : Outcome) : Type 0 where
+  pub means : known → IsResult (meaning_over (start_cells (standing program)) (entered_at program) stack_base before turns) outcome after
+  pub kept : known → tells
+  pub failed : outcome ≡ outs.Device → Rose failures risen
+  pub counted : failures ≤ risen
+
+abbrev pub RunOn :
+    {T : Type 0} → (T → Type 0) → (T → Content) → (T → ℕ) → List Placed → ℕ → ℕ → T → T → Outcome → Type 0
+RunOn {T} known content failures program stack_base turns streams streams_new outcome =
+    RunOf program stack_base turns (known streams) (known streams_new) (content streams) (content streams_new) (failures streams) (failures streams_new) outcome

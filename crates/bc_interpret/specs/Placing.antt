@@ -1,0 +1,14 @@
+-- For proofs: the addresses of labels, by label.
+use Rattle.std.specs.Prelude.{ℕ, ◌≡◌, List, map, slice_index_or}
+use Rattle.std.specs.Global.{Vec}
+use Rattle.bc_machine_image.specs.declared.image.SegmentPlace.{SegmentPlace}
+use Rattle.bc_link.specs.Labels.{label_address}
+
+abbrev pub IsAddressed : List (ℕ × ℕ) → List ℕ → Type 0
+IsAddressed pairs addresses = (l : ℕ) → slice_index_or addresses l 0 ≡ label_address pairs l
+
+abbrev pub addresses_of : List (Vec ℕ) → List (ℕ → ℕ)
+addresses_of all = map (λ (addresses : Vec ℕ) l. slice_index_or addresses.items l 0) all
+
+abbrev pub label_addresses : List SegmentPlace → List (ℕ → ℕ)
+label_addresses places = map (λ (place : SegmentPlace). label_address place.labels) places

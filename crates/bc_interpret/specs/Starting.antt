@@ -1,0 +1,22 @@
+-- For proofs: the store as a run begins.
+use Rattle.std.specs.Prelude.{ℕ, ◌≡◌, Bool, cond, List, ◌++◌, Option, Some, None}
+use Rattle.bc_core.specs.Commands.{Place}
+use Rattle.bc_core.specs.Map.{Placed, Standing, standing, standing_from, held_by}
+use Rattle.bc_core.specs.Start.{sets, setting, data_word, start_cells, or_else}
+use Rattle.bc_core.specs.Store.{Cell}
+
+-- of the places of a section this word stands at the address, or none of them
+abbrev pub HasData : Placed → ℕ → Option ℕ → Type 0
+HasData s a found = (rest : List Standing) → data_word (standing_from s.address 1 s.core.places ++ rest) a ≡ or_else found (data_word rest a)
+
+-- of the places of a section the routine at this address sets the global, or none of them
+abbrev pub HasSetting : Placed → ℕ → Option ℕ → Type 0
+HasSetting s n found = (rest : List Standing) → setting (standing_from s.address 1 s.core.places ++ rest) n ≡ or_else found (setting rest n)
+
+-- a place sets the global where it is told
+abbrev pub Sets : Place → ℕ → Bool → Type 0
+Sets place n told = (address : ℕ) → sets (held_by place) address n ≡ cond told (Some address) None
+
+-- these are the cells as the run of the program begins
+unfoldable pub IsStart : List Placed → List Cell → Type 0
+IsStart program cells = cells ≡ start_cells (standing program)

@@ -1,0 +1,94 @@
+// Runs of sections.
+
+ghost use Rattle.std.specs.Prelude.{◌≡◌, ◌+◌, [], map, IfOk};
+ghost use Rattle.bc_core.specs.View.{section as section_view};
+ghost use Rattle.bc_interpret_steps.specs.Sections.{program_of};
+ghost use Rattle.bc_interpret.specs.Interpreted.{InterpretedOn};
+ghost use Rattle.bc_interpret.specs.Moving.{RunOn};
+
+use crate::places::{all_addresses, behind_first, sections_of};
+use crate::run::{Interpreted, Run, to_end};
+use crate::start::start_store;
+use crate::table::table_of;
+use bc_core::Core;
+use bc_interpret_steps::{NumberRest, Rest, Section, Stacks, State, Work, put};
+use bc_interpret_store::Store;
+use bc_interpret_trace::Trace;
+use bc_machine::{Image, Streams};
+use bc_word::Memory;
+use std::alloc::Global;
+
+/// A run over this store, with nothing left to do.
+fn run_over<'c>(alloc: Global, store: Store, turns: u64) -> Run<'c>
+    ensures store { result.state.store ≡ store }
+    ensures turns { result.state.turns ≡ turns }
+    ensures rests { result.stacks.rests.items ≡ [] }
+{
+    Run {
+        state: State { store, turns },
+        stacks: Stacks {
+            rests: Vec::new(alloc),
+            quiet: Vec::new(alloc),
+            waiting: Vec::new(alloc),
+            arguments: Vec::new(alloc),
+        },
+        name: Vec::new(alloc),
+        trace: Trace::new(alloc),
+    }
+}
+
+/// The address of the frame in which the run begins, two cells above the stack base.
+///
+fn first_frame(stack_base: u16) -> usize
+    ensures { result ≡ stack_base + 2 }
+{
+    usize::from(stack_base) + 2
+}
+
+/// The run of sections in so many turns, where the stack begins at this address.
+///
+/// `Memory` comes where an allocation was refused.
+fn run_sections<S: Streams>(
+    alloc: Global,
+    sections: &[Section<'_>],
+    stack_base: u16,
+    streams: &mut S,
+    turns: u64,
+) -> Result<Interpreted, Memory>
+    ensures { IfOk result (λ i. RunOn S.known S.content S.failures (program_of sections.now) stack_base turns streams.old streams.new i.outcome) }
+{
+    let table = table_of(alloc, sections)?;
+    let store = start_store(alloc, sections)?;
+    let mut run = run_over(alloc, store, turns);
+    // the cell of global 1 is read, and what it holds is called
+    put(
+        Rest::Calls(true, first_frame(stack_base)),
+        &mut run.stacks.rests,
+    )?;
+    put(Rest::Number(NumberRest::Loads), &mut run.stacks.rests)?;
+    let outcome = to_end(table.as_slice(), Work::Number(9), &mut run, streams)?;
+    let trail = run.trail(alloc)?;
+    Ok(Interpreted { outcome, trail })
+}
+
+/// The run of resolved sections in so many turns, where their places stand as in this image, whose first segment is that of the
+/// primitives: what it comes to.
+///
+/// Where what the streams hold is known, this is what the sections mean, with the same output. `Device` comes only where the count of
+/// the streams' failures rose. `Memory` comes where an allocation was refused.
+pub fn interpret<S: Streams>(
+    alloc: Global,
+    cores: &[Core],
+    image: &Image,
+    streams: &mut S,
+    turns: u64,
+) -> Result<Interpreted, Memory>
+    ensures { IfOk result (λ i. InterpretedOn S.known S.content S.failures (map section_view cores.now) image.now turns streams.old streams.new i.outcome) }
+{
+    let places = behind_first(image.places.as_slice());
+    let addresses = all_addresses(alloc, places)?;
+    let sections = sections_of(alloc, cores, addresses.as_slice())?;
+    let stack_base = image.stack_base.get();
+    let interpreted = run_sections(alloc, sections.as_slice(), stack_base, streams, turns)?;
+    Ok(interpreted)
+}

@@ -1,0 +1,242 @@
+// The store as a run begins.
+
+ghost use Rattle.std.specs.Prelude.{◌≡◌, ◌+◌, ◌*◌, ◌∷◌, length, map, slice_get, slice_index, IfOk};
+ghost use Rattle.bc_core.specs.View.{place_of};
+ghost use Rattle.bc_core.specs.Words.{string_words, data_words};
+ghost use Rattle.bc_core.specs.Map.{standing, held_by};
+ghost use Rattle.bc_core.specs.Primitive.{primitives, address_among};
+ghost use Rattle.bc_core.specs.Start.{global_cell, setting, data_word, start_cell as cell_at_start, word_of as word_in, cells_from};
+ghost use Rattle.bc_core.specs.Store.{Set};
+ghost use Rattle.bc_interpret_store.specs.Cells.{cell_view};
+ghost use Rattle.bc_interpret_steps.specs.Sections.{placed_of, program_of};
+ghost use Rattle.bc_interpret.specs.Starting.{HasData, HasSetting, Sets, IsStart};
+
+use crate::table::{address_of, label_behind};
+use bc_core::Place;
+use bc_interpret_steps::Section;
+use bc_interpret_store::{Cell, Store};
+use bc_word::Memory;
+use std::alloc::Global;
+
+/// Byte `k` of a string, whose byte 0 is its length, or 0 behind the last one.
+fn byte_of(bytes: &[u8], k: usize) -> usize
+    ensures { result ≡ slice_index (length bytes.now ∷ bytes.now) k }
+{
+    if k == 0 {
+        return bytes.len();
+    }
+    match bytes.get(k - 1) {
+        Some(byte) => usize::from(*byte),
+        None => 0,
+    }
+}
+
+/// The word of these two bytes.
+///
+/// `Memory` comes where no word is so great, which none of two bytes is.
+fn word_of_bytes(high: usize, low: usize) -> Result<u16, Memory>
+    ensures { IfOk result (λ word. word ≡ high * 256 + low) }
+{
+    let front = high.checked_mul(256).ok_or(Memory)?;
+    let word = front.checked_add(low).ok_or(Memory)?;
+    u16::try_from(word).map_err(|_| Memory)
+}
+
+/// The word at this index of a string's words.
+///
+/// `Memory` comes where no word is so great, which none is of a string of at most 255 bytes.
+#[tactic(auto, using(crate::proofs::Starting::no_packed_word))]
+fn word_of_string(bytes: &[u8], index: u16) -> Result<Option<u16>, Memory>
+    ensures { IfOk result (λ word. word ≡ slice_get (string_words bytes.now) index) }
+{
+    let at = 2 * usize::from(index);
+    if at > bytes.len() {
+        return Ok(None);
+    }
+    let word = word_of_bytes(byte_of(bytes, at), byte_of(bytes, at + 1))?;
+    Ok(Some(word))
+}
+
+/// The word at this index of a place's words.
+///
+/// `Memory` comes where no word is so great, which none of a section is.
+fn word_of(place: &Place, index: u16) -> Result<Option<u16>, Memory>
+    ensures { IfOk result (λ word. word ≡ slice_get (data_words (place_of place.now)) index) }
+{
+    match place {
+        Place::Routine(_) => Ok(None),
+        Place::Static(word) => {
+            if index == 0 {
+                return Ok(Some(word.get()));
+            }
+            Ok(None)
+        }
+        Place::Table(words) => match words.get(usize::from(index)) {
+            Some(word) => Ok(Some(word.get())),
+            None => Ok(None),
+        },
+        Place::Text(bytes) => Ok(word_of_string(bytes, index)?),
+    }
+}
+
+/// The word at this address of a place that stands at another.
+///
+/// `Memory` comes where no word is so great, which none of a section is.
+fn word_at(place: &Place, from: u16, address: u16) -> Result<Option<u16>, Memory>
+    ensures { IfOk result (λ word. word ≡ word_in (held_by (place_of place.now)) from address) }
+{
+    if address < from {
+        return Ok(None);
+    }
+    Ok(word_of(place, address - from)?)
+}
+
+/// The word at this address of the first place of a section that has one there.
+///
+/// `Memory` comes where no word is so great, which none of a section is.
+fn data_in(section: &Section<'_>, address: u16) -> Result<Option<u16>, Memory>
+    ensures { IfOk result (λ word. HasData (placed_of section.now) address word) }
+{
+    let mut label = 1;
+    let mut left = section.places;
+    while let [place, behind @ ..] = left {
+        let found = word_at(place, address_of(section, label), address)?;
+        if found.is_some() {
+            return Ok(found);
+        }
+        label = label_behind(label)?;
+        left = behind;
+    }
+    Ok(None)
+}
+
+/// The word at this address of the first place that has one there.
+///
+/// `Memory` comes where no word is so great, which none of a section is.
+fn data_at(sections: &[Section<'_>], address: u16) -> Result<Option<u16>, Memory>
+    ensures { IfOk result (λ word. word ≡ data_word (standing (program_of sections.now)) address) }
+{
+    let mut left = sections;
+    while let [section, behind @ ..] = left {
+        let found = data_in(section, address)?;
+        if found.is_some() {
+            return Ok(found);
+        }
+        left = behind;
+    }
+    Ok(None)
+}
+
+/// Whether a place is a routine that sets this global.
+fn is_setting(place: &Place, global: u16) -> bool
+    ensures { Sets (place_of place.now) global result }
+{
+    match place {
+        Place::Routine(routine) => routine.global == Some(global),
+        Place::Static(_) | Place::Table(_) | Place::Text(_) => false,
+    }
+}
+
+/// The address of the first routine of a section that sets this global.
+///
+/// `Memory` comes where no number is so great, which no label is.
+fn setting_in(section: &Section<'_>, global: u16) -> Result<Option<u16>, Memory>
+    ensures { IfOk result (λ address. HasSetting (placed_of section.now) global address) }
+{
+    let mut label = 1;
+    let mut left = section.places;
+    while let [place, behind @ ..] = left {
+        if is_setting(place, global) {
+            return Ok(Some(address_of(section, label)));
+        }
+        label = label_behind(label)?;
+        left = behind;
+    }
+    Ok(None)
+}
+
+/// The address of the primitive that is this global.
+fn primitive_of(global: u16) -> Option<u16>
+    ensures { result ≡ address_among primitives global }
+{
+    match global {
+        11 => Some(520),
+        12 => Some(524),
+        13 => Some(528),
+        14 => Some(530),
+        15 => Some(534),
+        16 => Some(537),
+        17 => Some(540),
+        18 => Some(543),
+        _ => None,
+    }
+}
+
+/// The address of the first routine that sets this global, or else of the primitive.
+///
+/// `Memory` comes where no number is so great, which no label is.
+fn setting_of(sections: &[Section<'_>], global: u16) -> Result<Option<u16>, Memory>
+    ensures { IfOk result (λ address. address ≡ setting (standing (program_of sections.now)) global) }
+{
+    let mut left = sections;
+    while let [section, behind @ ..] = left {
+        let found = setting_in(section, global)?;
+        if found.is_some() {
+            return Ok(found);
+        }
+        left = behind;
+    }
+    Ok(primitive_of(global))
+}
+
+/// The cell at this address as the run begins.
+///
+/// `Memory` comes where no word is so great, which none of a section is.
+fn start_cell(sections: &[Section<'_>], address: u16) -> Result<Cell, Memory>
+    ensures { IfOk result (λ cell. cell_view cell ≡ cell_at_start (standing (program_of sections.now)) address) }
+{
+    if address >= 8 && address < 520 {
+        return match setting_of(sections, address - 8)? {
+            Some(word) => Ok(Cell::Set(word)),
+            None => Ok(Cell::Set(0)),
+        };
+    }
+    match data_at(sections, address)? {
+        Some(word) => Ok(Cell::Set(word)),
+        None => Ok(Cell::Dead),
+    }
+}
+
+/// The address that is this number.
+///
+/// `Memory` comes where no address is so great.
+fn address_of_number(number: u32) -> Result<u16, Memory>
+    ensures { IfOk result (λ address. address ≡ number) }
+{
+    u16::try_from(number).map_err(|_| Memory)
+}
+
+/// The cells of so many addresses from 0 on as the run of these sections begins.
+///
+/// `Memory` comes where an allocation was refused.
+fn start_cells(alloc: Global, sections: &[Section<'_>], count: u32) -> Result<Vec<Cell>, Memory>
+    ensures { IfOk result (λ cells. map cell_view cells.items ≡ cells_from count 0 (standing (program_of sections.now))) }
+{
+    let mut cells = Vec::with_capacity(alloc, count as usize)?;
+    for number in 0..count {
+        let address = address_of_number(number)?;
+        let cell = start_cell(sections, address)?;
+        cells.push(cell)?;
+    }
+    Ok(cells)
+}
+
+/// The store as the run of these sections begins.
+///
+/// `Memory` comes where an allocation was refused.
+pub(crate) fn start_store(alloc: Global, sections: &[Section<'_>]) -> Result<Store, Memory>
+    ensures { IfOk result (λ store. IsStart (program_of sections.now) store) }
+{
+    let cells = start_cells(alloc, sections, 65536)?;
+    Ok(Store::new(cells))
+}

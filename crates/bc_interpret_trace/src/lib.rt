@@ -1,0 +1,11 @@
+//! Where a run of a resolved program stands: the calls that led there, and how much of each body is behind the place.
+#![tactic(auto)]
+
+mod behind;
+mod roots;
+mod trace;
+
+pub use bc_interpret_steps::{Rest, Work};
+pub use bc_word::Memory;
+pub use roots::{roots_of_block, roots_of_body};
+pub use trace::{Standing, Trace};

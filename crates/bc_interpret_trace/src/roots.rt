@@ -1,0 +1,78 @@
+// How many expressions, tests and assignments the code of a tree has, those of the bodies of VALOFs aside.
+
+use bc_core::{Block, Body, Command, Declaration, ListItem, Variable};
+
+/// How many expressions, tests and assignments the body of a routine has, those within VALOFs aside.
+pub fn roots_of_body(body: &Body) -> u64 {
+    match body {
+        Body::Value(_) => 1,
+        Body::Commands(block) => roots_of_block(block),
+    }
+}
+
+/// How many expressions, tests and assignments a block has, those within VALOFs aside.
+#[cycle(roots)]
+pub fn roots_of_block(block: &Block) -> u64 {
+    roots_of_declarations(&block.declarations).saturating_add(roots_of_items(&block.list))
+}
+
+/// Those of declarations: a value for each variable that has one.
+pub(crate) fn roots_of_declarations(declarations: &[Declaration]) -> u64 {
+    let mut roots = 0u64;
+    for declaration in declarations {
+        roots = roots.saturating_add(roots_of_variables(&declaration.variables));
+    }
+    roots
+}
+
+/// Those of variables.
+pub(crate) fn roots_of_variables(variables: &[Variable]) -> u64 {
+    let mut roots = 0u64;
+    for variable in variables {
+        roots = roots.saturating_add(match variable {
+            Variable::Value(_) => 1,
+            Variable::Vector(_) => 0,
+        });
+    }
+    roots
+}
+
+/// Those of a list of items.
+#[cycle(roots)]
+pub(crate) fn roots_of_items(items: &[ListItem]) -> u64 {
+    let mut roots = 0u64;
+    for item in items {
+        roots = roots.saturating_add(roots_of_item(item));
+    }
+    roots
+}
+
+#[cycle(roots)]
+fn roots_of_item(item: &ListItem) -> u64 {
+    match item {
+        ListItem::Command(command) => roots_of_command(command),
+        ListItem::Case(_) | ListItem::Default | ListItem::Label(_) => 0,
+    }
+}
+
+#[cycle(roots)]
+fn roots_of_command(command: &Command) -> u64 {
+    match command {
+        Command::Call(_) | Command::Assign { .. } | Command::ResultIs(_) => 1,
+        Command::If(_, body) | Command::While(_, body) | Command::RepeatWhile(body, _) => {
+            roots_of_block(body).saturating_add(1)
+        }
+        Command::Test(_, this, that) => roots_of_block(this)
+            .saturating_add(roots_of_block(that))
+            .saturating_add(1),
+        Command::Repeat(body) | Command::Nested(body) => roots_of_block(body),
+        Command::For { body, .. } => roots_of_block(body).saturating_add(2),
+        Command::SwitchOn(_, items) => roots_of_items(items).saturating_add(1),
+        Command::Break
+        | Command::Loop
+        | Command::EndCase
+        | Command::Return
+        | Command::Finish
+        | Command::Goto(_) => 0,
+    }
+}

@@ -1,0 +1,224 @@
+// The calls of a run, and the first branches of TESTs that it is in.
+
+use crate::behind::clue_of;
+use crate::roots::roots_of_block;
+use bc_core::Block;
+use bc_interpret_steps::{Rest, TruthRest, Work};
+use bc_word::Memory;
+use std::alloc::Global;
+
+/// What a run has gone into.
+#[derive(Clone, Copy)]
+enum Within<'c> {
+    /// A call of the routine at this address, in the frame at this one.
+    Call { routine: u16, frame: usize },
+    /// The first branch of a TEST, with the other one.
+    Branch(&'c Block),
+}
+
+/// What a run has gone into, and how much is left to do at least while it is there.
+#[derive(Clone, Copy)]
+struct Mark<'c> {
+    least: usize,
+    within: Within<'c>,
+}
+
+/// Where a run stands in one of its calls.
+#[derive(Clone, Copy, Debug, PartialEq, Eq)]
+pub struct Standing {
+    /// The address that was called.
+    pub routine: u16,
+    /// The address of the call's frame.
+    pub frame: usize,
+    /// The number of the VALOF of its section in whose body it stands, if it does.
+    pub valof: Option<usize>,
+    /// How many expressions, tests and assignments of the body stand behind the place.
+    pub behind: u64,
+}
+
+/// What a run has gone into and not left: its calls, and the first branches of TESTs.
+#[derive(Drop)]
+pub struct Trace<'c> {
+    marks: Vec<Mark<'c>>,
+}
+
+impl<'c> Trace<'c> {
+    /// Of a run that has not begun.
+    pub fn new(alloc: Global) -> Trace<'c> {
+        Trace {
+            marks: Vec::new(alloc),
+        }
+    }
+
+    /// Follows a run through the step that does this work, before the step.
+    ///
+    /// `Memory` comes where an allocation was refused.
+    #[inline(always)]
+    pub fn follow(&mut self, work: &Work<'c>, rests: &[Rest<'c>]) -> Result<(), Memory> {
+        self.forget(rests.len());
+        match work {
+            Work::Number(routine) => self.call(*routine, rests),
+            Work::Verdict(true) => self.branch(rests),
+            _ => Ok(()),
+        }
+    }
+
+    /// What was left is forgotten.
+    #[inline(always)]
+    fn forget(&mut self, left: usize) {
+        for _each in 0..self.marks.len() {
+            let is_left = match self.marks.last() {
+                Some(mark) => mark.least > left,
+                None => false,
+            };
+            if !is_left {
+                return;
+            }
+            let _gone = self.marks.pop();
+        }
+    }
+
+    /// A number, which is the routine where a call comes next.
+    fn call(&mut self, routine: u16, rests: &[Rest<'c>]) -> Result<(), Memory> {
+        let Some(Rest::Calls(fresh, frame)) = rests.last() else {
+            return Ok(());
+        };
+        let given = if *fresh { 0 } else { given(rests) };
+        self.marks.push(Mark {
+            least: rests.len().saturating_sub(given),
+            within: Within::Call {
+                routine,
+                frame: *frame,
+            },
+        })?;
+        Ok(())
+    }
+
+    /// A truth, with which a TEST takes its first branch.
+    fn branch(&mut self, rests: &[Rest<'c>]) -> Result<(), Memory> {
+        let Some(Rest::Truth(TruthRest::Chooses(_, _, that, _))) = rests.last() else {
+            return Ok(());
+        };
+        self.marks.push(Mark {
+            least: rests.len().saturating_sub(1),
+            within: Within::Branch(that),
+        })?;
+        Ok(())
+    }
+
+    /// How many calls the run is in.
+    pub fn calls(&self) -> usize {
+        let mut calls = 0usize;
+        for mark in &self.marks {
+            if let Within::Call { .. } = mark.within {
+                calls = calls.saturating_add(1);
+            }
+        }
+        calls
+    }
+
+    /// Where the run stands in its newest calls, the newest one first, at most so many, with what is left to do.
+    ///
+    /// `Memory` comes where an allocation was refused.
+    pub fn standings(
+        &self,
+        alloc: Global,
+        rests: &[Rest<'c>],
+        most: usize,
+    ) -> Result<Vec<Standing>, Memory> {
+        let mut standings = Vec::new(alloc);
+        let mut above = Above::new(rests.len());
+        for mark in self.marks.iter().rev() {
+            match mark.within {
+                Within::Branch(that) => above.branch(mark.least, that, rests),
+                Within::Call { routine, frame } => {
+                    above.down_to(mark.least.saturating_sub(1), rests);
+                    if standings.len() < most {
+                        standings.push(above.standing(routine, frame))?;
+                    }
+                    above = Above::new(mark.least.saturating_sub(1));
+                }
+            }
+        }
+        Ok(standings)
+    }
+}
+
+/// How many arguments are given to the call that comes next.
+fn given(rests: &[Rest<'_>]) -> usize {
+    let mut given = 0usize;
+    for rest in rests.iter().rev().skip(1) {
+        match rest {
+            Rest::Given(_, is_first) => {
+                given = given.saturating_add(1);
+                if *is_first {
+                    return given;
+                }
+            }
+            _ => return given,
+        }
+    }
+    given
+}
+
+/// What was seen of one call, from what is done first on, down to some place of what is left to do.
+#[derive(Clone, Copy)]
+struct Above {
+    next: usize,
+    behind: u64,
+    first: Option<usize>,
+    is_done: bool,
+}
+
+impl Above {
+    fn new(next: usize) -> Above {
+        Above {
+            next,
+            behind: 0,
+            first: None,
+            is_done: false,
+        }
+    }
+
+    /// Looks at what is left to do, down to this place.
+    fn down_to(&mut self, place: usize, rests: &[Rest<'_>]) {
+        let from = self.next.min(rests.len());
+        let to = place.min(from);
+        for rest in rests[to..from].iter().rev() {
+            self.look(rest);
+        }
+        self.next = to;
+    }
+
+    fn look(&mut self, rest: &Rest<'_>) {
+        if self.is_done {
+            return;
+        }
+        let clue = clue_of(rest);
+        self.behind = self.behind.saturating_add(clue.behind);
+        if self.first.is_none() {
+            self.first = clue.first;
+        }
+        self.is_done = clue.is_bottom;
+    }
+
+    /// The run is in the first branch of a TEST, from this place of what is left to do on; this is the other one.
+    fn branch(&mut self, place: usize, that: &Block, rests: &[Rest<'_>]) {
+        self.down_to(place, rests);
+        if !self.is_done {
+            self.behind = self.behind.saturating_add(roots_of_block(that));
+        }
+    }
+
+    fn standing(&self, routine: u16, frame: usize) -> Standing {
+        Standing {
+            routine,
+            frame,
+            valof: match self.first {
+                Some(first) => first.checked_sub(1),
+                None => None,
+            },
+            behind: self.behind,
+        }
+    }
+}
