@@ -5,8 +5,6 @@ mod checker;
 mod checking;
 mod code;
 mod stage;
-#[cfg(test)]
-mod tests;
 mod writing;
 
 pub use bc_cert_against::check_against;

@@ -1,21 +1,13 @@
-//! Expected texts are the format's own examples, or were worked out by hand from the rule table.
-
 use bc_cert_write::{CertFault, Entry, write_cert};
 use bc_core::{CoreExp, Root};
 use bc_rules_defs::{Derivation, Rule};
-use bc_word::{Op, Word};
+use bc_word::Word;
 use std::alloc::Global;
 use std::io;
 use std::io::{ErrorKind, Write};
-use std::process::Abort;
-use std::test::Fail;
 
 const SAMPLE: &[u8] =
     b"BCPLCERT 2\nE 0 1 0 2 4\n4 N65 1 1 0 2 V0.V1\n5 G14 1 1 3 3 -\n5 ! 1 1 3 3 V0.V1\n2 K1 4 - 6 6 V22\nR V\nC L65 SP4 LIG14 K2\nZ 1\n";
-
-// A test of a variable against 0, and an assignment of a VALOF through a variable.
-const BOTH: &[u8] =
-    b"BCPLCERT 2\nE 0 1 9 10 3\n4 P2 1 1 3 3 -\n4 ! 1 1 3 3 V0.V1\n4 N0 1 1 2 0 -\n3 X10 3 - 3 3 J8\nR F\nC LIP2 TL9\nE 18446744073709551615 7 0 20 1\n5 V3 0 - 2 2 V22\n5 P2 1 1 3 3 -\n5 ! 1 1 3 3 -\nR A1 5\nC ?12 20 SIP2\nZ 2\n";
 
 fn by(rule: Rule, parts: Vec<Derivation>) -> Derivation {
     Derivation { rule, parts }
@@ -64,79 +56,11 @@ fn sample(alloc: Global) -> Result<Vec<Entry>, CertFault> {
     Ok(entries)
 }
 
-// The variable at offset 2 of the frame.
-fn variable(alloc: Global) -> Result<CoreExp, CertFault> {
-    Ok(CoreExp::Load(Box::new(alloc, CoreExp::Frame(2))?))
-}
-
-fn zero_entry(alloc: Global) -> Result<Entry, CertFault> {
-    let variable = Box::new(alloc, variable(alloc)?)?;
-    let zero = Box::new(alloc, CoreExp::Num(Word::new(0)))?;
-    Ok(Entry {
-        segment: 0,
-        item: 1,
-        target: 9,
-        first: 10,
-        root: Root::Test {
-            level: 3,
-            sense: false,
-            expression: CoreExp::Bin(Op::Equal, variable, zero),
-        },
-        derivation: over(alloc, Rule::J8, pushed(alloc)?)?,
-        bodies: Vec::new(alloc),
-    })
-}
-
-fn body_entry(alloc: Global) -> Result<Entry, CertFault> {
-    let mut bodies = Vec::new(alloc);
-    bodies.push(12)?;
-    Ok(Entry {
-        segment: u64::MAX,
-        item: 7,
-        target: 0,
-        first: 20,
-        root: Root::Assign {
-            level: 5,
-            value: CoreExp::Valof(3),
-            address: variable(alloc)?,
-        },
-        derivation: over(alloc, Rule::A1, leaf(alloc, Rule::V22))?,
-        bodies,
-    })
-}
-
-fn both(alloc: Global) -> Result<Vec<Entry>, CertFault> {
-    let mut entries = Vec::new(alloc);
-    entries.push(zero_entry(alloc)?)?;
-    entries.push(body_entry(alloc)?)?;
-    Ok(entries)
-}
-
 // The text has its room at once: where a writer can't grow, its failure is one to write.
 fn written(alloc: Global, entries: &[Entry]) -> Result<Vec<u8>, CertFault> {
     let mut text = Vec::with_capacity(alloc, 512)?;
     write_cert(alloc, entries, &mut text)?;
     Ok(text)
-}
-
-#[test]
-fn writes_the_sample(rt: HostRuntime) -> Result<(), CertFault> {
-    let alloc = rt.alloc();
-    let entries = sample(alloc)?;
-    assert_eq!(rt; written(alloc, entries.as_slice())?.as_slice(), SAMPLE);
-    Ok(())
-}
-
-#[test]
-fn writes_a_test_and_an_assignment(rt: HostRuntime) -> Result<(), CertFault> {
-    let alloc = rt.alloc();
-    let entries = both(alloc)?;
-    assert_eq!(rt; written(alloc, entries.as_slice())?.as_slice(), BOTH);
-    assert_eq!(rt;
-        written(alloc, &[])?.as_slice(),
-        b"BCPLCERT 2\nZ 0\n".as_slice()
-    );
-    Ok(())
 }
 
 // Takes some bytes, and then fails or takes nothing.

@@ -1,9 +1,9 @@
-//! Tests of the rule table, of the selector and of the writer of certificates, which call their public surfaces alone.
+//! The selector, the writer of certificates and the checker where memory is refused or a device fails, and once where all is given.
 #![tactic(auto)]
 
 #[cfg(test)]
 mod certificates;
 #[cfg(test)]
-mod rules;
+mod checking;
 #[cfg(test)]
 mod selecting;

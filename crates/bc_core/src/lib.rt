@@ -8,8 +8,6 @@ mod find_operand;
 pub mod laws;
 mod operands;
 mod sections;
-#[cfg(test)]
-mod tests;
 
 pub use bc_text_items::Base;
 pub use command::{

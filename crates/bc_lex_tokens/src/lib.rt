@@ -7,6 +7,3 @@ mod token;
 
 pub use symbol::Symbol;
 pub use token::{Token, TokenKind};
-
-#[cfg(test)]
-mod tests;

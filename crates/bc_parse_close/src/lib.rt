@@ -7,6 +7,3 @@ pub mod laws;
 
 pub use closing::{ClosedList, close};
 pub use fault::CloseFault;
-
-#[cfg(test)]
-mod tests;

@@ -1,39 +1,30 @@
-mod gets;
-mod library;
-mod tokens;
-
-use bc_lex::{LexError, Source, Token, TokenKind, lex};
+use bc_lex::{LexError, Source, lex};
+use bc_library::LIBHDR;
 use std::alloc::Global;
-use std::process::Abort;
-use std::test::Fail;
 
-/// The tokens of one text without other sources.
-fn tokens_of<'s>(alloc: Global, text: &'s [u8]) -> Result<Vec<Token<'s>>, LexError> {
-    lex(
-        alloc,
-        &[Source {
+/// How many tokens a small program has that names the library's declarations by a GET.
+fn small_program(alloc: Global) -> Result<usize, LexError> {
+    let sources = [
+        Source {
             name: b"MAIN",
-            text,
-        }],
-        0,
-    )
+            text: b"GET \"LIBHDR\"\nLET START() BE WRCH('A')",
+        },
+        Source {
+            name: b"LIBHDR",
+            text: LIBHDR.as_bytes(),
+        },
+    ];
+    Ok(lex(alloc, &sources, 0)?.len())
 }
 
-/// That a text has tokens of these kinds and no others.
-fn expect_kinds(
-    rt: &impl Abort,
-    alloc: Global,
-    text: &[u8],
-    expected: &[TokenKind],
-) -> Result<(), Fail> {
-    let tokens = tokens_of(alloc, text)?;
-    assert_eq!(rt;
-        tokens.len(),
-        expected.len(),
-        "the number of tokens in {text:?}"
-    );
-    for (token, kind) in tokens.iter().zip(expected) {
-        assert!(rt; token.kind == *kind, "{token:?} is not {kind:?}");
-    }
-    Ok(())
+#[test]
+fn growth_is_given(rt: HostRuntime) {
+    assert_eq!(rt; small_program(rt.alloc()), Ok(76));
+}
+
+// With `.ci/refusals`, which has each allocation refused in turn: `Memory` is the answer then, and nothing else.
+#[test]
+fn refused_growth_is_memory(rt: HostRuntime) {
+    let got = small_program(rt.alloc());
+    assert!(rt; got == Ok(76) || got == Err(LexError::Memory), "{got:?}");
 }

@@ -1,4 +1,4 @@
-//! Tests of the lexer, the parser and the speller, by their public surfaces.
+//! The lexer, the parser and the speller where memory is refused, and once where it is given.
 #![tactic(auto)]
 
 #[cfg(test)]

@@ -56,7 +56,8 @@ pub fn declare_entry<'s>(
     at: Numbers,
     entry: &Constant<'s>,
 ) -> Result<(), Memory>
-    ensures { IfOk result (λ _. Declares scope.old scope.new (in_entry storage (numbers_view at) (constant_view entry.now).0 (constant_view entry.now).1 (scope_view scope.old))) }
+    ensures { IfOk result (λ _. Declares scope.old scope.new
+        (in_entry storage (numbers_view at) (constant_view entry.now).0 (constant_view entry.now).1 (scope_view scope.old))) }
 {
     let value = constant_in(scope, &entry.value);
     scope.declare(entry.name, meant_as(storage, at, value))
@@ -233,7 +234,9 @@ fn greatest_of_let<'s>(
     scope: &mut Scope<'s>,
     definitions: &[Definition<'s>],
 ) -> Result<Vec<u16>, Memory>
-    ensures { IfOk result (λ ws. (ws.items ≡ all_greatest_of (before_let (definitions_view definitions.now) (scope_view scope.old)) (definitions_view definitions.now)) × (scope.new ≡ scope.old)) }
+    ensures { IfOk result (λ ws.
+        (ws.items ≡ all_greatest_of (before_let (definitions_view definitions.now) (scope_view scope.old)) (definitions_view definitions.now))
+        × (scope.new ≡ scope.old)) }
 {
     if !has_vector(definitions) {
         return all_greatest_of(scope, definitions);
@@ -309,7 +312,8 @@ fn declare_definition<'s>(
     offset: u64,
     definition: &Definition<'s>,
 ) -> Result<(), Memory>
-    ensures { IfOk result (λ _. Declares scope.old scope.new (declared_by prior (numbers_view at) offset (definition_view definition.now) (scope_view scope.old))) }
+    ensures { IfOk result (λ _. Declares scope.old scope.new
+        (declared_by prior (numbers_view at) offset (definition_view definition.now) (scope_view scope.old))) }
 {
     match definition {
         Definition::Variables(names, _) => declare_variables(scope, names, offset),
@@ -330,7 +334,9 @@ pub fn declare_let<'s>(
     definitions: &[Definition<'s>],
 ) -> Result<u64, Memory>
     requires { ArePriors priors.now (scope_view scope.old) (definitions_view definitions.now) }
-    ensures { IfOk result (λ behind. (behind ≡ level + cells_of_all (before_let (definitions_view definitions.now) (scope_view scope.old)) (definitions_view definitions.now)) × Declares scope.old scope.new (in_let (scope_view scope.old) (numbers_view at) level (definitions_view definitions.now))) }
+    ensures { IfOk result (λ behind.
+        (behind ≡ level + cells_of_all (before_let (definitions_view definitions.now) (scope_view scope.old)) (definitions_view definitions.now))
+        × Declares scope.old scope.new (in_let (scope_view scope.old) (numbers_view at) level (definitions_view definitions.now))) }
 {
     let mut at = at;
     let mut offset = level;
@@ -378,7 +384,9 @@ fn declare_labels<'s>(
     number: u64,
     labels: &[Label<'s>],
 ) -> Result<u64, Memory>
-    ensures { IfOk result (λ n. Declares scope.old scope.new (in_labels number (labels_view labels.now) (scope_view scope.old)) × (n ≡ number + labels_of (labels_view labels.now))) }
+    ensures { IfOk result (λ n.
+        Declares scope.old scope.new (in_labels number (labels_view labels.now) (scope_view scope.old))
+        × (n ≡ number + labels_of (labels_view labels.now))) }
 {
     let mut number = number;
     for label in labels {
@@ -390,7 +398,9 @@ fn declare_labels<'s>(
 
 /// The labels before the command of an item, the first of which has this number; given is the number behind them.
 fn declare_item<'s>(scope: &mut Scope<'s>, number: u64, item: &Item<'s>) -> Result<u64, Memory>
-    ensures { IfOk result (λ n. Declares scope.old scope.new (in_item number (item_view item.now) (scope_view scope.old)) × (n ≡ number + labels_of_item (item_view item.now))) }
+    ensures { IfOk result (λ n.
+        Declares scope.old scope.new (in_item number (item_view item.now) (scope_view scope.old))
+        × (n ≡ number + labels_of_item (item_view item.now))) }
 {
     declare_labels(scope, number, &item.labels)
 }

@@ -100,7 +100,11 @@ impl<'s> Model for Scope<'s> {
 
     ghost view = { λ s. s.entries.items };
 
-    ghost invariant = { λ s. Finds s.index s.entries.items × (s.borders ≡ borders_of 0 s.entries.items no_borders) × CanUndo s.entries.items × All (HasPosition (names s.index)) s.entries.items };
+    ghost invariant = { λ s.
+        Finds s.index s.entries.items
+        × (s.borders ≡ borders_of 0 s.entries.items no_borders)
+        × CanUndo s.entries.items
+        × All (HasPosition (names s.index)) s.entries.items };
 }
 
 impl<'s> Scope<'s> {

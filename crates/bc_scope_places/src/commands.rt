@@ -15,7 +15,10 @@ impl<'s> Walk<'s> {
     ) -> Result<u64, End<'s>> {
         match tree {
             Command::Assign(places, values) => self.assignment(places, values, level),
-            Command::Call(routine, values) => self.call(false, routine, values, level),
+            Command::Call(routine, values) => {
+                self.record.root(self.leaves)?;
+                self.call(false, routine, values, level)
+            }
             Command::Block(body) => self.block(allowed, body, level),
             Command::Break | Command::Loop => self.word(allowed.in_loop),
             Command::EndCase => self.word(allowed.in_cases),
@@ -26,6 +29,7 @@ impl<'s> Walk<'s> {
             Command::Repeat(body) => self.command(allowed.in_a_loop(), body, level),
             Command::RepeatWhile(body, test) | Command::RepeatUntil(body, test) => {
                 let body = self.command(allowed.in_a_loop(), body, level)?;
+                self.record.root(self.leaves)?;
                 Ok(body.max(self.expression(false, test, level)?))
             }
             Command::If(test, body) | Command::Unless(test, body) => {
@@ -75,6 +79,7 @@ impl<'s> Walk<'s> {
     #[cycle(places)]
     fn result_is(&mut self, allowed: bool, value: &Exp<'s>, level: u64) -> Result<u64, End<'s>> {
         let leaf = self.leaf();
+        self.record.root(leaf)?;
         let width = self.expression(false, value, level)?;
         self.allowed(allowed, leaf)?;
         Ok(width)
@@ -97,6 +102,7 @@ impl<'s> Walk<'s> {
         body: &Block<'s>,
         level: u64,
     ) -> Result<u64, End<'s>> {
+        self.record.root(self.leaves)?;
         let test = self.expression(false, test, level)?;
         Ok(test.max(self.block(allowed, body, level)?))
     }
@@ -112,6 +118,9 @@ impl<'s> Walk<'s> {
         let levels = side_levels(self.alloc, &self.scope, places, level)?;
         let held = all_held(self.alloc, &self.scope, places, level)?;
         let addresses = self.side(places, &levels)?;
+        for at in addresses.leaves.iter() {
+            self.record.root(at.first)?;
+        }
         let contents = self.side(values, &levels)?;
         for (place, at) in places.iter().zip(addresses.leaves.iter()) {
             if !has_cell(&self.scope, place) {
@@ -125,7 +134,9 @@ impl<'s> Walk<'s> {
     #[cycle(places)]
     fn ends(&mut self, start: &Exp<'s>, limit: &Exp<'s>, level: u64) -> Result<u64, End<'s>> {
         let above = level.saturating_add(2);
+        self.record.root(self.leaves)?;
         let start = self.expression(false, start, above)?;
+        self.record.root(self.leaves)?;
         let limit = self.expression(false, limit, above)?;
         Ok(above.saturating_add(2).max(start.max(limit)))
     }
@@ -143,6 +154,7 @@ impl<'s> Walk<'s> {
         let mark = self.mark();
         self.scope.declare(variable, Meant::Variable(level))?;
         self.know_at(variable, leaf)?;
+        self.record.variable(level, 1, leaf)?;
         let width = self.block(allowed.in_a_loop(), body, level.saturating_add(2))?;
         self.leave(mark);
         Ok(width)
@@ -156,6 +168,7 @@ impl<'s> Walk<'s> {
         list: &[Item<'s>],
         level: u64,
     ) -> Result<u64, End<'s>> {
+        self.record.root(self.leaves)?;
         let value = self.expression(false, value, level)?;
         let mark = self.mark();
         let list = self.list(true, allowed.in_a_switch(), list, level)?;

@@ -1,9 +1,10 @@
 use crate::leaves::Leaves;
+use crate::record::GlobalSite;
 use crate::walk::{Beside, End, Walk};
 use bc_parse_tree::{Block, Constant, Declaration, Definition, Exp, Storage};
 use bc_scope_faults::{Allowed, Extent, entry_fault};
 use bc_scope_names::{
-    Numbers, ScopeError, constant, declare_entry, declare_let, declare_let_pending,
+    Meant, Numbers, ScopeError, constant, declare_entry, declare_let, declare_let_pending,
     declare_parameters, declare_pending, priors_of_let,
 };
 use indexmap::IndexMap;
@@ -73,8 +74,13 @@ impl<'s> Walk<'s> {
                 }
             }
             declare_entry(&mut self.scope, storage, Numbers::start(), entry)?;
-            if storage == Storage::Static {
-                self.place(leaf);
+            match storage {
+                Storage::Static => self.place(leaf)?,
+                Storage::Global => {
+                    let number = constant(&self.scope, &entry.value).get();
+                    self.record.sites.globals.push(GlobalSite { number, leaf })?;
+                }
+                Storage::Manifest => {}
             }
         }
         Ok(())
@@ -129,11 +135,19 @@ impl<'s> Walk<'s> {
         Ok(leaf)
     }
 
+    /// A variable's cells are noted.
+    fn note(&mut self, name: &'s [u8], cells: u64, leaf: u64) -> Result<(), End<'s>> {
+        if let Meant::Variable(offset) = self.scope.meant_by(name) {
+            self.record.variable(offset, cells, leaf)?;
+        }
+        Ok(())
+    }
+
     /// The name of a routine of a LET.
     fn routine_name(&mut self, of_let: &mut OfLet<'_, 's>, name: &'s [u8]) -> Result<u64, End<'s>> {
         let leaf = self.leaf();
         self.once(&mut of_let.before, name, leaf)?;
-        self.place(leaf);
+        self.place(leaf)?;
         Ok(leaf)
     }
 
@@ -158,7 +172,8 @@ impl<'s> Walk<'s> {
             Definition::Variables(names, values) => {
                 let first = self.leaves;
                 for name in names {
-                    let _leaf = self.variable(of_let, name)?;
+                    let leaf = self.variable(of_let, name)?;
+                    self.note(name, 1, leaf)?;
                 }
                 let at = Leaves::words(first, self.last(first));
                 let width = self.initials(values, level)?;
@@ -169,6 +184,8 @@ impl<'s> Walk<'s> {
                 let leaf = self.variable(of_let, name)?;
                 let _word = self.leaf();
                 self.vector(of_let.definitions, greatest)?;
+                let cells = u64::from(constant(&self.scope, greatest).get()).saturating_add(2);
+                self.note(name, cells, leaf)?;
                 self.inside(of_let.inside, Leaves::one(leaf))?;
                 Ok(0)
             }
@@ -221,10 +238,13 @@ impl<'s> Walk<'s> {
     fn parameters(&mut self, names: &[&'s [u8]]) -> Result<u64, End<'s>> {
         declare_parameters(&mut self.scope, names)?;
         let mut before = IndexMap::new(self.alloc);
+        let mut offset = 2u64;
         for name in names {
             let leaf = self.leaf();
             self.once(&mut before, name, leaf)?;
             self.know_at(name, leaf)?;
+            self.record.variable(offset, 1, leaf)?;
+            offset = offset.saturating_add(1);
         }
         Ok((names.len() as u64).saturating_add(2))
     }
@@ -238,9 +258,12 @@ impl<'s> Walk<'s> {
         value: &Exp<'s>,
     ) -> Result<(), End<'s>> {
         let mark = self.mark();
+        let outside = self.record.into_routine();
         let level = self.parameters(parameters)?;
+        self.record.root(self.leaves)?;
         let width = self.expression(false, value, level)?;
         self.leave(mark);
+        self.record.back(outside);
         self.frame(leaf, level.max(width));
         Ok(())
     }
@@ -254,9 +277,11 @@ impl<'s> Walk<'s> {
         body: &Block<'s>,
     ) -> Result<(), End<'s>> {
         let mark = self.mark();
+        let outside = self.record.into_routine();
         let level = self.parameters(parameters)?;
         let width = self.block(Allowed::routine(), body, level)?;
         self.leave(mark);
+        self.record.back(outside);
         self.frame(leaf, level.max(width));
         Ok(())
     }

@@ -22,13 +22,13 @@ impl<'s> Walk<'s> {
             }
             Exp::String(_) => {
                 let leaf = self.leaf();
-                self.place(leaf);
+                self.place(leaf)?;
                 Ok(0)
             }
             Exp::Table(values) => {
                 let leaf = self.leaf();
                 self.constants(values)?;
-                self.place(leaf);
+                self.place(leaf)?;
                 Ok(0)
             }
             Exp::Valof(body) => self.valof(body, level),
@@ -62,7 +62,9 @@ impl<'s> Walk<'s> {
         let _word = self.leaf();
         let mark = self.mark();
         self.scope.enter_valof()?;
+        let outside = self.record.into_valof();
         let width = self.block(Allowed::valof(), body, level)?;
+        self.record.back(outside);
         self.leave(mark);
         Ok(width)
     }
@@ -147,6 +149,7 @@ impl<'s> Walk<'s> {
     pub fn initials(&mut self, list: &[Exp<'s>], level: u64) -> Result<u64, End<'s>> {
         let mut width = 0u64;
         for e in list {
+            self.record.root(self.leaves)?;
             width = width.max(self.expression(false, e, level)?);
         }
         Ok(width)

@@ -8,6 +8,7 @@ mod expressions;
 mod leaves;
 mod lists;
 mod place;
+mod record;
 mod span;
 mod walk;
 
@@ -15,5 +16,6 @@ pub use bc_lex_tokens::Token;
 pub use bc_parse_tree::Section;
 pub use bc_scope_names::ScopeError;
 pub use bc_word::Memory;
-pub use place::{Also, FaultPlace, fault_place};
+pub use place::{Also, FaultPlace, fault_place, sites_of, token_at};
+pub use record::{BodyOf, GlobalSite, RootSite, Sites, VariableSite};
 pub use span::Span;

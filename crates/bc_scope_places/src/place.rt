@@ -4,6 +4,7 @@ ghost use Rattle.bc_scope_places.specs.Named.{name_of, named, spelled, HasName};
 
 use crate::brackets::around;
 use crate::leaves::{Leaves, token_of};
+use crate::record::Sites;
 use crate::span::Span;
 use crate::walk::{Beside, End, Found, Walk};
 use bc_lex_tokens::{Token, TokenKind};
@@ -129,6 +130,26 @@ fn found<'s>(alloc: Global, section: &Section<'s>) -> Result<Option<Found<'s>>, 
         Err(End::Found(found)) => Ok(Some(found)),
         Err(End::Memory) => Err(Memory),
     }
+}
+
+/// Where the parts of a section stand that `bc_scope::resolve` accepts, by leaves: the expressions, tests and assignments,
+/// the variables, the names of globals, and what has a label.
+///
+/// None is given of a section that has a fault. `Memory` comes where an allocation was refused.
+pub fn sites_of(alloc: Global, section: &Section<'_>) -> Result<Option<Sites>, Memory> {
+    let mut walk = Walk::new(alloc);
+    match walk.declarations(false, &section.declarations, 0) {
+        Ok(_extent) => Ok(Some(walk.into_sites())),
+        Err(End::Found(_)) => Ok(None),
+        Err(End::Memory) => Err(Memory),
+    }
+}
+
+/// The token that is this leaf of a section.
+pub fn token_at(tokens: &[Token<'_>], leaf: u64) -> Option<usize>
+    ensures within { IfSome result (λ i. i < length tokens.now) }
+{
+    token_of(tokens, leaf)
 }
 
 /// Where the fault of a section stands among its tokens.

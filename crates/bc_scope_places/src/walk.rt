@@ -3,6 +3,7 @@
 ghost use Rattle.std.specs.Prelude.{◌<◌, length, IfSome};
 
 use crate::leaves::Leaves;
+use crate::record::{Record, Sites};
 use bc_scope_names::{Mark, Scope, ScopeError};
 use bc_word::Memory;
 use indexmap::IndexMap;
@@ -85,6 +86,7 @@ struct Large {
 pub struct Back {
     scope: Mark,
     known: usize,
+    variables: usize,
 }
 
 /// How far a walk is.
@@ -103,6 +105,7 @@ pub struct Walk<'s> {
     places: u64,
     /// The leaf of the first one that is too many.
     one_too_many: Option<u64>,
+    pub(crate) record: Record,
 }
 
 impl<'s> Walk<'s> {
@@ -116,7 +119,15 @@ impl<'s> Walk<'s> {
             large: None,
             places: 0,
             one_too_many: None,
+            record: Record::new(alloc),
         }
+    }
+
+    /// What was noted.
+    pub(crate) fn into_sites(self) -> Sites {
+        let Walk { record, .. } = self;
+        let Record { sites, .. } = record;
+        sites
     }
 
     /// The next leaf.
@@ -135,12 +146,14 @@ impl<'s> Walk<'s> {
         Back {
             scope: self.scope.mark(),
             known: self.known.len(),
+            variables: self.record.sites.variables.len(),
         }
     }
 
     pub fn leave(&mut self, back: Back) {
         self.scope.leave(back.scope);
         self.known.truncate(back.known);
+        self.record.leave(back.variables);
     }
 
     /// A fault ends the walk, unless an earlier one still waits.
@@ -268,11 +281,13 @@ impl<'s> Walk<'s> {
     }
 
     /// A routine, a static, a table or a string at this leaf.
-    pub fn place(&mut self, leaf: u64) {
+    pub fn place(&mut self, leaf: u64) -> Result<(), Memory> {
+        self.record.sites.labels.push(leaf)?;
         self.places = self.places.saturating_add(1);
         if self.places == 8001 {
             self.one_too_many = Some(leaf);
         }
+        Ok(())
     }
 
     /// The frame of a routine, whose name is this leaf, has this many cells.

@@ -5,8 +5,6 @@ mod arithmetic;
 pub mod laws;
 mod memory;
 mod operator;
-#[cfg(test)]
-mod tests;
 mod word;
 
 pub use arithmetic::{apply, complement, mirror};

@@ -1,22 +1,43 @@
 //! The command `check`.
 
-use crate::loading::segments_of;
-use bc_cert::{CheckFault, check, check_against};
+use crate::loading::{all_contents, explained, segments_of, texts_of};
+use bc_cert::{CheckFault, Verdict, check, check_against};
 use bcpl_faults::{Cause, Failure};
+use bcpl_files::contents;
+use bcpl_reports::{Text, against_lines, check_lines};
 use bcpl_words::CheckOrder;
 use std::alloc::Global;
 use std::fs;
 use std::io::{BufReader, Write};
 use std::rt::Files;
 
-/// Checks a certificate, and where texts are named, that they have its code.
-pub fn check_certificate<F: Files, O: Write + Drop>(
+/// The failure of a certificate, with what is told of its place; the certificate is read once more for that.
+fn told_of_certificate<F: Files>(
     rt: &F,
     alloc: Global,
-    order: &CheckOrder<'_>,
-    out: &mut O,
-) -> Result<(), Failure> {
-    let path = order.certificate;
+    failure: Failure,
+    path: &str,
+    fault: CheckFault,
+) -> Failure {
+    match contents(rt, alloc, path) {
+        Ok(bytes) => {
+            let text = Text {
+                path,
+                bytes: bytes.as_slice(),
+            };
+            explained(failure, check_lines(alloc, text, fault))
+        }
+        Err(_) => failure,
+    }
+}
+
+/// What the certificate of these words says.
+fn verdict_of<F: Files>(
+    rt: &F,
+    alloc: Global,
+    path: &str,
+    shows: bool,
+) -> Result<Verdict, Failure> {
     let file = match fs::open(rt, path) {
         Ok(file) => file,
         Err(error) => return Err(Failure::io(alloc, &error, path)),
@@ -25,16 +46,65 @@ pub fn check_certificate<F: Files, O: Write + Drop>(
         Ok(reader) => reader,
         Err(error) => return Err(Failure::io(alloc, &error, path)),
     };
-    let verdict = match check(alloc, reader) {
-        Ok(verdict) => verdict,
-        Err(CheckFault::Read) => return Err(Failure::file(alloc, path)),
-        Err(fault) => return Err(Failure::new(Cause::Check(fault))),
-    };
-    if !order.texts.is_empty() {
-        let segments = segments_of(rt, alloc, order.texts.as_slice())?;
-        if let Err(mismatch) = check_against(&verdict, segments.as_slice()) {
-            return Err(Failure::new(Cause::Against(mismatch)));
+    match check(alloc, reader) {
+        Ok(verdict) => Ok(verdict),
+        Err(CheckFault::Read) => Err(Failure::file(alloc, path)),
+        Err(fault) => {
+            let failure = Failure::new(Cause::Check(fault));
+            Err(if shows {
+                told_of_certificate(rt, alloc, failure, path, fault)
+            } else {
+                failure
+            })
         }
+    }
+}
+
+/// Compares what a certificate says with the texts of these words.
+fn compare<F: Files>(
+    rt: &F,
+    alloc: Global,
+    order: &CheckOrder<'_>,
+    verdict: &Verdict,
+    shows: bool,
+) -> Result<(), Failure> {
+    let contents_of_texts = all_contents(rt, alloc, order.texts.as_slice())?;
+    let texts = texts_of(alloc, order.texts.as_slice(), contents_of_texts.as_slice())?;
+    let segments = segments_of(alloc, texts.as_slice(), shows)?;
+    let Err(mismatch) = check_against(verdict, segments.as_slice()) else {
+        return Ok(())
+    };
+    let failure = Failure::new(Cause::Against(mismatch));
+    if !shows {
+        return Err(failure);
+    }
+    match contents(rt, alloc, order.certificate) {
+        Ok(bytes) => {
+            let certificate = Text {
+                path: order.certificate,
+                bytes: bytes.as_slice(),
+            };
+            let compared = (texts.as_slice(), segments.as_slice());
+            Err(explained(
+                failure,
+                against_lines(alloc, certificate, verdict, compared, mismatch),
+            ))
+        }
+        Err(_) => Err(failure),
+    }
+}
+
+/// Checks a certificate, and where texts are named, that they have its code. `shows` says whether the place of a refusal is told.
+pub fn check_certificate<F: Files, O: Write + Drop>(
+    rt: &F,
+    alloc: Global,
+    order: &CheckOrder<'_>,
+    shows: bool,
+    out: &mut O,
+) -> Result<(), Failure> {
+    let verdict = verdict_of(rt, alloc, order.certificate, shows)?;
+    if !order.texts.is_empty() {
+        compare(rt, alloc, order, &verdict, shows)?;
     }
     let entries = verdict.entries.len();
     let mut words: u64 = 0;

@@ -8,13 +8,17 @@ ghost use Rattle.bcpl_faults.specs.declared.failure.Cause.TheVariants as causes;
 use crate::checking::check_certificate;
 use crate::compiling::compile;
 use crate::devices::{Sink, Source};
-use crate::loading::image_of;
+use crate::interpreting::{Standards, interpret_files};
+use crate::loading::{LinkedProgram, all_contents, explained, linked, standard_text, texts_of};
 use crate::output::print_words;
-use bc_machine::{FileStreams, Machine, Named};
+use crate::showing::show;
+use bc_machine::{FileStreams, Machine, Named, StreamsError};
 use bc_machine_defs::End;
-use bc_run::{RunFault, run_text};
+use bc_word::{Memory, Word};
+use bcpl_convert::convert_file;
 use bcpl_faults::{Cause, Failure};
-use bcpl_words::{BadWords, Binding, BuildOrder, Order, Places, RunOrder, wanted};
+use bcpl_reports::{Stop, Text, ended_lines, stream_lines};
+use bcpl_words::{AssembleOrder, BadWords, Binding, BuildOrder, Order, Places, RunOrder, wanted};
 use std::alloc::Global;
 use std::io::{BufReader, BufWriter, Read, Write};
 use std::rt::Files;
@@ -32,13 +36,13 @@ fn named<T: Drop>(alloc: Global, name: &str, device: T) -> Result<Named<T>, Fail
 }
 
 /// An input of a run.
-type Input<R, F> = Named<BufReader<Source<R, F>>>;
+pub type Input<R, F> = Named<BufReader<Source<R, F>>>;
 
 /// An output of a run.
-type Output<O, F> = Named<BufWriter<Sink<O, F>>>;
+pub type Output<O, F> = Named<BufWriter<Sink<O, F>>>;
 
 /// The inputs of a run: standard input, or nothing in its place, and the files.
-fn inputs<F: Files, R: Read + Drop>(
+pub fn inputs<F: Files, R: Read + Drop>(
     rt: &F,
     alloc: Global,
     first: Source<R, F::File>,
@@ -58,7 +62,7 @@ fn inputs<F: Files, R: Read + Drop>(
 
 /// The outputs of a run: standard output, and the files. To a terminal each byte goes at once, so that a question is seen before its
 /// answer is typed.
-fn outputs<F: Files, O: Write + Drop>(
+pub fn outputs<F: Files, O: Write + Drop>(
     rt: &F,
     alloc: Global,
     out: O,
@@ -97,24 +101,122 @@ fn closed<R: Read, W: Write>(streams: &mut FileStreams<R, W>, end: End) -> Resul
     }
 }
 
+/// How a machine stopped.
+fn stop_of(machine: &Machine, end: End, steps: u64) -> Stop {
+    let address = machine.address();
+    let following = Word::new(address.get().wrapping_add(1));
+    Stop {
+        end,
+        address: address.get(),
+        words: (machine.word(address).get(), machine.word(following).get()),
+        steps,
+    }
+}
+
+/// How a run is done: its texts, the most instructions, and whether it is told where it ended.
+#[derive(Clone, Copy)]
+struct Manner<'a> {
+    texts: &'a [Text<'a>],
+    steps: u64,
+    shows: bool,
+}
+
+/// Runs a program that was linked over these streams, which it closes.
+fn run_linked<R: Read, W: Write>(
+    alloc: Global,
+    manner: Manner<'_>,
+    program: &LinkedProgram,
+    streams: &mut FileStreams<R, W>,
+) -> Result<(), Failure> {
+    let mut machine = Machine::new(alloc, &program.image)?;
+    let end = machine.run(streams, manner.steps);
+    let is_finished = end == End::Finished;
+    let Err(failure) = closed(streams, end) else {
+        return Ok(())
+    };
+    if !manner.shows || is_finished {
+        return Err(failure);
+    }
+    let stop = stop_of(&machine, end, manner.steps);
+    let lines = ended_lines(
+        alloc,
+        manner.texts,
+        program.segments.as_slice(),
+        &program.image,
+        &stop,
+    );
+    Err(explained(failure, lines))
+}
+
+/// What a run reads from and writes to at first, whether that is a terminal, and whether places are told.
+struct Ends<R: Read + Drop, O: Write + Drop> {
+    input: R,
+    out: O,
+    is_terminal: bool,
+    shows: bool,
+}
+
 /// Runs the text on standard input, over an empty input.
 fn run_input<F: Files, R: Read + Drop, O: Write + Drop>(
     rt: &F,
     alloc: Global,
-    input: R,
-    out: O,
-    is_terminal: bool,
+    ends: Ends<R, O>,
 ) -> Result<(), Failure> {
+    let Ends {
+        input,
+        out,
+        is_terminal,
+        shows,
+    } = ends;
+    let bytes = standard_text(alloc, input)?;
+    let texts = [Text {
+        path: "SYSIN",
+        bytes: bytes.as_slice(),
+    }];
+    let program = linked(alloc, &texts, shows)?;
     let nothing: Source<R, F::File> = Source::Empty;
     let inputs = inputs(rt, alloc, nothing, &[])?;
     let outputs = outputs(rt, alloc, out, is_terminal, &[])?;
     let mut streams = FileStreams::new(alloc, inputs, outputs)?;
-    match run_text(alloc, input, &mut streams, DEFAULT_STEPS) {
-        Ok(end) => closed(&mut streams, end),
-        Err(RunFault::Text(fault)) => Err(Failure::from(fault)),
-        Err(RunFault::Link(fault)) => Err(Failure::from(fault)),
-        Err(RunFault::Read) => Err(Failure::file(alloc, "SYSIN")),
-        Err(RunFault::Memory) => Err(Failure::new(Cause::Memory)),
+    let manner = Manner {
+        texts: &texts,
+        steps: DEFAULT_STEPS,
+        shows,
+    };
+    run_linked(alloc, manner, &program, &mut streams)
+}
+
+/// The names of streams: this one, and those of the words.
+fn names_of<'a>(
+    alloc: Global,
+    first: &'a str,
+    bindings: &[Binding<'a>],
+) -> Result<Vec<&'a str>, Memory> {
+    let mut names = Vec::new(alloc);
+    names.push(first)?;
+    for binding in bindings {
+        names.push(binding.name)?;
+    }
+    Ok(names)
+}
+
+/// What is told of the names of a run's streams.
+fn lines_of_streams(alloc: Global, order: &RunOrder<'_>) -> Result<String, Memory> {
+    let inputs = names_of(alloc, "SYSIN", order.inputs.as_slice())?;
+    let outputs = names_of(alloc, "SYSPRINT", order.outputs.as_slice())?;
+    stream_lines(alloc, inputs.as_slice(), outputs.as_slice())
+}
+
+/// The failure of a run's streams, with what is told of their names.
+fn told_of_streams(alloc: Global, order: &RunOrder<'_>, failure: Failure, shows: bool) -> Failure {
+    let is_name = match &failure.cause {
+        Cause::Streams(fault) => !matches!(fault, StreamsError::Memory),
+        _ => false,
+    };
+    if shows && is_name {
+        explained(failure, lines_of_streams(alloc, order))
+    } else {
+        failure
     }
 }
 
@@ -123,28 +225,43 @@ fn run<F: Files, R: Read + Drop, O: Write + Drop>(
     rt: &F,
     alloc: Global,
     order: &RunOrder<'_>,
-    input: R,
-    out: O,
-    is_terminal: bool,
+    ends: Ends<R, O>,
 ) -> Result<(), Failure> {
-    let image = image_of(rt, alloc, order.texts.as_slice())?;
+    let Ends {
+        input,
+        out,
+        is_terminal,
+        shows,
+    } = ends;
+    let contents = all_contents(rt, alloc, order.texts.as_slice())?;
+    let texts = texts_of(alloc, order.texts.as_slice(), contents.as_slice())?;
+    let program = linked(alloc, texts.as_slice(), shows)?;
     let inputs = inputs(rt, alloc, Source::Standard(input), order.inputs.as_slice())?;
     let outputs = outputs(rt, alloc, out, is_terminal, order.outputs.as_slice())?;
-    let mut streams = FileStreams::new(alloc, inputs, outputs)?;
-    let mut machine = Machine::new(alloc, &image)?;
-    let end = machine.run(&mut streams, order.steps);
-    closed(&mut streams, end)
+    let mut streams = match FileStreams::new(alloc, inputs, outputs) {
+        Ok(streams) => streams,
+        Err(fault) => return Err(told_of_streams(alloc, order, Failure::from(fault), shows)),
+    };
+    let manner = Manner {
+        texts: texts.as_slice(),
+        steps: order.steps,
+        shows,
+    };
+    run_linked(alloc, manner, &program, &mut streams)
 }
 
 /// Prints the words that texts become.
 fn assemble<F: Files, O: Write + Drop>(
     rt: &F,
     alloc: Global,
-    texts: &[&str],
+    order: &AssembleOrder<'_>,
+    shows: bool,
     out: O,
 ) -> Result<(), Failure> {
-    let image = image_of(rt, alloc, texts)?;
-    match print_words(alloc, &image, out) {
+    let contents = all_contents(rt, alloc, order.texts.as_slice())?;
+    let texts = texts_of(alloc, order.texts.as_slice(), contents.as_slice())?;
+    let program = linked(alloc, texts.as_slice(), shows)?;
+    match print_words(alloc, &program.image, out) {
         Ok(()) => Ok(()),
         Err(error) => Err(Failure::io(alloc, &error, "SYSPRINT")),
     }
@@ -153,7 +270,7 @@ fn assemble<F: Files, O: Write + Drop>(
 /// Tells a failure: its line, and where places are told the further ones.
 fn tell<E: Write + Drop>(failure: &Failure, shows: bool, err: &mut E) -> io::Result<()> {
     writeln!(err, "bcpl: {failure}")?;
-    if shows {
+    if shows || failure.is_told_always() {
         err.write_all(failure.told().as_bytes())?;
     }
     err.flush()
@@ -226,6 +343,15 @@ pub struct Standard<R: Read + Drop, O: Write + Drop, E: Write + Drop> {
 const WAITING: &str =
     "bcpl: waiting for INTCODE text on standard input; bcpl --help tells what else there is\n";
 
+/// Whether places are told, where standard error is a terminal or not.
+fn are_told(places: Places, is_terminal: bool) -> bool {
+    match places {
+        Places::Always => true,
+        Places::OnTerminal => is_terminal,
+        Places::Never => false,
+    }
+}
+
 /// Builds, and tells of what there is to warn of.
 fn build_and_warn<F: Files, O: Write + Drop, E: Write + Drop>(
     rt: &F,
@@ -237,11 +363,7 @@ fn build_and_warn<F: Files, O: Write + Drop, E: Write + Drop>(
 ) -> u8
     ensures { result ≤ 3 }
 {
-    let shows = match order.places {
-        Places::Always => true,
-        Places::OnTerminal => is_terminal,
-        Places::Never => false,
-    };
+    let shows = are_told(order.places, is_terminal);
     match compile(rt, alloc, order, shows, out) {
         Ok(warnings) => {
             let _ = err.write_all(warnings.as_str().as_bytes());
@@ -277,26 +399,53 @@ pub fn command_on<'a, F: Files, R: Read + Drop, O: Write + Drop, E: Write + Drop
                 let _ = err.write_all(WAITING.as_bytes());
                 let _ = err.flush();
             }
-            status(
-                run_input(rt, alloc, input, out, terminals.out),
+            let ends = Ends {
+                input,
+                out,
+                is_terminal: terminals.out,
                 shows,
-                &mut err,
-            )
+            };
+            status(run_input(rt, alloc, ends), shows, &mut err)
         }
-        Ok(Order::Assemble(texts)) => {
-            status(assemble(rt, alloc, texts.as_slice(), out), shows, &mut err)
+        Ok(Order::Assemble(order)) => {
+            let shows = are_told(order.places, shows);
+            status(assemble(rt, alloc, &order, shows, out), shows, &mut err)
         }
         Ok(Order::Run(order)) => {
-            status(
-                run(rt, alloc, &order, input, out, terminals.out),
+            let shows = are_told(order.places, shows);
+            let ends = Ends {
+                input,
+                out,
+                is_terminal: terminals.out,
                 shows,
-                &mut err,
-            )
+            };
+            status(run(rt, alloc, &order, ends), shows, &mut err)
+        }
+        Ok(Order::Interpret(order)) => {
+            let shows = are_told(order.places, shows);
+            let tells = order.places != Places::Never;
+            let standards = Standards {
+                input,
+                out,
+                is_terminal: terminals.out,
+            };
+            let done = interpret_files(rt, alloc, &order, standards, shows);
+            status(done, tells, &mut err)
         }
         Ok(Order::Build(order)) => build_and_warn(rt, alloc, &order, shows, &mut out, &mut err),
+        Ok(Order::Convert(order)) => status(
+            convert_file(rt, alloc, &order, &mut out),
+            shows,
+            &mut err,
+        ),
+        Ok(Order::Show(order)) => {
+            let shows = are_told(order.places, shows);
+            status(show(rt, alloc, &order, shows, &mut out), shows, &mut err)
+        }
         Ok(Order::Check(order)) => {
+            let shows = are_told(order.places, shows);
             status(
-                check_certificate(rt, alloc, &order, &mut out),
+                check_certificate(rt, alloc, &order, shows, &mut out),
                 shows,
                 &mut err,
             )

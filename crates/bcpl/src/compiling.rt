@@ -3,27 +3,39 @@
 ghost use Rattle.std.specs.Prelude.{◌<◌, All, IfOk};
 
 use crate::explaining::{Program, explained, warnings_of};
-use crate::loading::contents;
-use crate::writing::{Written, is_one_file};
+use crate::ignored::ignored_gets;
 use bc_build::{Built, build};
 use bc_cert::{CertFault, write_cert};
 use bc_lex::Source;
+use bc_library_ext::{EXTHDR, EXTLIB};
 use bc_run::{BLIB, LIBHDR};
 use bc_text::{TextError, print};
 use bc_text_items::Segment;
 use bcpl_faults::{Cause, Failure};
+use bcpl_files::{Written, contents, is_one_file};
 use bcpl_messages::Named;
-use bcpl_words::BuildOrder;
+use bcpl_words::{BuildOrder, Library, Sources};
 use std::alloc::Global;
 use std::io::Write;
 use std::rt::Files;
 
-/// How many sources stand in front of those of the command line: LIBHDR and BLIB.
-const LIBRARY_SOURCES: usize = 2;
+/// How many sources stand in front of those of the command line: LIBHDR and BLIB, of which the second becomes a segment.
+const BASIC_SOURCES: usize = 2;
+
+/// How many they are with the further library: EXTHDR and EXTLIB, too, of which the second becomes a segment.
+const FURTHER_SOURCES: usize = 4;
+
+/// How many sources a library has.
+pub fn library_sources(library: Library) -> usize {
+    match library {
+        Library::Basic => BASIC_SOURCES,
+        Library::Further => FURTHER_SOURCES,
+    }
+}
 
 /// A source that was read from a file.
 #[derive(Drop)]
-struct Loaded {
+pub struct Loaded {
     /// The name that GET knows it by.
     name: Vec<u8>,
     /// Its bytes.
@@ -38,37 +50,51 @@ fn source_of<F: Files>(rt: &F, alloc: Global, name: &str, path: &str) -> Result<
 }
 
 /// The sources in the files that the words name: those of `--get` first.
-fn sources_of<F: Files>(
+pub fn sources_of<F: Files>(
     rt: &F,
     alloc: Global,
-    order: &BuildOrder<'_>,
+    given: &Sources<'_>,
 ) -> Result<Vec<Loaded>, Failure> {
     let mut sources = Vec::new(alloc);
-    for binding in &order.gets {
+    for binding in &given.gets {
         sources.push(source_of(rt, alloc, binding.name, binding.path)?)?;
     }
-    for path in &order.files {
+    for path in &given.files {
         sources.push(source_of(rt, alloc, path, path)?)?;
     }
     Ok(sources)
 }
 
-/// The indexes of the sources that become a segment each, of which there are this many: BLIB, and what stands behind
-/// the library and the files of `--get`.
-fn mains_of(alloc: Global, gets: usize, sources: usize) -> Result<Vec<usize>, Failure>
+/// The indexes of the sources that become a segment each, of which there are this many: the library's routines, and what stands
+/// behind the library and the files of `--get`.
+pub fn mains_of(
+    alloc: Global,
+    library: usize,
+    gets: usize,
+    sources: usize,
+) -> Result<Vec<usize>, Failure>
     ensures { IfOk result (λ mains. All (λ main. main < sources) mains.items) }
 {
     let mut mains = Vec::new(alloc);
     for source in 1..sources {
-        if source < LIBRARY_SOURCES || source - LIBRARY_SOURCES >= gets {
+        let is_main = if source < library {
+            source % 2 == 1
+        } else {
+            source - library >= gets
+        };
+        if is_main {
             mains.push(source)?;
         }
     }
     Ok(mains)
 }
 
-/// The sources of a program, as the compiler takes them: LIBHDR and BLIB, then these.
-fn given_to_compiler<'s>(alloc: Global, files: &'s [Loaded]) -> Result<Vec<Source<'s>>, Failure> {
+/// The sources of a program, as the compiler takes them: those of the library, then these.
+pub fn given_to_compiler<'s>(
+    alloc: Global,
+    library: usize,
+    files: &'s [Loaded],
+) -> Result<Vec<Source<'s>>, Failure> {
     let mut sources = Vec::new(alloc);
     sources.push(Source {
         name: b"LIBHDR",
@@ -78,6 +104,16 @@ fn given_to_compiler<'s>(alloc: Global, files: &'s [Loaded]) -> Result<Vec<Sourc
         name: b"BLIB",
         text: BLIB.as_bytes(),
     })?;
+    if library > BASIC_SOURCES {
+        sources.push(Source {
+            name: b"EXTHDR",
+            text: EXTHDR.as_bytes(),
+        })?;
+        sources.push(Source {
+            name: b"EXTLIB",
+            text: EXTLIB.as_bytes(),
+        })?;
+    }
     for file in files {
         sources.push(Source {
             name: file.name.as_slice(),
@@ -88,14 +124,22 @@ fn given_to_compiler<'s>(alloc: Global, files: &'s [Loaded]) -> Result<Vec<Sourc
 }
 
 /// The paths under which sources are told, in the order of `given_to_compiler`.
-fn paths_of<'a>(alloc: Global, order: &BuildOrder<'a>) -> Result<Vec<&'a str>, Failure> {
+pub fn paths_of<'a>(
+    alloc: Global,
+    library: usize,
+    given: &Sources<'a>,
+) -> Result<Vec<&'a str>, Failure> {
     let mut paths = Vec::new(alloc);
     paths.push("LIBHDR")?;
     paths.push("BLIB")?;
-    for binding in &order.gets {
+    if library > BASIC_SOURCES {
+        paths.push("EXTHDR")?;
+        paths.push("EXTLIB")?;
+    }
+    for binding in &given.gets {
         paths.push(binding.path)?;
     }
-    for path in &order.files {
+    for path in &given.files {
         paths.push(path)?;
     }
     Ok(paths)
@@ -108,10 +152,12 @@ fn built<F: Files>(
     order: &BuildOrder<'_>,
     shows: bool,
 ) -> Result<(Built, String), Failure> {
-    let files = sources_of(rt, alloc, order)?;
-    let sources = given_to_compiler(alloc, files.as_slice())?;
-    let paths = paths_of(alloc, order)?;
-    let mains = mains_of(alloc, order.gets.len(), sources.len())?;
+    let given = &order.sources;
+    let files = sources_of(rt, alloc, given)?;
+    let library = library_sources(given.library);
+    let sources = given_to_compiler(alloc, library, files.as_slice())?;
+    let paths = paths_of(alloc, library, given)?;
+    let mains = mains_of(alloc, library, given.gets.len(), sources.len())?;
     let program = Program {
         named: Named {
             sources: sources.as_slice(),
@@ -121,20 +167,21 @@ fn built<F: Files>(
     };
     match build(alloc, sources.as_slice(), mains.as_slice()) {
         Ok(built) => {
-            let warnings = if order.warns && shows {
-                warnings_of(alloc, &program)?
-            } else {
-                String::new(alloc)
-            };
+            let mut warnings = String::new(alloc);
+            if order.warns && shows {
+                warnings = ignored_gets(alloc, given)?;
+                warnings.push_str(warnings_of(alloc, &program)?.as_str())?;
+            }
             Ok((built, warnings))
         }
         Err(fault) => {
             let told = if shows {
-                explained(alloc, &program, &fault)?
+                explained(alloc, &program, &fault).ok()
             } else {
-                String::new(alloc)
+                None
             };
-            Err(Failure::new(Cause::Build(fault)).with(told))
+            let cause = Cause::Build(fault);
+            Err(Failure { cause, told })
         }
     }
 }
@@ -186,10 +233,10 @@ fn write_certificate<F: Files>(
 fn spare_sources<F: Files>(rt: &F, alloc: Global, order: &BuildOrder<'_>) -> Result<(), Failure> {
     for path in [Some(order.out), order.certificate] {
         if let Some(path) = path {
-            for binding in &order.gets {
+            for binding in &order.sources.gets {
                 spare(rt, alloc, path, binding.path)?;
             }
-            for file in &order.files {
+            for file in &order.sources.files {
                 spare(rt, alloc, path, file)?;
             }
         }

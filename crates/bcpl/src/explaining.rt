@@ -3,6 +3,7 @@
 use bc_build::{BuildError, build};
 use bc_word::Memory;
 use bcpl_messages::{Named, is_set, message_of, told_lines};
+use bcpl_warnings::{likely_starts, warnings};
 use std::alloc::Global;
 
 /// The most refusals that are told.
@@ -90,6 +91,10 @@ pub fn warnings_of(alloc: Global, program: &Program<'_, '_>) -> Result<String, M
         told.push_str(
             "bcpl: warning: no routine sets global 1, so a run calls nothing; LET START() BE .. behind GET \"LIBHDR\" does\n",
         )?;
+        let starts = likely_starts(alloc, program.named, program.mains)?;
+        told.push_str(starts.as_str())?;
     }
+    let warnings = warnings(alloc, program.named, program.mains)?;
+    told.push_str(warnings.as_str())?;
     Ok(told)
 }

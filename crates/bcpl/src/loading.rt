@@ -1,30 +1,80 @@
 //! Texts in files, read and linked.
 
+ghost use Rattle.std.specs.Prelude.{◌≡◌};
+
 use bc_link::link;
 use bc_machine_image::Image;
 use bc_run::behind_primitives;
 use bc_text::Reader;
 use bc_text_items::Segment;
-use bcpl_faults::Failure;
+use bc_word::Memory;
+use bcpl_faults::{Cause, Failure};
+use bcpl_files::{FILE_LIMIT, contents};
+use bcpl_reports::{Text, link_lines, text_lines};
 use std::alloc::Global;
-use std::fs;
-use std::io::Read;
+use std::io::{ErrorKind, Read};
 use std::rt::Files;
 
-/// The most bytes that a file may have.
-const FILE_LIMIT: u64 = 16_777_216;
+/// The bytes of the files of these paths.
+pub fn all_contents<F: Files>(
+    rt: &F,
+    alloc: Global,
+    paths: &[&str],
+) -> Result<Vec<Vec<u8>>, Failure> {
+    let mut all = Vec::new(alloc);
+    for path in paths {
+        all.push(contents(rt, alloc, path)?)?;
+    }
+    Ok(all)
+}
 
-/// The bytes of a file.
-pub fn contents<F: Files>(rt: &F, alloc: Global, path: &str) -> Result<Vec<u8>, Failure> {
-    let file = match fs::open(rt, path) {
-        Ok(file) => file,
-        Err(error) => return Err(Failure::io(alloc, &error, path)),
-    };
+/// The bytes of a text on standard input. Where that fails, or gives more bytes than a file may have, what it gave in front of that is
+/// judged first.
+pub fn standard_text<R: Read + Drop>(alloc: Global, input: R) -> Result<Vec<u8>, Failure> {
     let mut bytes = Vec::new(alloc);
-    match file.take(FILE_LIMIT + 1).read_to_end(&mut bytes) {
-        Ok(count) if count as u64 <= FILE_LIMIT => Ok(bytes),
-        Ok(_) => Err(Failure::file_since(alloc, path, "the file has more than 16777216 bytes")),
-        Err(error) => Err(Failure::io(alloc, &error, path)),
+    match &input.take(FILE_LIMIT + 1).read_to_end(&mut bytes) {
+        Ok(count) => {
+            if *count as u64 <= FILE_LIMIT {
+                return Ok(bytes);
+            }
+        }
+        Err(error) => {
+            if error.kind() == ErrorKind::OutOfMemory {
+                return Err(Failure::new(Cause::Memory));
+            }
+        }
+    }
+    bytes.truncate(FILE_LIMIT as usize);
+    let mut reader = Reader::new(alloc);
+    reader.feed(bytes.as_slice())?;
+    Err(Failure::file(alloc, "SYSIN"))
+}
+
+/// The texts with these bytes, under these paths.
+pub fn texts_of<'a>(
+    alloc: Global,
+    paths: &[&'a str],
+    contents: &'a [Vec<u8>],
+) -> Result<Vec<Text<'a>>, Failure> {
+    let mut texts = Vec::new(alloc);
+    for (index, bytes) in contents.iter().enumerate() {
+        if let Some(path) = paths.get(index) {
+            texts.push(Text {
+                path: *path,
+                bytes: bytes.as_slice(),
+            })?;
+        }
+    }
+    Ok(texts)
+}
+
+/// A failure with these lines on it, where there was memory for them.
+pub fn explained(failure: Failure, lines: Result<String, Memory>) -> Failure
+    ensures { result.cause ≡ failure.cause }
+{
+    match lines {
+        Ok(lines) => failure.with(lines),
+        Err(_) => failure,
     }
 }
 
@@ -38,25 +88,54 @@ fn add_segments(alloc: Global, segments: &mut Vec<Segment>, text: &[u8]) -> Resu
     Ok(())
 }
 
-/// The segments of the texts in these files. All files are read first, and then the texts are judged in their order.
-pub fn segments_of<F: Files>(
-    rt: &F,
+/// The failure of a text with what is told of its place.
+fn told_of_text(alloc: Global, failure: Failure, text: Text<'_>) -> Failure {
+    let lines = match &failure.cause {
+        Cause::Text(fault) => text_lines(alloc, text, *fault),
+        _ => return failure,
+    };
+    explained(failure, lines)
+}
+
+/// The segments of these texts, judged in their order. `shows` says whether the place of a refusal is told.
+pub fn segments_of(
     alloc: Global,
-    paths: &[&str],
+    texts: &[Text<'_>],
+    shows: bool,
 ) -> Result<Vec<Segment>, Failure> {
-    let mut texts = Vec::new(alloc);
-    for path in paths {
-        texts.push(contents(rt, alloc, path)?)?;
-    }
     let mut segments = Vec::new(alloc);
-    for text in &texts {
-        add_segments(alloc, &mut segments, text.as_slice())?;
+    for text in texts {
+        if let Err(failure) = add_segments(alloc, &mut segments, text.bytes) {
+            return Err(if shows {
+                told_of_text(alloc, failure, *text)
+            } else {
+                failure
+            });
+        }
     }
     Ok(segments)
 }
 
-/// The image of the texts in these files behind the primitives.
-pub fn image_of<F: Files>(rt: &F, alloc: Global, paths: &[&str]) -> Result<Image, Failure> {
-    let segments = behind_primitives(alloc, segments_of(rt, alloc, paths)?)?;
-    Ok(link(alloc, segments.as_slice())?)
+/// A program that was linked: its segments, the primitives first, and its image.
+#[derive(Drop)]
+pub struct LinkedProgram {
+    pub segments: Vec<Segment>,
+    pub image: Image,
+}
+
+/// The program of these texts behind the primitives. `shows` says whether the place of a refusal is told.
+pub fn linked(alloc: Global, texts: &[Text<'_>], shows: bool) -> Result<LinkedProgram, Failure> {
+    let segments = behind_primitives(alloc, segments_of(alloc, texts, shows)?)?;
+    match link(alloc, segments.as_slice()) {
+        Ok(image) => Ok(LinkedProgram { segments, image }),
+        Err(fault) => {
+            let failure = Failure::from(fault);
+            if shows {
+                let lines = link_lines(alloc, texts, segments.as_slice(), fault);
+                Err(explained(failure, lines))
+            } else {
+                Err(failure)
+            }
+        }
+    }
 }

@@ -6,9 +6,11 @@ mod commands;
 mod compiling;
 mod devices;
 mod explaining;
+mod ignored;
+mod interpreting;
 mod loading;
 mod output;
-mod writing;
+mod showing;
 
 use crate::commands::{Standard, Terminals, command_on};
 use std::io::{BufWriter, IsTerminal};

@@ -8,9 +8,11 @@ use Rattle.bcpl_faults.specs.declared.failure.Failure.{Failure}
 abbrev pub untold : Cause → Failure
 untold cause = record { cause = cause; told = None }
 
--- 2 where a run ended otherwise than by finishing, and else 1
+-- 2 where a run ended otherwise than by finishing, was cut off or met a wild cell, and else 1
 abbrev pub cause_status : Cause → ℕ
 cause_status (causes.Ended end) = 2
+cause_status causes.TurnsSpent = 2
+cause_status (causes.Wild wild) = 2
 cause_status cause = 1
 
 -- 0 where it was done

@@ -17,6 +17,21 @@ use bc_word::Memory;
 use std::alloc::{AllocError, AllocFailed, Global};
 use std::{fmt, io};
 
+/// A wild access, with the address of the cell or the value that was called.
+#[derive(Clone, Copy, Debug, PartialEq, Eq)]
+pub enum Wild {
+    /// A cell was read that was never set.
+    Unset(u16),
+    /// A cell was read that isn't there.
+    Dead(u16),
+    /// A cell was to be written that isn't there.
+    NoCell(u16),
+    /// What was called is no routine.
+    NotRoutine(u16),
+    /// A frame has no room.
+    FrameTooLarge,
+}
+
 /// Why a command was not done. Its text is what stands behind `bcpl: `.
 #[derive(Debug, Drop)]
 pub struct Failure {
@@ -46,6 +61,12 @@ pub enum Cause {
     File(String),
     /// A run ended otherwise than by finishing.
     Ended(End),
+    /// A run by the meaning was cut off.
+    TurnsSpent,
+    /// A run by the meaning met a wild cell.
+    Wild(Wild),
+    /// So many things in an old source can't be converted, and are to be done by hand.
+    ByHand(usize),
     /// An allocation was refused.
     Memory,
 }
@@ -101,9 +122,14 @@ impl Failure {
         ensures { result ≡ cause_status self.now.cause }
     {
         match &self.cause {
-            Cause::Ended(_) => 2,
+            Cause::Ended(_) | Cause::TurnsSpent | Cause::Wild(_) => 2,
             _ => 1,
         }
+    }
+
+    /// Whether the further lines are told wherever standard error goes: they are half of the answer.
+    pub fn is_told_always(&self) -> bool {
+        matches!(&self.cause, Cause::ByHand(_))
     }
 
     /// The further lines, each ended by a line break; none where nothing more is told.
@@ -176,6 +202,16 @@ fn write_end<W: fmt::Write>(f: &mut fmt::Formatter<W>, end: End) -> fmt::Result 
     }
 }
 
+fn write_wild<W: fmt::Write>(f: &mut fmt::Formatter<W>, wild: Wild) -> fmt::Result {
+    match wild {
+        Wild::Unset(address) => write!(f, "wild 1 Unset {address}"),
+        Wild::Dead(address) => write!(f, "wild 2 Dead {address}"),
+        Wild::NoCell(address) => write!(f, "wild 3 NoCell {address}"),
+        Wild::NotRoutine(value) => write!(f, "wild 4 NotRoutine {value}"),
+        Wild::FrameTooLarge => write!(f, "wild 5 FrameTooLarge"),
+    }
+}
+
 impl fmt::Display for Failure {
     fn fmt<W: fmt::Write>(&self, f: &mut fmt::Formatter<W>) -> fmt::Result {
         match &self.cause {
@@ -188,6 +224,9 @@ impl fmt::Display for Failure {
             Cause::Streams(fault) => write_streams(f, *fault),
             Cause::File(path) => write!(f, "file {path}"),
             Cause::Ended(end) => write_end(f, *end),
+            Cause::TurnsSpent => write!(f, "ended TurnsSpent"),
+            Cause::Wild(wild) => write_wild(f, *wild),
+            Cause::ByHand(count) => write!(f, "convert 1 ByHand {count}"),
             Cause::Memory => write!(f, "memory"),
         }
     }

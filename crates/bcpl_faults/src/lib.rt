@@ -4,4 +4,4 @@
 mod failure;
 mod refusals;
 
-pub use failure::{Cause, Failure};
+pub use failure::{Cause, Failure, Wild};

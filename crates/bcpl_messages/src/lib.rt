@@ -17,3 +17,5 @@ mod words;
 pub use linking::is_set;
 pub use message::{Message, Note, message_of};
 pub use report::{Named, told_lines};
+pub use syntax::span_of;
+pub use words::shown;

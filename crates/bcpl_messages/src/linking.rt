@@ -1,6 +1,8 @@
 use crate::message::Message;
+use crate::syntax::span_of;
 use crate::words::{is_symbol, shown};
 use bc_core::Place;
+use bc_gen::generate;
 use bc_lex::{Source, lex};
 use bc_lex_tokens::{Symbol, Token, TokenKind};
 use bc_link::LinkError;
@@ -8,6 +10,7 @@ use bc_parse::parse;
 use bc_scope::resolve;
 use bc_word::Memory;
 use bcpl_places::Span;
+use bcpl_reports::{SegmentSize, segment_words, too_large};
 use std::alloc::Global;
 
 /// A routine that sets a global.
@@ -130,6 +133,45 @@ fn global_twice(
     ))
 }
 
+/// How many words the segment of a main takes; none of a main that is refused itself.
+fn size_of(alloc: Global, sources: &[Source<'_>], main: usize) -> Result<Option<usize>, Memory> {
+    if main >= sources.len() {
+        return Ok(None);
+    }
+    let Ok(tokens) = lex(alloc, sources, main) else {
+        return Ok(None)
+    };
+    let Ok(section) = parse(alloc, tokens.as_slice()) else {
+        return Ok(None)
+    };
+    let Ok(core) = resolve(alloc, &section) else {
+        return Ok(None)
+    };
+    match generate(alloc, &core) {
+        Ok(generated) => Ok(Some(segment_words(alloc, generated.items.items())?)),
+        Err(_) => Ok(None),
+    }
+}
+
+/// The sizes of the segments of these mains.
+fn sizes_of(
+    alloc: Global,
+    sources: &[Source<'_>],
+    mains: &[usize],
+) -> Result<Vec<SegmentSize>, Memory> {
+    let mut sizes = Vec::new(alloc);
+    for main in mains {
+        if let Some(words) = size_of(alloc, sources, *main)? {
+            let name = match sources.get(*main) {
+                Some(source) => shown(alloc, source.name)?,
+                None => String::new(alloc),
+            };
+            sizes.push(SegmentSize { name, words })?;
+        }
+    }
+    Ok(sizes)
+}
+
 /// What is said of segments that can't be linked.
 pub fn linking_message(
     alloc: Global,
@@ -140,17 +182,84 @@ pub fn linking_message(
     match fault {
         LinkError::GlobalTwice(number) => global_twice(alloc, sources, mains, number.get()),
         LinkError::TooLarge => {
-            let sentence =
-                "the program is too large: the stack would begin above the address 65472";
-            Ok(Some(Message::new(alloc, 0, None, sentence)?))
+            let sizes = sizes_of(alloc, sources, mains)?;
+            let sentence = too_large(alloc, sizes.as_slice())?;
+            Ok(Some(Message::new(alloc, 0, None, sentence.as_str())?))
         }
         _ => Ok(None),
     }
 }
 
+/// Whether a word or a sign makes labels in the code.
+fn makes_labels(token: &Token<'_>) -> bool {
+    match token.kind {
+        TokenKind::Symbol(symbol) => matches!(
+            symbol,
+            Symbol::If
+                | Symbol::Unless
+                | Symbol::Test
+                | Symbol::While
+                | Symbol::Until
+                | Symbol::Repeat
+                | Symbol::RepeatWhile
+                | Symbol::RepeatUntil
+                | Symbol::For
+                | Symbol::SwitchOn
+                | Symbol::Case
+                | Symbol::Default
+                | Symbol::ValueOf
+                | Symbol::Arrow
+                | Symbol::Colon
+        ),
+        _ => false,
+    }
+}
+
+/// The index of the token that names the routine with the most words and signs that make labels, and their number.
+fn most_labels(alloc: Global, tokens: &[Token<'_>]) -> Result<Option<(usize, usize)>, Memory> {
+    let names = routine_names(alloc, tokens)?;
+    let mut best: Option<(usize, usize)> = None;
+    for (number, start) in names.iter().enumerate() {
+        let end = names
+            .get(number.saturating_add(1))
+            .copied()
+            .unwrap_or(tokens.len());
+        let count = tokens
+            .get(*start..end)
+            .unwrap_or(&[])
+            .iter()
+            .filter(|token| makes_labels(token))
+            .count();
+        let is_more = match best {
+            Some((_, most)) => count > most,
+            None => true,
+        };
+        if is_more {
+            best = Some((*start, count));
+        }
+    }
+    Ok(best)
+}
+
 /// What is said of a main whose code has too many labels.
-pub fn labels_message(alloc: Global, main: usize) -> Result<Option<Message>, Memory> {
-    let sentence = "the code of a file has more than 20000 labels";
+pub fn labels_message(
+    alloc: Global,
+    sources: &[Source<'_>],
+    main: usize,
+) -> Result<Option<Message>, Memory> {
+    let sentence = "the code of this file has more than 20000 labels";
     let help = "cut it into several files, which share routines by GLOBAL";
-    Ok(Some(Message::new(alloc, main, None, sentence)?.helped(alloc, Some(help))?))
+    let message = Message::new(alloc, main, None, sentence)?.helped(alloc, Some(help))?;
+    if main >= sources.len() {
+        return Ok(Some(message));
+    }
+    let Ok(tokens) = lex(alloc, sources, main) else {
+        return Ok(Some(message))
+    };
+    let Some((index, count)) = most_labels(alloc, tokens.as_slice())? else {
+        return Ok(Some(message))
+    };
+    let note = format!(in alloc; "this routine has the most of what makes labels, {count} times")?;
+    let place = span_of(tokens.as_slice(), sources, main, index);
+    Ok(Some(message.noted(alloc, place, note.as_str())?))
 }

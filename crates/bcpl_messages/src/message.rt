@@ -83,7 +83,7 @@ pub fn message_of(
         BuildError::Lex(main, fault) => lexical_message(alloc, sources, *main, *fault),
         BuildError::Parse(main, fault) => syntax_message(alloc, sources, *main, *fault),
         BuildError::Scope(main, fault) => scope_message(alloc, sources, *main, fault),
-        BuildError::Gen(main, _) => labels_message(alloc, *main),
+        BuildError::Gen(main, _) => labels_message(alloc, sources, *main),
         BuildError::Link(fault) => linking_message(alloc, sources, mains, *fault),
         BuildError::Memory => Ok(None),
     }

@@ -1,7 +1,7 @@
 use crate::likeness::{is_of_library, nearest};
 use crate::message::Message;
 use crate::syntax::span_of;
-use crate::words::shown;
+use crate::words::{is_symbol, shown};
 use bc_build::ScopeFault;
 use bc_lex::{Source, lex};
 use bc_lex_tokens::{Symbol, Token, TokenKind};
@@ -245,6 +245,14 @@ fn message_at(
     }
 }
 
+/// Whether the token with this index stands behind VEC.
+fn stands_behind_vector(tokens: &[Token<'_>], index: usize) -> bool {
+    match tokens.get(index.saturating_sub(1)) {
+        Some(before) => index > 0 && is_symbol(before, Symbol::Vector),
+        None => false,
+    }
+}
+
 /// What is said of a fault of the scopes of a main.
 pub fn scope_message(
     alloc: Global,
@@ -270,6 +278,10 @@ pub fn scope_message(
         .as_ref()
         .map(|found| stretch(tokens, sources, main, found.at));
     let token = found.as_ref().and_then(|found| tokens.get(found.at.first));
+    let is_size = match &found {
+        Some(found) => stands_behind_vector(tokens, found.at.first),
+        None => false,
+    };
     let Some(message) = message_at(alloc, main, fault, place, token)? else {
         return Ok(None)
     };
@@ -282,6 +294,12 @@ pub fn scope_message(
             let help = undeclared_help(alloc, sources, main, tokens, name.as_slice())?;
             Message { help, ..message }
         }
+        ScopeFault::NotConstant if is_size => message.helped(
+            alloc,
+            Some(
+                "the size of a vector is a constant: take the largest that is needed, perhaps by MANIFEST",
+            ),
+        )?,
         _ => message,
     }))
 }

@@ -1,3 +1,6 @@
+ghost use Rattle.std.specs.Prelude.{slice_get};
+ghost use Rattle.bcpl_messages.specs.Spans.{IsSpanOf};
+
 use crate::brackets::{open_before, tag};
 use crate::likeness::reserved_word;
 use crate::message::Message;
@@ -59,7 +62,9 @@ fn behind_last(tokens: &[Token<'_>], sources: &[Source<'_>], main: usize) -> Spa
 }
 
 /// The span of a token; of the end where there is no token of this index.
-pub fn span_of(tokens: &[Token<'_>], sources: &[Source<'_>], main: usize, index: usize) -> Span {
+pub fn span_of(tokens: &[Token<'_>], sources: &[Source<'_>], main: usize, index: usize) -> Span
+    ensures { IsSpanOf (slice_get tokens.now index) result }
+{
     match tokens.get(index) {
         Some(token) => Span {
             file: token.file,
@@ -119,8 +124,23 @@ fn text_of<'s>(token: Option<&Token<'s>>) -> &'s [u8] {
     }
 }
 
+/// Whether an octal number ends in front of a digit that is none of its own.
+fn is_octal(before: Option<&Token<'_>>, at: Option<&Token<'_>>) -> bool {
+    let (Some(before), Some(at)) = (before, at) else {
+        return false
+    };
+    before.text.starts_with(b"#")
+        && before.end == at.start
+        && (at.text.starts_with(b"8") || at.text.starts_with(b"9"))
+}
+
 /// What is said of two tokens side by side that are known mistakes.
 fn help_for_pair(before: Option<&Token<'_>>, at: Option<&Token<'_>>) -> Option<&'static str> {
+    if is_octal(before, at) {
+        return Some(
+            "octal digits, which stand behind #, go from 0 to 7; a decimal number has no #",
+        );
+    }
     match (text_of(before), text_of(at)) {
         (b"=", b"=") => Some("equality is written with one ="),
         (b"~", b"=") | (b"!", b"=") => Some("unequal is written ~= or NE"),

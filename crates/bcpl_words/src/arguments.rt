@@ -3,6 +3,8 @@
 ghost use Rattle.std.specs.Prelude.{◌≡◌};
 ghost use Rattle.bcpl_words.specs.declared.arguments.BadWords.TheVariants as bad_words;
 
+use crate::converting::{ConvertOrder, convert_command, convert_order};
+use crate::version::VERSION;
 use clap::{Arg, ArgAction, ArgMatches, Command, Error, value_parser};
 use std::alloc::{AllocError, Global};
 
@@ -20,6 +22,14 @@ pub struct RunOrder<'a> {
     pub inputs: Vec<Binding<'a>>,
     pub outputs: Vec<Binding<'a>>,
     pub texts: Vec<&'a str>,
+    pub places: Places,
+}
+
+/// What `asm` is to do.
+#[derive(Debug, Drop)]
+pub struct AssembleOrder<'a> {
+    pub texts: Vec<&'a str>,
+    pub places: Places,
 }
 
 /// When the place of a refusal is told behind its first line.
@@ -33,6 +43,25 @@ pub enum Places {
     Never,
 }
 
+/// Which library stands in front of a program's files.
+#[derive(Clone, Copy, Debug, PartialEq, Eq)]
+pub enum Library {
+    /// LIBHDR and BLIB.
+    Basic,
+    /// EXTHDR and EXTLIB too.
+    Further,
+}
+
+/// The sources of a program.
+#[derive(Debug, Drop)]
+pub struct Sources<'a> {
+    pub library: Library,
+    /// The files that sources get by name.
+    pub gets: Vec<Binding<'a>>,
+    /// The sources that become a segment each.
+    pub files: Vec<&'a str>,
+}
+
 /// What `build` is to do.
 #[derive(Debug, Drop)]
 pub struct BuildOrder<'a> {
@@ -40,13 +69,41 @@ pub struct BuildOrder<'a> {
     pub out: &'a str,
     /// The file that the certificate goes to, if it is wanted.
     pub certificate: Option<&'a str>,
-    /// The files that sources get by name.
-    pub gets: Vec<Binding<'a>>,
-    /// The sources that become a segment each.
-    pub files: Vec<&'a str>,
+    pub sources: Sources<'a>,
     pub places: Places,
     /// Whether to warn of what is lawful and likely wrong.
     pub warns: bool,
+}
+
+/// What `interpret` is to do.
+#[derive(Debug, Drop)]
+pub struct InterpretOrder<'a> {
+    /// The most turns of the run.
+    pub turns: u64,
+    pub sources: Sources<'a>,
+    pub inputs: Vec<Binding<'a>>,
+    pub outputs: Vec<Binding<'a>>,
+    pub places: Places,
+}
+
+/// What `show` lists.
+#[derive(Clone, Copy, Debug, PartialEq, Eq)]
+pub enum Listing {
+    Tokens,
+    Tree,
+    Scopes,
+    Code,
+}
+
+/// What `show` is to do.
+#[derive(Debug, Drop)]
+pub struct ShowOrder<'a> {
+    pub listing: Listing,
+    /// The files that sources get by name.
+    pub gets: Vec<Binding<'a>>,
+    /// The source that is listed.
+    pub file: &'a str,
+    pub places: Places,
 }
 
 /// What `check` is to do.
@@ -55,6 +112,7 @@ pub struct CheckOrder<'a> {
     pub certificate: &'a str,
     /// The texts that the certificate is to be about.
     pub texts: Vec<&'a str>,
+    pub places: Places,
 }
 
 /// What the words ask for.
@@ -64,12 +122,18 @@ pub enum Order<'a> {
     RunInput,
     /// To build a program.
     Build(BuildOrder<'a>),
+    /// To list what the compiler sees in a source.
+    Show(ShowOrder<'a>),
     /// To print the words that texts become.
-    Assemble(Vec<&'a str>),
+    Assemble(AssembleOrder<'a>),
     /// To run texts.
     Run(RunOrder<'a>),
+    /// To run sources by what they mean.
+    Interpret(InterpretOrder<'a>),
     /// To check a certificate.
     Check(CheckOrder<'a>),
+    /// To convert an old source.
+    Convert(ConvertOrder<'a>),
 }
 
 /// Why the words ask for nothing.
@@ -108,6 +172,14 @@ fn places_option<'a>(alloc: Global) -> Arg<'a> {
         .help("Tell the place of a refusal: always, never, or auto, which is on a terminal")
 }
 
+/// The option that puts a further library in front of the files.
+fn library_option<'a>(alloc: Global) -> Arg<'a> {
+    Arg::new(alloc, "library")
+        .long("library")
+        .value_name("LIBRARY")
+        .help("A further library in front of the files: ext, which has EXTHDR and EXTLIB")
+}
+
 /// The texts, of which there is at least one.
 fn texts<'a>(alloc: Global, help: &'a str) -> Arg<'a> {
     Arg::new(alloc, "TEXT")
@@ -125,7 +197,8 @@ fn build_command<'a>(alloc: Global) -> Result<Command<'a>, AllocError> {
         )
         .after_help(
             "Each FILE is a section and becomes a segment; the library BLIB stands in front of them as the first segment,\n\
-             and GET \"LIBHDR\" declares what it has. Behind `ok` are printed the numbers of segments and of entries of the\n\
+             and GET \"LIBHDR\" declares what it has. With --library ext the library EXTLIB stands behind it, and\n\
+             GET \"EXTHDR\" declares what both have. Behind `ok` are printed the numbers of segments and of entries of the\n\
              certificate, and the address at which the stack begins.\n\n\
              Example:\n  bcpl build --out hello.int --cert hello.cert hello.bcpl",
         )
@@ -146,8 +219,9 @@ fn build_command<'a>(alloc: Global) -> Result<Command<'a>, AllocError> {
         .arg(stream_option(
             alloc,
             "get",
-            "A file that sources get by GET \"NAME\"; LIBHDR is the library's own always",
+            "A file that sources get by GET \"NAME\"; the first source of a name counts, so LIBHDR is the library's own always",
         ))?
+        .arg(library_option(alloc))?
         .arg(places_option(alloc))?
         .arg(
             Arg::new(alloc, "no-warnings")
@@ -165,12 +239,46 @@ fn build_command<'a>(alloc: Global) -> Result<Command<'a>, AllocError> {
         )
 }
 
+fn show_command<'a>(alloc: Global) -> Result<Command<'a>, AllocError> {
+    Command::new(alloc, "show")
+        .about(
+            "Lists what the compiler makes of a source: its tokens, its tree, its scopes, or its code",
+        )
+        .after_help(
+            "tokens: each token with its line and column, and where a line break stands for a semicolon.\n\
+             tree:   the section laid out in its canonical spelling, which builds to the same code.\n\
+             scopes: the frame of each routine; statics, tables and strings; globals, and what sets them.\n\
+             code:   each line of the source, and below it its INTCODE with the words and rules of each root; without\n\
+             \x20       its comments it is the file's segment.\n\n\
+             Example:\n  bcpl show code hello.bcpl",
+        )
+        .arg(
+            Arg::new(alloc, "LISTING")
+                .value_name("LISTING")
+                .required(true)
+                .help("tokens, tree, scopes or code"),
+        )?
+        .arg(stream_option(
+            alloc,
+            "get",
+            "A file that sources get by GET \"NAME\"; LIBHDR is the library's own always",
+        ))?
+        .arg(places_option(alloc))?
+        .arg(
+            Arg::new(alloc, "FILE")
+                .value_name("FILE")
+                .required(true)
+                .help("The source"),
+        )
+}
+
 fn assemble_command<'a>(alloc: Global) -> Result<Command<'a>, AllocError> {
     Command::new(alloc, "asm")
         .about("Links INTCODE texts behind the primitives and prints the words of the store")
         .after_help(
             "The words from address 0 up to the stack base are printed, one a line, in decimal.\n\nExample:\n  bcpl asm hello.int",
         )
+        .arg(places_option(alloc))?
         .arg(texts(alloc, "The INTCODE texts, linked in their order"))
 }
 
@@ -200,7 +308,57 @@ fn run_command<'a>(alloc: Global) -> Result<Command<'a>, AllocError> {
             "to",
             "A further output: the file PATH, under the name NAME",
         ))?
+        .arg(places_option(alloc))?
         .arg(texts(alloc, "The INTCODE texts, linked in their order"))
+}
+
+/// The most turns of a run by the meaning, where the words don't say.
+const DEFAULT_TURNS: u64 = 100_000_000;
+
+fn interpret_command<'a>(alloc: Global) -> Result<Command<'a>, AllocError> {
+    Command::new(alloc, "interpret")
+        .about(
+            "Runs BCPL sources by what they mean, and tells the first access to a cell that isn't there",
+        )
+        .after_help(
+            "The sources are built as by `build`, and run without their code. Where this run ends, `run` does the same with the\n\
+             built text: that is a theorem. Where it meets a wild cell (one that was never set is read, one that isn't there is\n\
+             read or written, or what is no routine is called), it stops and tells which, and where.\n\n\
+             A turn is a call, a GOTO, or a loop's way back. Streams are as for `run`.\n\n\
+             Example:\n  bcpl interpret hello.bcpl",
+        )
+        .arg(
+            Arg::new(alloc, "turns")
+                .long("turns")
+                .value_name("N")
+                .value_parser(value_parser!(u64))
+                .help("The most turns that are taken; without it 100,000,000"),
+        )?
+        .arg(library_option(alloc))?
+        .arg(stream_option(
+            alloc,
+            "get",
+            "A file that sources get by GET \"NAME\"; LIBHDR is the library's own always",
+        ))?
+        .arg(stream_option(
+            alloc,
+            "in",
+            "A further input: the file PATH, under the name NAME",
+        ))?
+        .arg(stream_option(
+            alloc,
+            "to",
+            "A further output: the file PATH, under the name NAME",
+        ))?
+        .arg(places_option(alloc))?
+        .arg(
+            Arg::new(alloc, "FILE")
+                .value_name("FILE")
+                .action(ArgAction::Append)
+                .num_args(1..)
+                .required(true)
+                .help("The sources, a section each"),
+        )
 }
 
 fn check_command<'a>(alloc: Global) -> Result<Command<'a>, AllocError> {
@@ -211,6 +369,7 @@ fn check_command<'a>(alloc: Global) -> Result<Command<'a>, AllocError> {
              has fewer words. Behind `ok` are printed the number of entries and the sum of their words.\n\n\
              Example:\n  bcpl check hello.cert hello.int",
         )
+        .arg(places_option(alloc))?
         .arg(
             Arg::new(alloc, "CERT")
                 .value_name("CERT")
@@ -236,12 +395,16 @@ fn program<'a>(alloc: Global) -> Result<Command<'a>, AllocError> {
              Example:\n  bcpl build --out hello.int hello.bcpl\n  bcpl run --steps 1000000 hello.int",
         )
         .bin_name("bcpl")?
+        .version(VERSION)
         .no_binary_name(true)
         .subcommand_required(true)
         .subcommand(build_command(alloc)?)?
+        .subcommand(show_command(alloc)?)?
         .subcommand(assemble_command(alloc)?)?
         .subcommand(run_command(alloc)?)?
-        .subcommand(check_command(alloc)?)
+        .subcommand(interpret_command(alloc)?)?
+        .subcommand(check_command(alloc)?)?
+        .subcommand(convert_command(alloc)?)
 }
 
 /// The values of an argument, in their order.
@@ -284,6 +447,38 @@ fn when_told<'a>(matches: &ArgMatches<'a>) -> Result<Places, BadWords<'a>> {
     }
 }
 
+/// Which library the words want; a word that is none asks for nothing.
+fn library_of<'a>(matches: &ArgMatches<'a>) -> Result<Library, BadWords<'a>> {
+    match matches.get_str("library") {
+        None => Ok(Library::Basic),
+        Some("ext") => Ok(Library::Further),
+        Some(word) => Err(BadWords::Option(word)),
+    }
+}
+
+/// The sources that the words name.
+fn sources_of<'a>(alloc: Global, matches: &ArgMatches<'a>) -> Result<Sources<'a>, BadWords<'a>> {
+    Ok(Sources {
+        library: library_of(matches)?,
+        gets: bindings(alloc, matches, "get")?,
+        files: values(alloc, matches, "FILE")?,
+    })
+}
+
+/// What the words behind `interpret` ask for.
+fn interpret_order<'a>(
+    alloc: Global,
+    matches: &ArgMatches<'a>,
+) -> Result<InterpretOrder<'a>, BadWords<'a>> {
+    Ok(InterpretOrder {
+        turns: matches.get_one::<u64>("turns").unwrap_or(DEFAULT_TURNS),
+        sources: sources_of(alloc, matches)?,
+        inputs: bindings(alloc, matches, "in")?,
+        outputs: bindings(alloc, matches, "to")?,
+        places: when_told(matches)?,
+    })
+}
+
 /// What the words behind `build` ask for.
 fn build_order<'a>(
     alloc: Global,
@@ -292,10 +487,26 @@ fn build_order<'a>(
     Ok(BuildOrder {
         out: matches.get_str("out").unwrap_or(""),
         certificate: matches.get_str("cert"),
-        gets: bindings(alloc, matches, "get")?,
-        files: values(alloc, matches, "FILE")?,
+        sources: sources_of(alloc, matches)?,
         places: when_told(matches)?,
         warns: !matches.get_flag("no-warnings"),
+    })
+}
+
+/// What the words behind `show` ask for; a word that is no listing's asks for nothing.
+fn show_order<'a>(alloc: Global, matches: &ArgMatches<'a>) -> Result<ShowOrder<'a>, BadWords<'a>> {
+    let listing = match matches.get_str("LISTING") {
+        Some("tokens") => Listing::Tokens,
+        Some("tree") => Listing::Tree,
+        Some("scopes") => Listing::Scopes,
+        Some("code") => Listing::Code,
+        word => return Err(BadWords::Option(word.unwrap_or(""))),
+    };
+    Ok(ShowOrder {
+        listing,
+        gets: bindings(alloc, matches, "get")?,
+        file: matches.get_str("FILE").unwrap_or(""),
+        places: when_told(matches)?,
     })
 }
 
@@ -309,17 +520,25 @@ pub fn wanted<'a>(alloc: Global, words: &'a [&'a str]) -> Result<Order<'a>, BadW
         Err(error) => return Err(BadWords::Said(error)),
     };
     match matches.subcommand() {
-        Some(("asm", matches)) => Ok(Order::Assemble(values(alloc, matches, "TEXT")?)),
+        Some(("asm", matches)) => Ok(Order::Assemble(AssembleOrder {
+            texts: values(alloc, matches, "TEXT")?,
+            places: when_told(matches)?,
+        })),
         Some(("run", matches)) => Ok(Order::Run(RunOrder {
             steps: matches.get_one::<u64>("steps").unwrap_or(0),
             inputs: bindings(alloc, matches, "in")?,
             outputs: bindings(alloc, matches, "to")?,
             texts: values(alloc, matches, "TEXT")?,
+            places: when_told(matches)?,
         })),
+        Some(("interpret", matches)) => Ok(Order::Interpret(interpret_order(alloc, matches)?)),
         Some(("check", matches)) => Ok(Order::Check(CheckOrder {
             certificate: matches.get_str("CERT").unwrap_or(""),
             texts: values(alloc, matches, "TEXT")?,
+            places: when_told(matches)?,
         })),
+        Some(("convert", matches)) => Ok(Order::Convert(convert_order(matches))),
+        Some(("show", matches)) => Ok(Order::Show(show_order(alloc, matches)?)),
         Some((_, matches)) => Ok(Order::Build(build_order(alloc, matches)?)),
         None => Ok(Order::RunInput),
     }

@@ -2,5 +2,11 @@
 #![tactic(auto)]
 
 mod arguments;
+mod converting;
+mod version;
 
-pub use arguments::{BadWords, Binding, BuildOrder, CheckOrder, Order, Places, RunOrder, wanted};
+pub use arguments::{
+    AssembleOrder, BadWords, Binding, BuildOrder, CheckOrder, InterpretOrder, Library, Listing,
+    Order, Places, RunOrder, ShowOrder, Sources, wanted,
+};
+pub use converting::{ConvertOrder, ConvertTo};

@@ -1,0 +1,125 @@
+use thiserror::Error;
+
+/// What can't be converted, with what is to be done by hand.
+#[derive(Clone, Copy, Debug, PartialEq, Eq, Error)]
+pub enum Fault {
+    /// A call of LEVEL or LONGJUMP.
+    #[error("no jump leaves a routine here")]
+    LongJump,
+    /// A call of APTOVEC.
+    #[error("a vector's size is a constant here")]
+    VectorOfAnySize,
+    /// A call of a routine for coroutines.
+    #[error("there are no coroutines here")]
+    Coroutine,
+    /// A label's name as a value.
+    #[error("a label is no value here")]
+    LabelAsValue,
+    /// A GOTO whose destination is no name.
+    #[error("GOTO takes a label's name here")]
+    GotoOfValue,
+    /// SLCT, OF, `::` or a structure.
+    #[error("there are no fields of words here")]
+    Field,
+    /// EXTERNAL.
+    #[error("names of other files are globals here")]
+    External,
+    /// `<>`.
+    #[error("no sign joins two commands into one here")]
+    JoinedCommands,
+    /// A floating-point number or operator.
+    #[error("there are no floating-point numbers here")]
+    Floating,
+    /// A number over 65,535.
+    #[error("a word has 16 bits, and this number is over 65535")]
+    NumberTooLarge,
+    /// Digits that are none of their base.
+    #[error("this is no number of its base")]
+    BadNumber,
+    /// A character constant that has not one character.
+    #[error("a character constant has one character")]
+    NotOneCharacter,
+    /// An escape that is not known.
+    #[error("this dialect knows no such escape")]
+    BadEscape,
+    /// A string with more than 255 characters.
+    #[error("a string has at most 255 characters")]
+    StringTooLong,
+    /// A comment, a string or a constant that is not closed.
+    #[error("what begins here is not closed")]
+    Unclosed,
+    /// A byte that begins no token.
+    #[error("no token begins with this byte")]
+    UnknownByte,
+    /// A bracket without its partner.
+    #[error("no bracket closes this one, or its tag stands at no other")]
+    OpenBracket,
+    /// A list of assignments one of which is to a byte.
+    #[error("a byte is assigned to by PUTBYTE, which no list holds")]
+    ByteInList,
+    /// An assignment with an operator to what holds a call.
+    #[error("the left side would be worked out twice")]
+    CallOnTheLeft,
+    /// A chain of relations with calls in it.
+    #[error("the middle of this chain of relations would be worked out twice")]
+    CallInChain,
+    /// A range of cases that is no range of constants, or over 256.
+    #[error("this range of cases is no range of at most 256 numbers or characters")]
+    CaseRange,
+    /// The first name of a GLOBAL, without a number.
+    #[error("nothing in front says which number this global has")]
+    FirstGlobal,
+    /// A declaration behind a command in the list of a SWITCHON.
+    #[error("a list's declarations stand in front of its commands")]
+    LateDeclaration,
+    /// What is nested too deep to be read.
+    #[error("this is nested too deep to be converted")]
+    TooDeep,
+}
+
+impl Fault {
+    /// What is to be done by hand.
+    pub fn remedy(self) -> &'static str {
+        match self {
+            Fault::LongJump => {
+                "let each routine on the way back look at a flag, in place of LEVEL and LONGJUMP"
+            }
+            Fault::VectorOfAnySize => {
+                "declare the largest one with VEC, or take it with GETVEC, in place of APTOVEC"
+            }
+            Fault::Coroutine => {
+                "keep what the routine has to remember in statics, and call it anew for each turn"
+            }
+            Fault::LabelAsValue =>
+                "keep a number in its place, and choose among the labels by SWITCHON",
+            Fault::GotoOfValue => "choose among the labels by SWITCHON",
+            Fault::Field => "write a shift and a mask, as (W>>4)&15",
+            Fault::External => "give each one the same number in GLOBAL in all of the files",
+            Fault::JoinedCommands => "put them between $( and $), with a ; between them",
+            Fault::Floating => "count in smaller units, or use MULDIV of EXTLIB",
+            Fault::NumberTooLarge => "split it into two words",
+            Fault::BadNumber => "write it in decimal digits",
+            Fault::NotOneCharacter => "write a string, or the characters one by one",
+            Fault::BadEscape => "write the character's number outside the string with WRCH",
+            Fault::StringTooLong => "cut it into two",
+            Fault::Unclosed => "add the closing sign",
+            Fault::UnknownByte => "remove it, or write what it stands for",
+            Fault::OpenBracket => "add the closing one, or mend its tag",
+            Fault::ByteInList => "write one assignment after the other",
+            Fault::CallOnTheLeft => "keep the left side's address in a variable first",
+            Fault::CallInChain => "keep its value in a variable first",
+            Fault::CaseRange => "write the cases out, or choose by IF in DEFAULT",
+            Fault::FirstGlobal => "write its number behind the name, with a colon between them",
+            Fault::LateDeclaration => "put this one and what needs it between $( and $)",
+            Fault::TooDeep => "cut it into smaller parts, or convert it by hand",
+        }
+    }
+}
+
+/// What can't be converted, and the stretch of the text that it begins with: its first byte, and the byte behind it.
+#[derive(Clone, Copy, Debug, PartialEq, Eq)]
+pub struct Complaint {
+    pub start: usize,
+    pub end: usize,
+    pub fault: Fault,
+}

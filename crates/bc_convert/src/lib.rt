@@ -1,0 +1,24 @@
+//! From a source in an old dialect of the language to one in this dialect: the spans to replace, and what is to be done by
+//! hand.
+#![tactic(auto)]
+
+mod chain;
+mod commands;
+mod complaint;
+mod conversion;
+mod declarations;
+mod library;
+mod names;
+mod notes;
+mod numbers;
+mod operands;
+mod options;
+mod quoted;
+mod ranges;
+mod spelling;
+mod walk;
+
+pub use bc_convert_edits::Replacement;
+pub use complaint::{Complaint, Fault};
+pub use conversion::{Conversion, convert};
+pub use options::{Options, Renaming, renamings};

@@ -1,0 +1,164 @@
+use crate::library::library_name;
+use crate::options::Options;
+use bc_convert_tokens::{Dialect, Kind, Source};
+use bc_word::Memory;
+use std::alloc::Global;
+
+/// Whether two words are the same once each underline is a dot.
+fn meets(one: &[u8], other: &[u8]) -> bool {
+    one.len() == other.len() && one.iter().zip(other).all(|(a, b)| dotted(*a) == dotted(*b))
+}
+
+/// A byte of a name, a dot in place of an underline.
+fn dotted(byte: u8) -> u8 {
+    if byte == b'_' { b'.' } else { byte }
+}
+
+/// Whether the name at an index stands there for the first time.
+fn is_first(source: Source<'_>, index: usize) -> bool {
+    let mut earlier = 0..index;
+    !earlier.any(|other| source.kind(other) == Kind::Name && source.is_same(index, other))
+}
+
+/// How many other names meet the one at an index: those without an underline, and of the others those that come before it.
+fn rank(source: Source<'_>, index: usize) -> usize {
+    let bytes = source.bytes(index);
+    let mut rank: usize = 0;
+    let mut is_behind = false;
+    for other in 0..source.tokens.len() {
+        let name = source.bytes(other);
+        if source.kind(other) != Kind::Name || !meets(name, bytes) {
+            continue;
+        }
+        if name == bytes {
+            is_behind = true;
+        } else if is_first(source, other) && (!is_behind || !name.contains(&b'_')) {
+            rank = rank.saturating_add(1);
+        }
+    }
+    rank
+}
+
+/// Whether a name of the source has this spelling.
+fn has_name(source: Source<'_>, bytes: &[u8]) -> bool {
+    (0..source.tokens.len()).any(|index| source.kind(index) == Kind::Name
+        && source.bytes(index) == bytes)
+}
+
+/// A name with dots for its underlines, and behind it a number, if it is not 1.
+fn with_dots(alloc: Global, bytes: &[u8], number: usize) -> Result<Vec<u8>, Memory> {
+    let mut text = Vec::new(alloc);
+    for byte in bytes {
+        text.push(dotted(*byte))?;
+    }
+    if number != 1 {
+        let digits = format!(in alloc; "{number}")?;
+        text.extend_from_slice(digits.as_bytes())?;
+    }
+    Ok(text)
+}
+
+/// The name at an index with dots for its underlines. Where it meets other names so, it gets a number from 2 on that no name
+/// has, and that no name before it gets.
+fn without_underlines(alloc: Global, source: Source<'_>, index: usize) -> Result<Vec<u8>, Memory> {
+    let bytes = source.bytes(index);
+    let mut left = rank(source, index);
+    let mut number: usize = 1;
+    for _ in 0..source.tokens.len() {
+        if left == 0 {
+            break;
+        }
+        number = number.saturating_add(1);
+        let text = with_dots(alloc, bytes, number)?;
+        if !has_name(source, text.as_slice()) {
+            left = left.saturating_sub(1);
+        }
+    }
+    with_dots(alloc, bytes, number)
+}
+
+/// What the options call a name.
+fn renamed<'o>(options: Options<'o>, bytes: &[u8]) -> Option<&'o [u8]> {
+    for renaming in options.library {
+        if renaming.old.eq_ignore_ascii_case(bytes) {
+            return Some(renaming.new);
+        }
+    }
+    None
+}
+
+/// What the name at an index is called here, where it is called otherwise.
+pub fn name_change(
+    alloc: Global,
+    source: Source<'_>,
+    index: usize,
+    dialect: Dialect,
+    options: Options<'_>,
+) -> Result<Option<Vec<u8>>, Memory> {
+    let bytes = source.bytes(index);
+    if let Some(new) = renamed(options, bytes) {
+        return Ok(Some(Vec::from_slice(alloc, new)?));
+    }
+    if dialect.has_small_words
+        && let Some(new) = library_name(bytes)
+    {
+        return Ok(Some(Vec::from_slice(alloc, new)?));
+    }
+    if bytes.contains(&b'_') {
+        return Ok(Some(without_underlines(alloc, source, index)?));
+    }
+    Ok(None)
+}
+
+/// Whether the name at an index is declared somewhere: behind LET, AND, FOR or a comma among these, as a parameter, or with
+/// a number.
+pub fn is_declared(source: Source<'_>, index: usize) -> bool {
+    (0..source.tokens.len()).any(|other| source.kind(other) == Kind::Name
+        && source.is_same(index, other)
+        && declares(source, other))
+}
+
+/// Whether the name at an index is declared there.
+pub fn declares(source: Source<'_>, index: usize) -> bool {
+    if index == 0 {
+        return false;
+    }
+    match source.kind(index - 1) {
+        Kind::Let | Kind::And | Kind::For => true,
+        Kind::Comma | Kind::OpenRound => is_in_heading(source, index) || is_entry(source, index),
+        Kind::OpenSection | Kind::Semicolon => is_entry(source, index),
+        _ => source.is_separated(index) && is_entry(source, index),
+    }
+}
+
+/// Whether a name stands in a list of GLOBAL, MANIFEST or STATIC.
+fn is_entry(source: Source<'_>, index: usize) -> bool {
+    for back in 1..=index {
+        let at = index - back;
+        match source.kind(at) {
+            Kind::CloseSection => return false,
+            Kind::OpenSection => {
+                let before = if at == 0 {
+                    Kind::End
+                } else {
+                    source.kind(at - 1)
+                };
+                return matches!(before, Kind::Global | Kind::Manifest | Kind::Static);
+            }
+            _ => {}
+        }
+    }
+    false
+}
+
+/// Whether the tokens in front of a name, back to LET, AND or FOR, are names, commas and an opening bracket alone.
+fn is_in_heading(source: Source<'_>, index: usize) -> bool {
+    for back in 1..=index {
+        match source.kind(index - back) {
+            Kind::Let | Kind::And => return true,
+            Kind::Name | Kind::Comma | Kind::OpenRound => {}
+            _ => return false,
+        }
+    }
+    false
+}

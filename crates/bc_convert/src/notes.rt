@@ -1,0 +1,261 @@
+use crate::complaint::{Complaint, Fault};
+use bc_convert_edits::Replacement;
+use bc_convert_tokens::{Source, is_name_byte};
+use bc_word::Memory;
+use std::alloc::Global;
+
+/// What becomes of a token: what stands in front of it, in its place and behind it, and whether the blanks in front of it go.
+#[derive(Debug, Drop)]
+struct Slot {
+    before: Vec<u8>,
+    instead: Option<Vec<u8>>,
+    after: Vec<u8>,
+    takes_gap: bool,
+}
+
+impl Slot {
+    fn new(alloc: Global) -> Slot {
+        Slot {
+            before: Vec::new(alloc),
+            instead: None,
+            after: Vec::new(alloc),
+            takes_gap: false,
+        }
+    }
+
+    fn is_untouched(&self) -> bool {
+        self.before.is_empty() && self.instead.is_none() && self.after.is_empty() && !self.takes_gap
+    }
+}
+
+/// What was found in a source so far: what becomes of each token, and what can't be converted.
+#[derive(Drop)]
+pub struct Notes {
+    alloc: Global,
+    slots: Vec<Slot>,
+    complaints: Vec<Complaint>,
+    labels: Vec<usize>,
+    destinations: Vec<usize>,
+    fresh: usize,
+}
+
+impl Notes {
+    /// Notes of nothing yet, for so many tokens.
+    pub fn new(alloc: Global, count: usize) -> Result<Notes, Memory> {
+        let mut slots = Vec::new(alloc);
+        for _ in 0..count {
+            slots.push(Slot::new(alloc))?;
+        }
+        Ok(Notes {
+            alloc,
+            slots,
+            complaints: Vec::new(alloc),
+            labels: Vec::new(alloc),
+            destinations: Vec::new(alloc),
+            fresh: 0,
+        })
+    }
+
+    /// The allocator.
+    pub fn alloc(&self) -> Global {
+        self.alloc
+    }
+
+    /// Puts bytes in front of a token and of all that was put there before.
+    pub fn put_before(&mut self, index: usize, bytes: &[u8]) -> Result<(), Memory> {
+        if index < self.slots.len() {
+            let slot = &mut self.slots[index];
+            let mut whole = Vec::from_slice(self.alloc, bytes)?;
+            whole.extend_from_slice(slot.before.as_slice())?;
+            slot.before = whole;
+        }
+        Ok(())
+    }
+
+    /// Puts bytes behind the token in front of an index and behind all that was put there before.
+    pub fn put_behind(&mut self, end: usize, bytes: &[u8]) -> Result<(), Memory> {
+        if 0 < end && end <= self.slots.len() {
+            let slot = &mut self.slots[end - 1];
+            slot.after.extend_from_slice(bytes)?;
+        }
+        Ok(())
+    }
+
+    /// Puts bytes in the place of a token.
+    pub fn replace(&mut self, index: usize, bytes: &[u8]) -> Result<(), Memory> {
+        if index < self.slots.len() {
+            let whole = Vec::from_slice(self.alloc, bytes)?;
+            let slot = &mut self.slots[index];
+            slot.instead = Some(whole);
+        }
+        Ok(())
+    }
+
+    /// Takes out the blanks in front of a token, where no comment and no line break is among them.
+    pub fn take_gap(&mut self, source: Source<'_>, index: usize) {
+        if index < self.slots.len() && is_plain_gap(source.gap(index)) {
+            let slot = &mut self.slots[index];
+            slot.takes_gap = true;
+        }
+    }
+
+    /// Takes away what was put around a token.
+    pub fn clear(&mut self, index: usize) {
+        if index < self.slots.len() {
+            let slot = &mut self.slots[index];
+            slot.before = Vec::new(self.alloc);
+            slot.after = Vec::new(self.alloc);
+        }
+    }
+
+    /// Takes out a token and the blanks in front of it.
+    pub fn take_out(&mut self, source: Source<'_>, index: usize) -> Result<(), Memory> {
+        self.clear(index);
+        self.replace(index, &[])?;
+        self.take_gap(source, index);
+        Ok(())
+    }
+
+    /// The text of the tokens from an index up to another one as it is to be, a blank where any blanks stand.
+    pub fn rendered(&self, source: Source<'_>, from: usize, to: usize) -> Result<Vec<u8>, Memory> {
+        let mut whole = Vec::new(self.alloc);
+        for index in from..to {
+            if let Some(slot) = self.slots.get(index) {
+                if index != from && !source.gap(index).is_empty() && !slot.takes_gap {
+                    whole.push(b' ')?;
+                }
+                put_token(&mut whole, slot, source.bytes(index))?;
+            }
+        }
+        Ok(whole)
+    }
+
+    /// Writes down that what begins at a token can't be converted.
+    pub fn complain(
+        &mut self,
+        source: Source<'_>,
+        index: usize,
+        fault: Fault,
+    ) -> Result<(), Memory> {
+        self.complaints.push(Complaint {
+            start: source.start(index),
+            end: source.end(index),
+            fault,
+        })?;
+        Ok(())
+    }
+
+    /// Writes down that a label stands at an index.
+    pub fn note_label(&mut self, index: usize) -> Result<(), Memory> {
+        self.labels.push(index)?;
+        Ok(())
+    }
+
+    /// Writes down that a GOTO's destination stands at an index.
+    pub fn note_destination(&mut self, index: usize) -> Result<(), Memory> {
+        self.destinations.push(index)?;
+        Ok(())
+    }
+
+    /// Where the labels stand.
+    pub fn labels(&self) -> &[usize] {
+        self.labels.as_slice()
+    }
+
+    /// Whether a label or a GOTO's destination stands at an index.
+    pub fn is_label_or_destination(&self, index: usize) -> bool {
+        self.labels.contains(&index) || self.destinations.contains(&index)
+    }
+
+    /// A name that the source doesn't have.
+    pub fn fresh_name(&mut self, source: Source<'_>) -> Result<Vec<u8>, Memory> {
+        for _ in 0..source.tokens.len() {
+            self.fresh = self.fresh.saturating_add(1);
+            let name = self.numbered()?;
+            if !has_token(source, name.as_slice()) {
+                return Ok(name);
+            }
+        }
+        self.numbered()
+    }
+
+    /// The name with the number that is next.
+    fn numbered(&self) -> Result<Vec<u8>, Memory> {
+        let number = self.fresh;
+        let name = format!(in self.alloc; "TEMP.{number}")?;
+        Ok(Vec::from_slice(self.alloc, name.as_bytes())?)
+    }
+
+    /// The replacements, one for each token that something becomes of, and what can't be converted.
+    pub fn finished(
+        self,
+        source: Source<'_>,
+    ) -> Result<(Vec<Replacement>, Vec<Complaint>), Memory> {
+        let mut replacements = Vec::new(self.alloc);
+        for (index, slot) in self.slots.iter().enumerate() {
+            if !slot.is_untouched() {
+                replacements.push(replacement(self.alloc, source, index, slot)?)?;
+            }
+        }
+        Ok((replacements, self.complaints))
+    }
+}
+
+/// What becomes of a token, as a replacement.
+fn replacement(
+    alloc: Global,
+    source: Source<'_>,
+    index: usize,
+    slot: &Slot,
+) -> Result<Replacement, Memory> {
+    let mut text = Vec::new(alloc);
+    put_token(&mut text, slot, source.bytes(index))?;
+    if needs_blank(text.as_slice(), source, index) {
+        text.push(b' ')?;
+    }
+    let start = source.start(index);
+    let gap = source.gap(index).len();
+    Ok(Replacement {
+        start: if slot.takes_gap {
+            start.saturating_sub(gap)
+        } else {
+            start
+        },
+        end: source.end(index),
+        text,
+    })
+}
+
+/// Whether a new text would run into the byte behind the token.
+fn needs_blank(text: &[u8], source: Source<'_>, index: usize) -> bool {
+    let last = text.last().copied();
+    let next = source.text.get(source.end(index)).copied();
+    match (last, next) {
+        (Some(last), Some(next)) => {
+            let is_bracket = text.ends_with(b"$(".as_slice()) || text.ends_with(b"$)".as_slice());
+            is_name_byte(next) && (is_bracket || is_name_byte(last))
+        }
+        _ => false,
+    }
+}
+
+/// A token with what stands around it.
+fn put_token(whole: &mut Vec<u8>, slot: &Slot, bytes: &[u8]) -> Result<(), Memory> {
+    whole.extend_from_slice(slot.before.as_slice())?;
+    match &slot.instead {
+        Some(instead) => whole.extend_from_slice(instead.as_slice())?,
+        None => whole.extend_from_slice(bytes)?,
+    }
+    whole.extend_from_slice(slot.after.as_slice())?;
+    Ok(())
+}
+
+/// Whether there are blanks alone between two tokens.
+fn is_plain_gap(gap: &[u8]) -> bool {
+    !gap.is_empty() && gap.iter().all(|byte| *byte == b' ' || *byte == b'\t')
+}
+
+/// Whether a token has this spelling.
+fn has_token(source: Source<'_>, bytes: &[u8]) -> bool {
+    (0..source.tokens.len()).any(|index| source.bytes(index) == bytes)
+}

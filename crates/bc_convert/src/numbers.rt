@@ -1,0 +1,87 @@
+use crate::complaint::Fault;
+use bc_convert_tokens::{Source, behind};
+use bc_word::Memory;
+use std::alloc::Global;
+
+/// What becomes of a number.
+#[derive(Debug, Drop)]
+pub enum NumberChange {
+    /// It stays as it is.
+    Kept,
+    /// It is written otherwise.
+    Written(Vec<u8>),
+    /// It can't be written.
+    Fault(Fault),
+}
+
+/// The base of a number, and how many bytes stand in front of its digits.
+fn base_of(bytes: &[u8]) -> (u32, usize) {
+    match bytes {
+        [b'#', b'X' | b'x', ..] => (16, 2),
+        [b'#', b'B' | b'b', ..] => (2, 2),
+        [b'#', b'O' | b'o', ..] => (8, 2),
+        [b'#', ..] => (8, 1),
+        _ => (10, 0),
+    }
+}
+
+/// The value of a number's digits, underlines aside: `None` where it is over 65,535, or one is no digit of the base.
+fn value_of_digits(base: u32, digits: &[u8]) -> Result<u32, Fault> {
+    let mut value: u32 = 0;
+    for byte in digits {
+        if *byte == b'_' {
+            continue;
+        }
+        let Some(digit) = char::from(*byte).to_digit(16) else {
+            return Err(Fault::BadNumber);
+        };
+        if digit >= base {
+            return Err(Fault::BadNumber);
+        }
+        value = value.saturating_mul(base).saturating_add(digit);
+        if value > 65_535 {
+            return Err(Fault::NumberTooLarge);
+        }
+    }
+    Ok(value)
+}
+
+/// The value of the number at an index, or what is wrong with it.
+pub fn value_of_number(source: Source<'_>, index: usize) -> Result<u32, Fault> {
+    let bytes = source.bytes(index);
+    let (base, front) = base_of(bytes);
+    if front >= bytes.len() {
+        return Err(Fault::BadNumber);
+    }
+    value_of_digits(base, behind(bytes, front))
+}
+
+/// Whether this dialect reads the number as it stands.
+fn is_plain(bytes: &[u8]) -> bool {
+    let has_old_base = matches!(bytes, [b'#', b'x' | b'B' | b'b' | b'O' | b'o', ..]);
+    !has_old_base && !bytes.contains(&b'_')
+}
+
+/// What becomes of the number at an index: binary ones are written in decimal digits, the others in their base.
+pub fn number_change(
+    alloc: Global,
+    source: Source<'_>,
+    index: usize,
+) -> Result<NumberChange, Memory> {
+    let bytes = source.bytes(index);
+    let value = match value_of_number(source, index) {
+        Ok(value) => value,
+        Err(Fault::NumberTooLarge) => return Ok(NumberChange::Fault(Fault::NumberTooLarge)),
+        Err(fault) if !is_plain(bytes) => return Ok(NumberChange::Fault(fault)),
+        Err(_) => return Ok(NumberChange::Kept),
+    };
+    if is_plain(bytes) {
+        return Ok(NumberChange::Kept);
+    }
+    let text = match base_of(bytes).0 {
+        16 => format!(in alloc; "#X{value:X}")?,
+        8 => format!(in alloc; "#{value:o}")?,
+        _ => format!(in alloc; "{value}")?,
+    };
+    Ok(NumberChange::Written(Vec::from_slice(alloc, text.as_bytes())?))
+}

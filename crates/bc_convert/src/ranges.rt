@@ -1,0 +1,101 @@
+use crate::notes::Notes;
+use crate::numbers::value_of_number;
+use crate::quoted::character_of;
+use crate::spelling::inside;
+use bc_convert_tokens::{Kind, Source};
+use bc_word::Memory;
+use std::alloc::Global;
+
+/// A constant that a case has, and whether it is written as a character.
+#[derive(Clone, Copy, Debug)]
+pub struct CaseConstant {
+    value: i64,
+    is_character: bool,
+}
+
+/// The constant that stands between two indices, where it is a number, a number with a sign or a character.
+pub fn case_constant(source: Source<'_>, from: usize, to: usize) -> Option<CaseConstant> {
+    let count = to.saturating_sub(from);
+    match (count, source.kind(from)) {
+        (1, Kind::Number) => Some(CaseConstant {
+            value: i64::from(value_of_number(source, from).ok()?),
+            is_character: false,
+        }),
+        (1, Kind::Character) => Some(CaseConstant {
+            value: i64::from(character_of(inside(source.bytes(from)))?),
+            is_character: true,
+        }),
+        (2, Kind::Add)
+            if source.kind(from.saturating_add(1)) == Kind::Number
+                && source.bytes(from) == b"-".as_slice() => {
+            let value = value_of_number(source, from.saturating_add(1)).ok()?;
+            Some(CaseConstant {
+                value: i64::from(value).saturating_neg(),
+                is_character: false,
+            })
+        }
+        _ => None,
+    }
+}
+
+/// A constant as text.
+fn put_constant(
+    alloc: Global,
+    text: &mut Vec<u8>,
+    value: i64,
+    is_character: bool,
+) -> Result<(), Memory> {
+    match u8::try_from(value) {
+        Ok(byte) if is_character && (byte.is_ascii_alphanumeric() || byte == b' ') => {
+            text.extend_from_slice(&[b'\'', byte, b'\''])?;
+        }
+        _ => {
+            let digits = format!(in alloc; "{value}")?;
+            text.extend_from_slice(digits.as_bytes())?;
+        }
+    }
+    Ok(())
+}
+
+/// The cases between two constants, each with CASE and a colon around it, and CASE in front of the last one; `None` where they
+/// are no range of at most 256.
+pub fn cases_between(
+    alloc: Global,
+    first: CaseConstant,
+    last: CaseConstant,
+) -> Result<Option<Vec<u8>>, Memory> {
+    let distance = last.value.saturating_sub(first.value);
+    if distance < 0 || distance > 255 {
+        return Ok(None);
+    }
+    let mut text = Vec::new(alloc);
+    for value in first.value..last.value {
+        if value != first.value {
+            text.extend_from_slice(b" CASE ")?;
+            put_constant(
+                alloc,
+                &mut text,
+                value,
+                first.is_character && last.is_character,
+            )?;
+        }
+        text.push(b':')?;
+    }
+    text.extend_from_slice(b" CASE")?;
+    Ok(Some(text))
+}
+
+/// Puts bytes in the place of a token, and a blank behind them where none stands there.
+pub fn replace_apart(
+    source: Source<'_>,
+    notes: &mut Notes,
+    index: usize,
+    bytes: &[u8],
+) -> Result<(), Memory> {
+    notes.replace(index, bytes)?;
+    let next = index.saturating_add(1);
+    if source.gap(next).is_empty() {
+        notes.put_behind(next, b" ")?;
+    }
+    Ok(())
+}

@@ -1,0 +1,288 @@
+use crate::complaint::Fault;
+use crate::library::is_further_name;
+use crate::names::{is_declared, name_change};
+use crate::notes::Notes;
+use crate::numbers::{NumberChange, number_change};
+use crate::options::Options;
+use crate::quoted::{Respelled, inside_respelled};
+use bc_convert_tokens::{Dialect, Kind, Source, reserved, span};
+use bc_word::Memory;
+use std::alloc::Global;
+
+/// What becomes of each token by itself: words and signs in this dialect's spelling, names without underlines, numbers and
+/// strings as they are written here, and complaints of what has no counterpart.
+pub fn respell(
+    source: Source<'_>,
+    notes: &mut Notes,
+    dialect: Dialect,
+    options: Options<'_>,
+) -> Result<(), Memory> {
+    let needs_further = needs_further(source);
+    for index in 0..source.tokens.len() {
+        match source.kind(index) {
+            Kind::Name => respell_name(source, notes, index, dialect, options)?,
+            Kind::Number => respell_number(source, notes, index)?,
+            Kind::Text => respell_string(source, notes, index, needs_further)?,
+            Kind::Character => respell_character(source, notes, index)?,
+            Kind::Floating => notes.complain(source, index, Fault::Floating)?,
+            Kind::Foreign => notes.complain(source, index, foreign_fault(source.bytes(index)))?,
+            Kind::Unclosed => notes.complain(source, index, Fault::Unclosed)?,
+            Kind::Unknown => notes.complain(source, index, Fault::UnknownByte)?,
+            kind => respell_sign(source, notes, index, kind, dialect)?,
+        }
+    }
+    Ok(())
+}
+
+/// Why a word or sign has no counterpart.
+fn foreign_fault(bytes: &[u8]) -> Fault {
+    if bytes == b"<>".as_slice() {
+        Fault::JoinedCommands
+    } else if bytes.eq_ignore_ascii_case(b"EXTERNAL") {
+        Fault::External
+    } else {
+        Fault::Field
+    }
+}
+
+/// Why a routine of an old library has no counterpart.
+fn routine_fault(bytes: &[u8]) -> Option<Fault> {
+    let is = |name: &[u8]| bytes.eq_ignore_ascii_case(name);
+    if is(b"LEVEL") || is(b"LONGJUMP") {
+        Some(Fault::LongJump)
+    } else if is(b"APTOVEC") {
+        Some(Fault::VectorOfAnySize)
+    } else if is(b"CREATECO")
+        || is(b"CALLCO")
+        || is(b"COWAIT")
+        || is(b"RESUMECO")
+        || is(b"DELETECO")
+    {
+        Some(Fault::Coroutine)
+    } else {
+        None
+    }
+}
+
+/// What becomes of a name.
+fn respell_name(
+    source: Source<'_>,
+    notes: &mut Notes,
+    index: usize,
+    dialect: Dialect,
+    options: Options<'_>,
+) -> Result<(), Memory> {
+    if source.kind(index.saturating_add(1)) == Kind::OpenRound
+        && let Some(fault) = routine_fault(source.bytes(index))
+        && !is_declared(source, index)
+    {
+        notes.complain(source, index, fault)?;
+    }
+    if let Some(new) = name_change(notes.alloc(), source, index, dialect, options)? {
+        notes.replace(index, new.as_slice())?;
+    }
+    Ok(())
+}
+
+/// What becomes of a number.
+fn respell_number(source: Source<'_>, notes: &mut Notes, index: usize) -> Result<(), Memory> {
+    match number_change(notes.alloc(), source, index)? {
+        NumberChange::Kept => Ok(()),
+        NumberChange::Written(text) => notes.replace(index, text.as_slice()),
+        NumberChange::Fault(fault) => notes.complain(source, index, fault),
+    }
+}
+
+/// The bytes between the signs of a string or constant.
+pub fn inside(bytes: &[u8]) -> &[u8] {
+    span(bytes, 1, bytes.len().saturating_sub(1))
+}
+
+/// Bytes between two signs.
+fn quoted(alloc: Global, sign: u8, inside: &[u8]) -> Result<Vec<u8>, Memory> {
+    let mut text = Vec::new(alloc);
+    text.push(sign)?;
+    text.extend_from_slice(inside)?;
+    text.push(sign)?;
+    Ok(text)
+}
+
+/// What becomes of a string: the library's header has its name here where it stands behind GET.
+fn respell_string(
+    source: Source<'_>,
+    notes: &mut Notes,
+    index: usize,
+    needs_further: bool,
+) -> Result<(), Memory> {
+    if gets_header(source, index) {
+        let name: &[u8] = if needs_further {
+            b"\"EXTHDR\""
+        } else {
+            b"\"LIBHDR\""
+        };
+        return notes.replace(index, name);
+    }
+    match inside_respelled(notes.alloc(), inside(source.bytes(index)))? {
+        Err(fault) => notes.complain(source, index, fault),
+        Ok(Respelled { count, .. }) if count > 255 => notes.complain(
+            source,
+            index,
+            Fault::StringTooLong,
+        ),
+        Ok(Respelled { inside: text, .. }) => {
+            let whole = quoted(notes.alloc(), b'"', text.as_slice())?;
+            replace_if_other(source, notes, index, whole.as_slice())
+        }
+    }
+}
+
+/// What becomes of a character constant: one that can't be seen is written as a number.
+fn respell_character(source: Source<'_>, notes: &mut Notes, index: usize) -> Result<(), Memory> {
+    match inside_respelled(notes.alloc(), inside(source.bytes(index)))? {
+        Err(fault) => notes.complain(source, index, fault),
+        Ok(Respelled { count, .. }) if count != 1 => notes.complain(
+            source,
+            index,
+            Fault::NotOneCharacter,
+        ),
+        Ok(
+            Respelled {
+                numbered: Some(byte),
+                ..
+            },
+        ) if !byte.is_ascii_graphic() && byte != b' ' => {
+            let digits = format!(in notes.alloc(); "{byte}")?;
+            notes.replace(index, digits.as_bytes())
+        }
+        Ok(Respelled { inside: text, .. }) => {
+            let whole = quoted(notes.alloc(), b'\'', text.as_slice())?;
+            replace_if_other(source, notes, index, whole.as_slice())
+        }
+    }
+}
+
+/// Puts bytes in the place of a token that is spelled otherwise.
+fn replace_if_other(
+    source: Source<'_>,
+    notes: &mut Notes,
+    index: usize,
+    bytes: &[u8],
+) -> Result<(), Memory> {
+    if source.bytes(index) == bytes {
+        return Ok(());
+    }
+    notes.replace(index, bytes)
+}
+
+/// What becomes of a reserved word or a sign.
+fn respell_sign(
+    source: Source<'_>,
+    notes: &mut Notes,
+    index: usize,
+    kind: Kind,
+    dialect: Dialect,
+) -> Result<(), Memory> {
+    let bytes = source.bytes(index);
+    if let Some(word) = reserved(bytes, dialect.has_small_words)
+        && kind != Kind::Header
+    {
+        return replace_if_other(source, notes, index, word.spelling);
+    }
+    match kind {
+        Kind::Query => notes.replace(index, b"0"),
+        Kind::Underline => notes.replace(index, b":="),
+        Kind::Not => replace_if_other(source, notes, index, b"~"),
+        Kind::Relation if matches!(bytes, [b'\\' | 0xc2, ..]) => notes.replace(index, b"~="),
+        Kind::OpenRound => replace_if_other(source, notes, index, b"("),
+        Kind::CloseRound => replace_if_other(source, notes, index, b")"),
+        Kind::OpenSection => respell_section(source, notes, index, b"$("),
+        Kind::CloseSection => respell_section(source, notes, index, b"$)"),
+        _ => Ok(()),
+    }
+}
+
+/// What becomes of a section bracket, whose tag has dots in place of underlines.
+fn respell_section(
+    source: Source<'_>,
+    notes: &mut Notes,
+    index: usize,
+    sign: &[u8],
+) -> Result<(), Memory> {
+    let bytes = source.bytes(index);
+    let mut whole = Vec::from_slice(notes.alloc(), sign)?;
+    for byte in span(bytes, 2, bytes.len()) {
+        whole.push(if *byte == b'_' { b'.' } else { *byte })?;
+    }
+    replace_if_other(source, notes, index, whole.as_slice())
+}
+
+/// Whether a string stands behind GET and names the library's header, in either case and with any ending.
+fn gets_header(source: Source<'_>, index: usize) -> bool {
+    let name = inside(source.bytes(index));
+    let stem = match name.iter().position(|byte| *byte == b'.') {
+        Some(dot) => span(name, 0, dot),
+        None => name,
+    };
+    index > 0
+        && source.kind(index - 1) == Kind::Get
+        && (stem.eq_ignore_ascii_case(b"LIBHDR") || stem == b"EXTHDR".as_slice())
+}
+
+/// Whether a format has a letter that BLIB's WRITEF does not know.
+fn has_further_letter(format: &[u8]) -> bool {
+    format.windows(2).any(|pair| {
+        matches!(
+            pair,
+            [
+                b'%',
+                b'I' | b'i'
+                    | b'O'
+                    | b'o'
+                    | b'X'
+                    | b'x'
+                    | b'T'
+                    | b't'
+                    | b'U'
+                    | b'u'
+                    | b'P'
+                    | b'p'
+                    | b'n'
+                    | b's'
+                    | b'c'
+            ]
+        )
+    })
+}
+
+/// Whether a string is the format of a WRITEF with such a letter.
+fn is_further_format(source: Source<'_>, index: usize) -> bool {
+    index > 1
+        && source.kind(index) == Kind::Text
+        && source.kind(index - 1) == Kind::OpenRound
+        && source.bytes(index - 2).eq_ignore_ascii_case(b"WRITEF")
+        && has_further_letter(source.bytes(index))
+}
+
+/// Whether a name is one that EXTHDR alone has, and no declaration of the source.
+fn needs_name(source: Source<'_>, index: usize) -> bool {
+    source.kind(index) == Kind::Name
+        && is_further_name(source.bytes(index))
+        && !is_declared(source, index)
+}
+
+/// Whether the library's header is all that the source gets.
+fn gets_header_alone(source: Source<'_>) -> bool {
+    (1..source.tokens.len()).all(|index| source.kind(index - 1) != Kind::Get
+        || gets_header(source, index))
+}
+
+/// Whether a source needs EXTHDR: for a format, or for a name, where it gets no other header that may declare it. One that
+/// gets it keeps it.
+fn needs_further(source: Source<'_>) -> bool {
+    let is_alone = gets_header_alone(source);
+    (0..source.tokens.len()).any(|index| {
+        source.bytes(index) == b"\"EXTHDR\"".as_slice()
+            || is_further_format(source, index)
+            || is_alone && needs_name(source, index)
+    })
+}

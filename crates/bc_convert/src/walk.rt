@@ -1,0 +1,683 @@
+ghost use Rattle.std.specs.Prelude.{◌≡◌, ◌+◌, ◌<◌, ◌≤◌};
+
+use crate::chain::{Chain, ChainState, close_chain};
+use crate::commands::{put_byte_of, put_compound};
+use crate::complaint::Fault;
+use crate::declarations::{Values, continued, put_entry, put_values};
+use crate::notes::Notes;
+use crate::operands::{Operand, finish, is_adjacent, is_compound, is_plain, level_at};
+use crate::ranges::{case_constant, cases_between, replace_apart};
+use bc_convert_tokens::{Dialect, Kind, Source};
+use bc_word::Memory;
+
+/// How deep the parts of a source may nest: each part counts for some of its own.
+pub const MOST_DEPTH: usize = 3000;
+
+/// What is walked through: the source, what is known of its dialect, and how much deeper the walk may go.
+#[derive(Clone, Copy)]
+pub struct Walk<'s> {
+    pub source: Source<'s>,
+    pub dialect: Dialect,
+    pub depth: usize,
+}
+
+impl<'s> Walk<'s> {
+    /// The walk one step deeper.
+    fn deeper(self) -> Walk<'s>
+        requires { 0 < self.depth }
+        ensures { result.depth + 1 ≡ self.entry.depth }
+    {
+        Walk {
+            depth: self.depth - 1,
+            ..self
+        }
+    }
+}
+
+/// Where the bracket at an index ends, within a limit: the index of what closes it, or the limit.
+fn inside_end(source: Source<'_>, index: usize, to: usize) -> usize
+    ensures { result ≤ to }
+{
+    source.partner(index).min(to)
+}
+
+/// The index behind another one, within a limit.
+fn behind(index: usize, to: usize) -> usize
+    ensures { result ≤ to }
+{
+    if index < to { index + 1 } else { to }
+}
+
+/// Whether a list that begins at an index may have declarations: it is that of a section bracket, and of no SWITCHON. Gives
+/// `None` outside of section brackets.
+fn is_block(source: Source<'_>, from: usize) -> Option<bool> {
+    if from == 0 || source.kind(from - 1) != Kind::OpenSection {
+        return None;
+    }
+    let is_switch = from > 1 && source.bytes(from - 2).eq_ignore_ascii_case(b"INTO");
+    Some(!is_switch)
+}
+
+/// Whether a declaration begins with such a token.
+fn begins_declaration(kind: Kind) -> bool {
+    matches!(
+        kind,
+        Kind::Let | Kind::Static | Kind::Manifest | Kind::Global
+    )
+}
+
+/// Whether such a token at the beginning of an item is no command.
+fn is_no_command(kind: Kind) -> bool {
+    begins_declaration(kind)
+        || matches!(kind, Kind::And | Kind::Semicolon | Kind::Get | Kind::Header)
+}
+
+/// The items of a list, from one index up to another one. A declaration behind commands gets a block of its own, which goes
+/// to the end of the list.
+#[cycle(walk)]
+pub fn items(walk: Walk<'_>, notes: &mut Notes, from: usize, to: usize) -> Result<(), Memory> {
+    if walk.depth == 0 {
+        return notes.complain(walk.source, from, Fault::TooDeep);
+    }
+    let source = walk.source;
+    let mut at = from;
+    let mut has_commands = false;
+    for _ in from..to {
+        if at >= to {
+            return Ok(());
+        }
+        if at == from || source.is_separated(at) {
+            let kind = source.kind(at);
+            if has_commands && begins_declaration(kind) {
+                put_block(source, notes, from, at, to)?;
+                has_commands = false;
+            }
+            has_commands = has_commands || !is_no_command(kind);
+        }
+        at = item(walk.deeper(), notes, at, to)?;
+    }
+    Ok(())
+}
+
+/// Puts the items of a list from an index on between brackets of their own, where the list is one of commands.
+fn put_block(
+    source: Source<'_>,
+    notes: &mut Notes,
+    from: usize,
+    at: usize,
+    to: usize,
+) -> Result<(), Memory> {
+    match is_block(source, from) {
+        None => Ok(()),
+        Some(false) => notes.complain(source, at, Fault::LateDeclaration),
+        Some(true) => {
+            notes.put_before(at, b"$( ")?;
+            notes.put_before(to, b"$) ")
+        }
+    }
+}
+
+/// The part of an item that begins at an index. Gives the index behind it.
+#[cycle(walk)]
+fn item(walk: Walk<'_>, notes: &mut Notes, at: usize, to: usize) -> Result<usize, Memory> {
+    if walk.depth == 0 {
+        notes.complain(walk.source, at, Fault::TooDeep)?;
+        return Ok(to);
+    }
+    let source = walk.source;
+    let next = behind(at, to);
+    match source.kind(at) {
+        Kind::Let | Kind::And => definition(walk.deeper(), notes, next, to),
+        Kind::Global | Kind::Manifest | Kind::Static => entries(walk.deeper(), notes, at, to),
+        Kind::Case => cases(walk.deeper(), notes, next, to),
+        Kind::Goto => destination(source, notes, next, to),
+        Kind::Header => header(source, notes, at, to),
+        Kind::Get => Ok(behind(next, to)),
+        Kind::OpenSection => bracket(walk.deeper(), notes, at, to),
+        Kind::Name if source.kind(next) == Kind::Colon => {
+            notes.note_label(at)?;
+            Ok(behind(next, to))
+        }
+        kind if kind.can_be_operand() => command(walk.deeper(), notes, at, to),
+        _ => Ok(next),
+    }
+}
+
+/// What stands between brackets. Gives the index behind the closing one.
+#[cycle(walk)]
+fn bracket(walk: Walk<'_>, notes: &mut Notes, at: usize, to: usize) -> Result<usize, Memory> {
+    if walk.depth == 0 {
+        notes.complain(walk.source, at, Fault::TooDeep)?;
+        return Ok(to);
+    }
+    let source = walk.source;
+    if source.partner(at) >= source.tokens.len() {
+        notes.complain(source, at, Fault::OpenBracket)?;
+    }
+    let closing = inside_end(source, at, to);
+    items(walk.deeper(), notes, behind(at, to), closing)?;
+    Ok(behind(closing, to))
+}
+
+/// SECTION or NEEDS with its names, which become a comment.
+fn header(source: Source<'_>, notes: &mut Notes, at: usize, to: usize) -> Result<usize, Memory> {
+    let mut end = behind(at, to);
+    for _ in at..to {
+        let next = behind(end, to);
+        if source.kind(end) == Kind::Text && source.kind(next) == Kind::Comma {
+            end = behind(next, to);
+        } else {
+            end = next;
+            break;
+        }
+    }
+    notes.put_before(at, b"/* ")?;
+    notes.put_behind(end, b" */")?;
+    Ok(end)
+}
+
+/// A GOTO's destination, which is to be a name alone.
+fn destination(
+    source: Source<'_>,
+    notes: &mut Notes,
+    at: usize,
+    to: usize,
+) -> Result<usize, Memory> {
+    let next = behind(at, to);
+    let goes_on = !source.is_separated(next)
+        && matches!(
+            source.kind(next),
+            Kind::OpenRound | Kind::Bang | Kind::Percent
+        );
+    if source.kind(at) == Kind::Name && !goes_on && level_at(source, next) == 0 {
+        notes.note_destination(at)?;
+        return Ok(next);
+    }
+    notes.complain(source, at, Fault::GotoOfValue)?;
+    Ok(at)
+}
+
+/// A definition behind LET or AND, up to the body of a routine or a single value.
+#[cycle(walk)]
+fn definition(walk: Walk<'_>, notes: &mut Notes, at: usize, to: usize) -> Result<usize, Memory> {
+    if walk.depth == 0 {
+        notes.complain(walk.source, at, Fault::TooDeep)?;
+        return Ok(to);
+    }
+    let source = walk.source;
+    let next = behind(at, to);
+    if source.kind(at) != Kind::Name {
+        return Ok(at);
+    }
+    if source.kind(next) == Kind::OpenRound {
+        let closing = inside_end(source, next, to);
+        return Ok(behind(behind(closing, to), to));
+    }
+    let values = Values::of(source, at, to);
+    if values.count == 1 || source.kind(values.equal) != Kind::Equal {
+        return Ok(behind(values.equal, to));
+    }
+    definitions(walk.deeper(), notes, values, to)
+}
+
+/// The values of a definition of several names. Where one is a vector, each name gets a definition of its own.
+#[cycle(walk)]
+fn definitions(
+    walk: Walk<'_>,
+    notes: &mut Notes,
+    values: Values,
+    to: usize,
+) -> Result<usize, Memory> {
+    if walk.depth == 0 {
+        notes.complain(walk.source, values.equal, Fault::TooDeep)?;
+        return Ok(to);
+    }
+    let source = walk.source;
+    let mut commas = Vec::new(notes.alloc());
+    let mut has_vector = false;
+    let mut start = behind(values.equal, to);
+    for _ in 0..values.count {
+        if source.kind(start) == Kind::Vec {
+            has_vector = true;
+            start = behind(start, to);
+        }
+        start = expression(walk.deeper(), notes, 1, start, to)?;
+        if source.kind(start) != Kind::Comma || commas.len().saturating_add(1) >= values.count {
+            break;
+        }
+        commas.push(start)?;
+        start = behind(start, to);
+    }
+    if has_vector {
+        put_values(source, notes, values, commas.as_slice())?;
+    }
+    Ok(start)
+}
+
+/// Whether an entry without a value ends in front of an index.
+fn ends_entry(source: Source<'_>, index: usize, closing: usize) -> bool {
+    index >= closing
+        || matches!(source.kind(index), Kind::Comma | Kind::Semicolon)
+        || source.is_separated(index)
+}
+
+/// GLOBAL, MANIFEST or STATIC with its entries. Gives the index behind the closing bracket.
+#[cycle(walk)]
+fn entries(walk: Walk<'_>, notes: &mut Notes, at: usize, to: usize) -> Result<usize, Memory> {
+    if walk.depth == 0 {
+        notes.complain(walk.source, at, Fault::TooDeep)?;
+        return Ok(to);
+    }
+    let source = walk.source;
+    let opening = behind(at, to);
+    if source.kind(opening) != Kind::OpenSection {
+        return Ok(opening);
+    }
+    let closing = inside_end(source, opening, to);
+    let mut entry = behind(opening, to);
+    let mut last = None;
+    for _ in at..to {
+        if entry >= closing {
+            break;
+        }
+        let next = behind(entry, closing);
+        if source.kind(entry) != Kind::Name {
+            if source.kind(entry) == Kind::Comma {
+                notes.replace(entry, b";")?;
+            }
+            entry = next;
+        } else if matches!(source.kind(next), Kind::Equal | Kind::Colon) {
+            let start = behind(next, closing);
+            let end = expression(walk.deeper(), notes, 2, start, closing)?;
+            last = continued(source, start, end);
+            entry = end.max(start);
+        } else {
+            if ends_entry(source, next, closing) {
+                last = put_entry(source, notes, at, entry, last)?;
+            }
+            entry = next;
+        }
+    }
+    Ok(behind(closing, to))
+}
+
+/// The constants of a CASE. Gives the index behind them.
+#[cycle(walk)]
+fn cases(walk: Walk<'_>, notes: &mut Notes, at: usize, to: usize) -> Result<usize, Memory> {
+    if walk.depth == 0 {
+        notes.complain(walk.source, at, Fault::TooDeep)?;
+        return Ok(to);
+    }
+    let source = walk.source;
+    let mut start = at;
+    for _ in at..to {
+        let mut end = expression(walk.deeper(), notes, 2, start, to)?;
+        if source.kind(end) == Kind::To {
+            let from = behind(end, to);
+            let last = expression(walk.deeper(), notes, 2, from, to)?;
+            put_range(source, notes, (start, end), (from, last))?;
+            end = last;
+        }
+        if source.kind(end) != Kind::Comma {
+            return Ok(end);
+        }
+        replace_apart(source, notes, end, b": CASE")?;
+        start = behind(end, to);
+    }
+    Ok(start)
+}
+
+/// Writes out the cases of a range, whose constants stand between these indices.
+fn put_range(
+    source: Source<'_>,
+    notes: &mut Notes,
+    first: (usize, usize),
+    last: (usize, usize),
+) -> Result<(), Memory> {
+    let constants = (
+        case_constant(source, first.0, first.1),
+        case_constant(source, last.0, last.1),
+    );
+    if let (Some(low), Some(high)) = constants
+        && let Some(text) = cases_between(notes.alloc(), low, high)?
+    {
+        notes.take_gap(source, first.1);
+        return replace_apart(source, notes, first.1, text.as_slice());
+    }
+    notes.complain(source, first.0, Fault::CaseRange)
+}
+
+/// What begins with an operand: an assignment, a call, or expressions with commas between them. Gives the index behind it.
+#[cycle(walk)]
+fn command(walk: Walk<'_>, notes: &mut Notes, at: usize, to: usize) -> Result<usize, Memory> {
+    if walk.depth == 0 {
+        notes.complain(walk.source, at, Fault::TooDeep)?;
+        return Ok(to);
+    }
+    let source = walk.source;
+    let left = operand(walk.deeper(), notes, at, to, false)?;
+    if is_compound(source, left.end) {
+        return compound(walk.deeper(), notes, at, left, to);
+    }
+    if matches!(source.kind(left.end), Kind::Assign | Kind::Underline) {
+        return assignment(walk.deeper(), notes, at, left, to);
+    }
+    finish(notes, at, left)?;
+    let mut end = operators(walk.deeper(), notes, 0, at, left.end, to)?;
+    let mut has_byte = left.byte.is_some();
+    for _ in at..to {
+        if source.kind(end) != Kind::Comma || end >= to {
+            break;
+        }
+        let start = behind(end, to);
+        let further = operand(walk.deeper(), notes, start, to, false)?;
+        has_byte = has_byte || further.byte.is_some();
+        finish(notes, start, further)?;
+        end = operators(walk.deeper(), notes, 0, start, further.end, to)?;
+    }
+    if has_byte && source.kind(end) == Kind::Assign {
+        notes.complain(source, at, Fault::ByteInList)?;
+    }
+    Ok(end.max(behind(at, to)))
+}
+
+/// An assignment to what was read, whose sign stands behind it.
+#[cycle(walk)]
+fn assignment(
+    walk: Walk<'_>,
+    notes: &mut Notes,
+    at: usize,
+    left: Operand,
+    to: usize,
+) -> Result<usize, Memory> {
+    if walk.depth == 0 {
+        notes.complain(walk.source, at, Fault::TooDeep)?;
+        return Ok(to);
+    }
+    let source = walk.source;
+    let start = behind(left.end, to);
+    if let Some(percent) = left.byte {
+        let end = expression(walk.deeper(), notes, 1, start, to)?;
+        put_byte_of(source, notes, at, percent, left.end)?;
+        notes.put_behind(end, b")")?;
+        return Ok(end);
+    }
+    Ok(start)
+}
+
+/// An assignment with an operator to what was read, whose operator stands behind it.
+#[cycle(walk)]
+fn compound(
+    walk: Walk<'_>,
+    notes: &mut Notes,
+    at: usize,
+    left: Operand,
+    to: usize,
+) -> Result<usize, Memory> {
+    if walk.depth == 0 {
+        notes.complain(walk.source, at, Fault::TooDeep)?;
+        return Ok(to);
+    }
+    let source = walk.source;
+    let start = behind(behind(left.end, to), to);
+    let right = operand(walk.deeper(), notes, start, to, false)?;
+    finish(notes, start, right)?;
+    let end = operators(walk.deeper(), notes, 1, start, right.end, to)?;
+    if !is_plain(source, at, left.end) {
+        notes.complain(source, at, Fault::CallOnTheLeft)?;
+        return Ok(end);
+    }
+    if end != right.end || matches!(source.kind(start), Kind::Add | Kind::Not) {
+        notes.put_before(start, b"(")?;
+        notes.put_behind(end, b")")?;
+    }
+    put_compound(source, notes, at, left, end)?;
+    Ok(end)
+}
+
+/// The expression that begins at an index, without operators that bind more loosely than a level. Gives the index behind it.
+#[cycle(walk)]
+fn expression(
+    walk: Walk<'_>,
+    notes: &mut Notes,
+    level: u8,
+    at: usize,
+    to: usize,
+) -> Result<usize, Memory> {
+    if walk.depth == 0 {
+        notes.complain(walk.source, at, Fault::TooDeep)?;
+        return Ok(to);
+    }
+    let left = operand(walk.deeper(), notes, at, to, false)?;
+    if left.end <= at {
+        return Ok(at);
+    }
+    finish(notes, at, left)?;
+    operators(walk.deeper(), notes, level, at, left.end, to)
+}
+
+/// The operators behind what was read from an index up to another one, that bind no more loosely than a level, with their
+/// operands.
+#[cycle(walk)]
+fn operators(
+    walk: Walk<'_>,
+    notes: &mut Notes,
+    level: u8,
+    at: usize,
+    from: usize,
+    to: usize,
+) -> Result<usize, Memory> {
+    if walk.depth == 0 {
+        notes.complain(walk.source, at, Fault::TooDeep)?;
+        return Ok(to);
+    }
+    let source = walk.source;
+    let mut end = from;
+    let mut chain: Option<Chain> = None;
+    for _ in at..to {
+        let operator = level_at(source, end);
+        if end >= to || operator == 0 || operator < level {
+            break;
+        }
+        let start = behind(end, to);
+        let next = if operator == 1 {
+            choice(walk.deeper(), notes, start, to)?
+        } else {
+            expression(walk.deeper(), notes, operator.saturating_add(1), start, to)?
+        };
+        if operator == 7 {
+            let state = match chain {
+                None => ChainState::Single,
+                Some(chain) => chain.join(source, notes, level > 4)?,
+            };
+            chain = Some(Chain {
+                at,
+                from: start,
+                to: next,
+                state,
+            });
+        } else if operator < 7 {
+            close(notes, end, chain)?;
+            chain = None;
+        }
+        end = next;
+    }
+    close(notes, end, chain)?;
+    Ok(end)
+}
+
+/// Closes what was read of a chain of relations.
+fn close(notes: &mut Notes, end: usize, chain: Option<Chain>) -> Result<(), Memory> {
+    match chain {
+        None => Ok(()),
+        Some(chain) => close_chain(notes, end, chain.state),
+    }
+}
+
+/// The two parts behind `->`.
+#[cycle(walk)]
+fn choice(walk: Walk<'_>, notes: &mut Notes, at: usize, to: usize) -> Result<usize, Memory> {
+    if walk.depth == 0 {
+        notes.complain(walk.source, at, Fault::TooDeep)?;
+        return Ok(to);
+    }
+    let end = expression(walk.deeper(), notes, 1, at, to)?;
+    if walk.source.kind(end) != Kind::Comma {
+        return Ok(end);
+    }
+    expression(walk.deeper(), notes, 1, behind(end, to), to)
+}
+
+/// The operand that begins at an index; with calls alone behind it, where `calls_only` says so, and else with `!` and `%` too.
+#[cycle(walk)]
+fn operand(
+    walk: Walk<'_>,
+    notes: &mut Notes,
+    at: usize,
+    to: usize,
+    calls_only: bool,
+) -> Result<Operand, Memory> {
+    if walk.depth == 0 || at >= to {
+        return Ok(Operand::plain(at));
+    }
+    let source = walk.source;
+    let next = behind(at, to);
+    match source.kind(at) {
+        Kind::Add => Ok(Operand::plain(expression(walk.deeper(), notes, 9, next, to)?)),
+        Kind::Not => Ok(Operand::plain(expression(walk.deeper(), notes, 6, next, to)?)),
+        Kind::Abs => Ok(Operand::plain(absolute(walk.deeper(), notes, at, to)?)),
+        Kind::Bang | Kind::Address | Kind::Content => {
+            let inner = operand(walk.deeper(), notes, next, to, false)?;
+            finish(notes, next, inner)?;
+            Ok(Operand::plain(inner.end))
+        }
+        Kind::Valof if source.kind(next) == Kind::OpenSection => {
+            Ok(Operand::plain(bracket(walk.deeper(), notes, next, to)?))
+        }
+        Kind::Valof | Kind::Table => Ok(Operand::plain(next)),
+        Kind::OpenRound => {
+            let end = bracket(walk.deeper(), notes, at, to)?;
+            selected(walk.deeper(), notes, at, end, to, calls_only)
+        }
+        kind if kind.can_be_operand() => selected(walk.deeper(), notes, at, next, to, calls_only),
+        _ => Ok(Operand::plain(at)),
+    }
+}
+
+/// Whether `*(` behind an operand is a subscript.
+fn is_star_subscript(walk: Walk<'_>, index: usize) -> bool {
+    let source = walk.source;
+    walk.dialect.has_star_subscripts
+        && source.kind(index) == Kind::Star
+        && source.kind(index.saturating_add(1)) == Kind::OpenRound
+        && is_adjacent(source, index)
+}
+
+/// The calls and subscripts behind what was read from an index up to another one.
+#[cycle(walk)]
+fn selected(
+    walk: Walk<'_>,
+    notes: &mut Notes,
+    at: usize,
+    from: usize,
+    to: usize,
+    calls_only: bool,
+) -> Result<Operand, Memory> {
+    if walk.depth == 0 {
+        return Ok(Operand::plain(from));
+    }
+    let source = walk.source;
+    let mut whole = Operand::plain(from);
+    for _ in at..to {
+        let here = whole.end;
+        if here >= to || source.is_separated(here) || is_compound(source, here) {
+            break;
+        }
+        let kind = source.kind(here);
+        if kind == Kind::OpenRound {
+            finish(notes, at, whole)?;
+            whole = Operand::plain(bracket(walk.deeper(), notes, here, to)?);
+        } else if calls_only {
+            break;
+        } else if is_star_subscript(walk, here) {
+            finish(notes, at, whole)?;
+            notes.replace(here, b"!")?;
+            whole = Operand::plain(bracket(walk.deeper(), notes, behind(here, to), to)?);
+        } else if kind == Kind::Bang || kind == Kind::Percent {
+            finish(notes, at, whole)?;
+            let start = behind(here, to);
+            let inner = operand(walk.deeper(), notes, start, to, true)?;
+            finish(notes, start, inner)?;
+            let byte = if kind == Kind::Percent {
+                Some(here)
+            } else {
+                None
+            };
+            whole = Operand {
+                end: inner.end,
+                byte,
+            };
+        } else {
+            break;
+        }
+    }
+    Ok(whole)
+}
+
+/// ABS and its operand.
+#[cycle(walk)]
+fn absolute(walk: Walk<'_>, notes: &mut Notes, at: usize, to: usize) -> Result<usize, Memory> {
+    if walk.depth == 0 {
+        notes.complain(walk.source, at, Fault::TooDeep)?;
+        return Ok(to);
+    }
+    let source = walk.source;
+    let start = behind(at, to);
+    let end = expression(walk.deeper(), notes, 10, start, to)?;
+    if end <= start {
+        return Ok(start);
+    }
+    put_absolute(source, notes, at, end)?;
+    Ok(end)
+}
+
+/// Writes down that ABS stands at an index, and its operand behind it up to another one: the operand is worked out twice where
+/// it holds no call, and else kept in a variable of a VALOF.
+fn put_absolute(
+    source: Source<'_>,
+    notes: &mut Notes,
+    at: usize,
+    end: usize,
+) -> Result<(), Memory> {
+    let start = behind(at, end);
+    if !is_plain(source, start, end) {
+        let name = notes.fresh_name(source)?;
+        notes.replace(at, b"(VALOF $( LET ")?;
+        notes.put_behind(start, name.as_slice())?;
+        notes.put_behind(start, b" =")?;
+        notes.put_behind(end, b"; RESULTIS ")?;
+        put_choice(notes, end, name.as_slice())?;
+        notes.put_behind(end, b" ")?;
+        notes.put_behind(end, name.as_slice())?;
+        return notes.put_behind(end, b" $))");
+    }
+    if matches!(source.kind(start), Kind::Add | Kind::Not) {
+        notes.put_before(start, b"(")?;
+        notes.put_behind(end, b")")?;
+    }
+    let text = notes.rendered(source, start, end)?;
+    notes.replace(at, b"(")?;
+    put_choice(notes, start, text.as_slice())?;
+    if source.gap(start).is_empty() {
+        notes.put_behind(start, b" ")?;
+    }
+    notes.put_behind(end, b")")
+}
+
+/// Puts behind a token the test whether a value is negative, and the value that it has then without its sign.
+fn put_choice(notes: &mut Notes, end: usize, value: &[u8]) -> Result<(), Memory> {
+    notes.put_behind(end, value)?;
+    notes.put_behind(end, b"<0 -> -")?;
+    notes.put_behind(end, value)?;
+    notes.put_behind(end, b",")
+}

@@ -1,0 +1,43 @@
+-- What a program that was built means, and what its image does.
+use Rattle.std.specs.Prelude.{ℕ, ◌≤◌, List, All}
+use Rattle.bc_machine_defs.specs.Streams.{Content}
+use Rattle.bc_machine_defs.specs.StreamCalls.{output_of}
+use Rattle.bc_machine_defs.specs.declared.state.End.TheVariants as ends
+use Rattle.bc_machine_image.specs.declared.image.Image.{Image}
+use Rattle.bc_lex.specs.Files.{File, files_of}
+use Rattle.bc_parse_tree.specs.Tree.{Declarations}
+use Rattle.bc_core.specs.Same.{IsAt, end_of}
+use Rattle.bc_build.specs.Compiled.{AreAccepted}
+use Rattle.bc_build.specs.Runs.{meant, started, RunsAsMeant}
+use Rattle.bc_right_steps.specs.Leads.{HoldsBytes}
+use Rattle.bc_interpret_steps.specs.Came.{ending}
+use Rattle.bc_interpret.specs.declared.run.Outcome.{Outcome}
+use Rattle.bc_interpret.specs.declared.run.Outcome.TheVariants as outcomes
+use Rattle.bc_interpret.specs.Results.{IsResult}
+use Rattle.bc_interpret_sources.specs.declared.sources.Program.{Program}
+
+-- the mains are sections, and the image does what they mean: so it is with the image that `build` gives
+pub record IsImageOf (files : List File) (mains : List ℕ) (image : Image) : Type 0 where
+  pub sections : List Declarations
+  pub accepted : AreAccepted files mains sections
+  pub runs : RunsAsMeant sections image
+
+-- The machine comes from the image to the same: after some number of instructions it has this ending and this output, or, where no turn
+-- was left, after at least as many instructions as there were turns it still runs and has this output.
+abbrev pub RunsTo : Image → (turns : ℕ) → (before : Content) → Outcome → (after : Content) → Type 0
+RunsTo image turns before (outcomes.Ended e) after = (m : ℕ) × IsAt (started image before) m (end_of (ending e)) (output_of after)
+RunsTo image turns before outcomes.Going after = (m : ℕ) × (turns ≤ m) × IsAt (started image before) m ends.BudgetSpent (output_of after)
+RunsTo image turns before (outcomes.Wild cause) after = Unit {0}
+RunsTo image turns before outcomes.Device after = Unit {0}
+
+-- Over streams whose content is known: the run of the program came to what its mains' sections mean, with the same output, or a device
+-- failed.
+abbrev pub MeansOn : {T : Type 0} → (T → Type 0) → (T → Content) → Program → (turns : ℕ) → T → T → Outcome → Type 0
+MeansOn known content program turns streams streams_new outcome =
+    (sections : List Declarations) → AreAccepted (files_of program.sources.now) program.mains.now sections → known streams
+    → IsResult (meant sections program.image.now (content streams) turns) outcome (content streams_new)
+
+-- and the machine comes from the image to the same
+abbrev pub RunsOn : {T : Type 0} → (T → Type 0) → (T → Content) → Program → (turns : ℕ) → T → T → Outcome → Type 0
+RunsOn known content program turns streams streams_new outcome =
+    known streams → All HoldsBytes (content streams).inputs → RunsTo program.image.now turns (content streams) outcome (content streams_new)

@@ -1,0 +1,116 @@
+ghost use Rattle.std.specs.Prelude.{◌≡◌, ◌≤◌, ◌<◌, length, map, All, IfOk, List};
+ghost use Rattle.bc_machine.specs.Rose.{Rose};
+ghost use Rattle.bc_lex.specs.Files.{files_of};
+ghost use Rattle.bc_parse_tree.specs.Tree.{Declarations};
+ghost use Rattle.bc_core.specs.View.{section as section_view};
+ghost use Rattle.bc_build.specs.Built.{IsBuilt};
+ghost use Rattle.bc_build.specs.Compiled.{AreAccepted};
+ghost use Rattle.bc_build.specs.Runs.{RunsAsMeant};
+ghost use Rattle.bc_interpret.specs.declared.run.Outcome.TheVariants as outcomes;
+ghost use Rattle.bc_interpret_sources.specs.Programs.{IsImageOf, MeansOn, RunsOn};
+ghost use Rattle.bc_interpret_sources.specs.Resolving.{AreTranslated, IsResolved};
+
+use bc_build::{Built, Image, Source};
+use bc_core::Core;
+use bc_interpret::Interpreted;
+use bc_lex::lex;
+use bc_machine::Streams;
+use bc_parse::parse;
+use bc_scope::resolve;
+use bc_word::Memory;
+use std::alloc::Global;
+
+/// A program that was built: its sources, the indexes of those that are its mains, and its image.
+#[derive(Clone, Copy)]
+pub struct Program<'p> {
+    pub sources: &'p [Source<'p>],
+    pub mains: &'p [usize],
+    pub image: &'p Image,
+}
+
+impl<'p> Program<'p> {
+    /// The program that was built from these mains, which are indexes of the sources.
+    #[tactic(auto, using(crate::proofs::Resolved::built_is_image))]
+    pub fn built(sources: &'p [Source<'p>], mains: &'p [usize], built: &'p Built) -> Program<'p>
+        requires built { IsBuilt (files_of sources.now) mains.now built.now }
+        requires runs { (sections : List Declarations) → AreAccepted (files_of sources.now) mains.now sections → RunsAsMeant sections built.now.image }
+        ensures sources { result.sources.now ≡ sources.now }
+        ensures mains { result.mains.now ≡ mains.now }
+        ensures image { IsImageOf (files_of result.sources.now) result.mains.now result.image.now }
+    {
+        Program {
+            sources,
+            mains,
+            image: &built.image,
+        }
+    }
+}
+
+/// The section of a main, with its names resolved.
+///
+/// `Memory` comes where it has no section without fault, which a main that was built has, or where an allocation was refused.
+fn resolved(alloc: Global, sources: &[Source<'_>], main: usize) -> Result<Core, Memory>
+    requires { main < length sources.now }
+    ensures { IfOk result (λ core. IsResolved (files_of sources.now) main (section_view core)) }
+{
+    let tokens = match lex(alloc, sources, main) {
+        Ok(tokens) => tokens,
+        Err(_) => return Err(Memory),
+    };
+    let section = match parse(alloc, tokens.as_slice()) {
+        Ok(section) => section,
+        Err(_) => return Err(Memory),
+    };
+    match resolve(alloc, &section) {
+        Ok(core) => Ok(core),
+        Err(_) => Err(Memory),
+    }
+}
+
+/// The sections of these mains, with their names resolved.
+///
+/// `Memory` comes as with one main.
+fn all_resolved(alloc: Global, sources: &[Source<'_>], mains: &[usize]) -> Result<Vec<Core>, Memory>
+    requires { All (λ main. main < length sources.now) mains.now }
+    ensures { IfOk result (λ cores. AreTranslated (files_of sources.now) mains.now (map section_view cores.items)) }
+{
+    let mut cores = Vec::new(alloc);
+    for main in mains {
+        let core = resolved(alloc, sources, *main)?;
+        cores.push(core)?;
+    }
+    Ok(cores)
+}
+
+/// Runs the program by what its sources mean, in so many turns: what the run comes to.
+///
+/// `Device` comes only where the count of the streams' failures rose. `Memory` comes where an allocation was refused.
+pub fn interpret<S: Streams>(
+    alloc: Global,
+    program: &Program<'_>,
+    streams: &mut S,
+    turns: u64,
+) -> Result<Interpreted, Memory>
+    requires mains { All (λ main. main < length program.now.sources.now) program.now.mains.now }
+    requires built { IsImageOf (files_of program.now.sources.now) program.now.mains.now program.now.image.now }
+
+    // Where the content of the streams is known: the run came to what the sections mean, with the same output, or a device failed.
+    ensures means { IfOk result (λ i. MeansOn S.known S.content program.now turns streams.old streams.new i.outcome) }
+
+    // The image's run comes to the same ending with the same output, or is as far; nothing is said of a wild run.
+    ensures runs { IfOk result (λ i. RunsOn S.known S.content program.now turns streams.old streams.new i.outcome) }
+    ensures known { IfOk result (λ i. S.known streams.old → S.known streams.new) }
+    ensures failed { IfOk result (λ i. i.outcome ≡ outcomes.Device → Rose (S.failures streams.old) (S.failures streams.new)) }
+    ensures counted { IfOk result (λ i. S.failures streams.old ≤ S.failures streams.new) }
+{
+    bc_scope_laws::laws::sections_keep_their_meaning();
+    let cores = all_resolved(alloc, program.sources, program.mains)?;
+    let interpreted = bc_interpret::interpret(
+        alloc,
+        cores.as_slice(),
+        program.image,
+        streams,
+        turns,
+    )?;
+    Ok(interpreted)
+}

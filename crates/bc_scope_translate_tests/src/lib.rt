@@ -1,5 +1,0 @@
-//! The translation of a section as it runs, with memory and without.
-#![tactic(auto)]
-
-#[cfg(test)]
-mod tests;

@@ -1,0 +1,38 @@
+//! Files of `--get` that no GET reaches.
+
+use bc_word::Memory;
+use bcpl_words::{Library, Sources};
+use std::alloc::Global;
+
+/// Why a GET of this name reaches no file of `--get` with this index; none where it does.
+fn reason(given: &Sources<'_>, at: usize, name: &str) -> Option<&'static str> {
+    let is_basic = name == "LIBHDR" || name == "BLIB";
+    let is_further = name == "EXTHDR" || name == "EXTLIB";
+    let has_further = given.library == Library::Further;
+    if is_basic || is_further && has_further {
+        return Some("it is the library's own always");
+    }
+    let is_earlier = given.gets.iter().take(at).any(|get| get.name == name);
+    if is_earlier {
+        Some("an earlier --get has this name")
+    } else {
+        None
+    }
+}
+
+/// The lines of warnings on the files of `--get` that no GET reaches, since the first source of a name counts. Memory is answered
+/// where a growth was refused.
+pub fn ignored_gets(alloc: Global, given: &Sources<'_>) -> Result<String, Memory> {
+    let mut told = String::new(alloc);
+    for (at, get) in given.gets.iter().enumerate() {
+        let name = get.name;
+        if let Some(reason) = reason(given, at, name) {
+            let path = get.path;
+            writeln!(
+                told,
+                "bcpl: warning: --get {name}={path} is not used: {reason}"
+            )?;
+        }
+    }
+    Ok(told)
+}

@@ -1,0 +1,179 @@
+//! The command `interpret`.
+
+ghost use Rattle.std.specs.Prelude.{◌<◌, length, All};
+
+use crate::commands::{inputs, outputs};
+use crate::compiling::{given_to_compiler, library_sources, mains_of, paths_of, sources_of};
+use crate::devices::{Sink as Output, Source as Input};
+use crate::explaining::{Program, explained};
+use bc_build::{Built, build};
+use bc_interpret_sources::{
+    Cause as Access, Ending, Interpreted, Outcome, Program as Sections, interpret,
+};
+use bc_machine::FileStreams;
+use bc_machine_defs::End;
+use bcpl_faults::{Cause, Failure, Wild};
+use bcpl_messages::{Named, told_lines};
+use bcpl_wild::{Met, wild_message};
+use bcpl_words::InterpretOrder;
+use std::alloc::Global;
+use std::io::{BufReader, BufWriter, Read, Write};
+use std::rt::Files;
+
+/// Where a run's first input comes from and its first output goes to, and whether that is a terminal.
+#[derive(Drop)]
+pub struct Standards<R: Read + Drop, O: Write + Drop> {
+    pub input: R,
+    pub out: O,
+    pub is_terminal: bool,
+}
+
+/// Runs sources by what they mean. `shows` says whether the place of a refusal is told; that of a wild access is told as `tells_wild`
+/// says.
+pub fn interpret_files<F: Files, R: Read + Drop, O: Write + Drop>(
+    rt: &F,
+    alloc: Global,
+    order: &InterpretOrder<'_>,
+    standards: Standards<R, O>,
+    shows: bool,
+) -> Result<(), Failure> {
+    let given = &order.sources;
+    let files = sources_of(rt, alloc, given)?;
+    let library = library_sources(given.library);
+    let sources = given_to_compiler(alloc, library, files.as_slice())?;
+    let paths = paths_of(alloc, library, given)?;
+    let mains = mains_of(alloc, library, given.gets.len(), sources.len())?;
+    let program = Program {
+        named: Named {
+            sources: sources.as_slice(),
+            paths: paths.as_slice(),
+        },
+        mains: mains.as_slice(),
+    };
+    match interpretation_of(rt, alloc, order, standards, &program) {
+        Ok(run) => came_to(alloc, &program, &run),
+        Err(failure) if shows => Err(told_of_refusal(alloc, &program, failure)?),
+        Err(failure) => Err(failure),
+    }
+}
+
+/// A failure with what is told of it, where the program was refused.
+fn told_of_refusal(
+    alloc: Global,
+    program: &Program<'_, '_>,
+    failure: Failure,
+) -> Result<Failure, Failure> {
+    let told = match &failure.cause {
+        Cause::Build(fault) => explained(alloc, program, fault)?,
+        _ => return Ok(failure),
+    };
+    Ok(failure.with(told))
+}
+
+/// A program that was built and run by what its sources mean.
+#[derive(Drop)]
+struct Interpretation {
+    built: Built,
+    /// What its run came to.
+    interpreted: Interpreted,
+    /// Whether its streams were closed without failure.
+    is_closed: bool,
+}
+
+/// Builds a program and runs it by what its sources mean.
+fn interpretation_of<F: Files, R: Read + Drop, O: Write + Drop>(
+    rt: &F,
+    alloc: Global,
+    order: &InterpretOrder<'_>,
+    standards: Standards<R, O>,
+    program: &Program<'_, '_>,
+) -> Result<Interpretation, Failure>
+    requires { All (λ main. main < length program.now.named.sources.now) program.now.mains.now }
+{
+    let sources = program.named.sources;
+    let mains = program.mains;
+    let built = match build(alloc, sources, mains) {
+        Ok(built) => built,
+        Err(fault) => return Err(Failure::new(Cause::Build(fault))),
+    };
+    let mut streams = streams_of(rt, alloc, order, standards)?;
+    let run = Sections {
+        sources,
+        mains,
+        image: &built.image,
+    };
+    let interpreted = interpret(alloc, &run, &mut streams, order.turns)?;
+    let is_closed = streams.close().is_ok();
+    Ok(Interpretation {
+        built,
+        interpreted,
+        is_closed,
+    })
+}
+
+/// The streams of a run.
+type Streams<R, O, F> = FileStreams<BufReader<Input<R, F>>, BufWriter<Output<O, F>>>;
+
+/// The streams of a run, in the order of the words.
+fn streams_of<F: Files, R: Read + Drop, O: Write + Drop>(
+    rt: &F,
+    alloc: Global,
+    order: &InterpretOrder<'_>,
+    standards: Standards<R, O>,
+) -> Result<Streams<R, O, F::File>, Failure> {
+    let Standards {
+        input,
+        out,
+        is_terminal,
+    } = standards;
+    let inputs = inputs(rt, alloc, Input::Standard(input), order.inputs.as_slice())?;
+    let outputs = outputs(rt, alloc, out, is_terminal, order.outputs.as_slice())?;
+    Ok(FileStreams::new(alloc, inputs, outputs)?)
+}
+
+/// What a run came to.
+fn came_to(alloc: Global, program: &Program<'_, '_>, run: &Interpretation) -> Result<(), Failure> {
+    let cause = match run.interpreted.outcome {
+        Outcome::Ended(Ending::Finished) if run.is_closed => return Ok(()),
+        Outcome::Ended(Ending::Finished) | Outcome::Device => Cause::Ended(End::Device),
+        Outcome::Ended(Ending::ZeroDivide) => Cause::Ended(End::ZeroDivide),
+        Outcome::Going => Cause::TurnsSpent,
+        Outcome::Wild(access) => {
+            let told = wild_lines(alloc, program, run, access)?;
+            return Err(Failure::new(Cause::Wild(wild_of(access))).with(told));
+        }
+    };
+    Err(Failure::new(cause))
+}
+
+/// The wild access as it is told.
+fn wild_of(access: Access) -> Wild {
+    match access {
+        Access::Unset(address) => Wild::Unset(address),
+        Access::Dead(address) => Wild::Dead(address),
+        Access::NoCell(address) => Wild::NoCell(address),
+        Access::NotRoutine(value) => Wild::NotRoutine(value),
+        Access::FrameTooLarge(_) | Access::Malformed => Wild::FrameTooLarge,
+    }
+}
+
+/// The lines on a wild access: where it stands, whose cell it met, and the calls that led there.
+fn wild_lines(
+    alloc: Global,
+    program: &Program<'_, '_>,
+    run: &Interpretation,
+    access: Access,
+) -> Result<String, Failure> {
+    let of = bcpl_wild::Program {
+        sources: program.named.sources,
+        mains: program.mains,
+        image: &run.built.image,
+    };
+    let met = Met {
+        cause: access,
+        standings: run.interpreted.trail.standings.as_slice(),
+        calls: run.interpreted.trail.calls,
+    };
+    let message = wild_message(alloc, &of, &met)?;
+    Ok(told_lines(alloc, program.named, &message)?)
+}

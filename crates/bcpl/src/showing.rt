@@ -1,0 +1,276 @@
+//! The command `show`.
+
+ghost use Rattle.std.specs.Prelude.{◌≤◌, length, IfOk};
+ghost use Rattle.bc_lex_tokens.specs.Token.{lexemes_of};
+
+use crate::compiling::{given_to_compiler, library_sources, paths_of, sources_of};
+use crate::explaining::{Program, explained};
+use bc_build::{BuildError, Built, build};
+use bc_lex::{Source, Token, lex};
+use bc_parse::{ParseError, Section, parse, spell};
+use bc_rules_defs::Entry;
+use bc_run::primitives;
+use bc_scope::{Core, resolve};
+use bcpl_faults::{Cause, Failure};
+use bcpl_messages::Named;
+use bcpl_scopes::{Scopes, Setter, scope_listing};
+use bcpl_show::{Files, code_listing, token_listing, tree_listing};
+use bcpl_words::{Library, Listing, ShowOrder, Sources};
+use std::alloc::Global;
+use std::io::Write;
+use std::rt::Files as Access;
+
+/// The index of BLIB among the sources.
+const BLIB_SOURCE: usize = 1;
+
+/// What is listed of which source.
+#[derive(Clone, Copy)]
+struct Shown<'a, 's> {
+    files: Files<'a, 's>,
+    /// The index of the source.
+    main: usize,
+    /// Whether the place of a refusal is told.
+    shows: bool,
+}
+
+impl<'a, 's> Shown<'a, 's> {
+    /// The failure of a source that is refused.
+    fn refused(&self, alloc: Global, mains: &[usize], fault: BuildError) -> Failure {
+        let program = Program {
+            named: Named {
+                sources: self.files.sources,
+                paths: self.files.paths,
+            },
+            mains,
+        };
+        let told = if self.shows {
+            explained(alloc, &program, &fault)
+        } else {
+            Ok(String::new(alloc))
+        };
+        match told {
+            Ok(told) => Failure::new(Cause::Build(fault)).with(told),
+            Err(_) => Failure::new(Cause::Memory),
+        }
+    }
+
+    /// The tokens of the source, at most 60,000.
+    fn tokens(&self, alloc: Global) -> Result<Vec<Token<'s>>, Failure>
+        ensures { IfOk result (λ tokens. length (lexemes_of tokens.items) ≤ 60000) }
+    {
+        if self.main >= self.files.sources.len() {
+            return Ok(Vec::new(alloc));
+        }
+        match lex(alloc, self.files.sources, self.main) {
+            Ok(tokens) => Ok(tokens),
+            Err(fault) => Err(self.refused(alloc, &[self.main], BuildError::Lex(self.main, fault))),
+        }
+    }
+
+    /// The failure of a source that is no section.
+    fn no_section(&self, alloc: Global, fault: ParseError) -> Failure {
+        self.refused(alloc, &[self.main], BuildError::Parse(self.main, fault))
+    }
+
+    fn token_listing(&self, alloc: Global) -> Result<Vec<u8>, Failure> {
+        let tokens = self.tokens(alloc)?;
+        Ok(token_listing(alloc, self.files, self.main, tokens.as_slice())?)
+    }
+
+    fn tree_listing(&self, alloc: Global) -> Result<Vec<u8>, Failure> {
+        let tokens = self.tokens(alloc)?;
+        match parse(alloc, tokens.as_slice()) {
+            Ok(section) => self.tree_of(alloc, tokens.as_slice(), &section),
+            Err(fault) => Err(self.no_section(alloc, fault)),
+        }
+    }
+
+    fn tree_of(
+        &self,
+        alloc: Global,
+        tokens: &[Token<'s>],
+        section: &Section<'s>,
+    ) -> Result<Vec<u8>, Failure> {
+        let kinds = spell(alloc, section)?;
+        Ok(tree_listing(alloc, self.files, self.main, tokens, kinds.as_slice())?)
+    }
+
+    /// The program of BLIB and the source.
+    fn built(&self, alloc: Global) -> Result<Built, Failure> {
+        let mains = [BLIB_SOURCE, self.main];
+        if BLIB_SOURCE >= self.files.sources.len() || self.main >= self.files.sources.len() {
+            return Err(Failure::new(Cause::Memory));
+        }
+        match build(alloc, self.files.sources, &mains) {
+            Ok(built) => Ok(built),
+            Err(fault) => Err(self.refused(alloc, &mains, fault)),
+        }
+    }
+
+    /// The listing of scopes or code of a source that is built.
+    fn built_listing(&self, alloc: Global, listing: Listing) -> Result<Vec<u8>, Failure> {
+        let built = self.built(alloc)?;
+        let tokens = self.tokens(alloc)?;
+        let section = match parse(alloc, tokens.as_slice()) {
+            Ok(section) => section,
+            Err(fault) => return Err(self.no_section(alloc, fault)),
+        };
+        let Ok(core) = resolve(alloc, &section) else {
+            return Err(Failure::new(Cause::Memory));
+        };
+        match listing {
+            Listing::Scopes => self.scopes_of(alloc, &built, tokens.as_slice(), &section, &core),
+            _ => self.code_of(alloc, &built, tokens.as_slice(), &section, &core),
+        }
+    }
+
+    fn scopes_of(
+        &self,
+        alloc: Global,
+        built: &Built,
+        tokens: &[Token<'s>],
+        section: &Section<'s>,
+        core: &Core,
+    ) -> Result<Vec<u8>, Failure> {
+        let primitives = primitives(alloc)?;
+        let library = match built.segments.first() {
+            Some(segment) => segment.items(),
+            None => &[],
+        };
+        let setters = [
+            Setter {
+                name: "the primitives",
+                items: primitives.items(),
+            },
+            Setter {
+                name: "BLIB",
+                items: library,
+            },
+        ];
+        let scopes = Scopes {
+            files: self.files,
+            main: self.main,
+            tokens,
+            section,
+            core,
+            setters: &setters,
+        };
+        Ok(scope_listing(alloc, scopes)?)
+    }
+
+    fn code_of(
+        &self,
+        alloc: Global,
+        built: &Built,
+        tokens: &[Token<'s>],
+        section: &Section<'s>,
+        core: &Core,
+    ) -> Result<Vec<u8>, Failure> {
+        let Some(segment) = built.segments.last() else {
+            return Ok(Vec::new(alloc));
+        };
+        let program = bcpl_show::Program {
+            files: self.files,
+            main: self.main,
+            tokens,
+            section,
+            core,
+            items: segment.items(),
+            entries: entries_behind(built.entries.as_slice()),
+            first: first_of(built),
+        };
+        Ok(code_listing(alloc, program)?)
+    }
+}
+
+/// The entries of the second segment.
+fn entries_behind(entries: &[Entry]) -> &[Entry] {
+    let first = match entries.iter().position(|entry| entry.segment > 0) {
+        Some(first) => first,
+        None => entries.len(),
+    };
+    entries.get(first..).unwrap_or(&[])
+}
+
+/// The address at which the segment with this index begins, counted from the primitives' on.
+fn start_of(built: &Built, index: usize) -> u64 {
+    match built.image.places.as_slice().get(index) {
+        Some(place) => u64::from(place.start.get()),
+        None => 0,
+    }
+}
+
+/// How many words stand in front of the source's segment: the first cells, the primitives, and BLIB's segment.
+fn first_of(built: &Built) -> [u64; 3] {
+    let primitives = start_of(built, 0);
+    let library = start_of(built, 1);
+    let own = start_of(built, 2);
+    [
+        primitives,
+        library.saturating_sub(primitives),
+        own.saturating_sub(library),
+    ]
+}
+
+/// The sources of the program that is listed.
+fn given<'a>(alloc: Global, order: &ShowOrder<'a>) -> Result<Sources<'a>, Failure> {
+    let mut files = Vec::new(alloc);
+    files.push(order.file)?;
+    Ok(Sources {
+        library: Library::Basic,
+        gets: Vec::from_slice(alloc, order.gets.as_slice())?,
+        files,
+    })
+}
+
+/// The listing of the last of these sources, which stand under these paths.
+fn listed(
+    alloc: Global,
+    sources: &[Source<'_>],
+    paths: &[&str],
+    listing: Listing,
+    shows: bool,
+) -> Result<Vec<u8>, Failure> {
+    let shown = Shown {
+        files: Files { sources, paths },
+        main: sources.len().saturating_sub(1),
+        shows,
+    };
+    match listing {
+        Listing::Tokens => shown.token_listing(alloc),
+        Listing::Tree => shown.tree_listing(alloc),
+        Listing::Scopes | Listing::Code => shown.built_listing(alloc, listing),
+    }
+}
+
+/// The listing of the last of the sources that the words name.
+fn listing_of<F: Access>(
+    rt: &F,
+    alloc: Global,
+    given: &Sources<'_>,
+    listing: Listing,
+    shows: bool,
+) -> Result<Vec<u8>, Failure> {
+    let library = library_sources(given.library);
+    let loaded = sources_of(rt, alloc, given)?;
+    let sources = given_to_compiler(alloc, library, loaded.as_slice())?;
+    let paths = paths_of(alloc, library, given)?;
+    listed(alloc, sources.as_slice(), paths.as_slice(), listing, shows)
+}
+
+/// Does what `show` asks for. `shows` says whether the place of a refusal is told.
+pub fn show<F: Access, O: Write + Drop>(
+    rt: &F,
+    alloc: Global,
+    order: &ShowOrder<'_>,
+    shows: bool,
+    out: &mut O,
+) -> Result<(), Failure> {
+    let given = given(alloc, order)?;
+    let text = listing_of(rt, alloc, &given, order.listing, shows)?;
+    if out.write_all(text.as_slice()).is_ok() && out.flush().is_ok() {
+        Ok(())
+    } else {
+        Err(Failure::file(alloc, "SYSPRINT"))
+    }
+}

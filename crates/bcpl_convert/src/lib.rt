@@ -1,0 +1,8 @@
+//! The command `convert`: an old source is read, converted and written, and what is to be done by hand is told.
+#![tactic(auto)]
+
+mod command;
+mod told;
+
+pub use command::convert_file;
+pub use told::told_of;

@@ -1,0 +1,29 @@
+//! What is told of refusals that are about texts of INTCODE, certificates and runs: the place, the line with a mark below it, and what
+//! should stand there.
+#![tactic(auto)]
+
+mod against;
+mod certificate;
+mod checked;
+mod derived;
+mod ended;
+mod fields;
+mod instruction;
+mod least;
+mod linked;
+mod names;
+mod placed;
+mod sizes;
+mod streams;
+mod text_items;
+mod texts;
+
+pub use against::against_lines;
+pub use checked::check_lines;
+pub use ended::{Stop, ended_lines};
+pub use linked::link_lines;
+pub use names::library_name;
+pub use placed::Text;
+pub use sizes::{SegmentSize, segment_words, too_large};
+pub use streams::stream_lines;
+pub use texts::text_lines;

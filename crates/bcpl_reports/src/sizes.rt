@@ -1,0 +1,113 @@
+use bc_text_items::{Base, Item};
+use bc_word::Memory;
+use std::alloc::Global;
+
+/// The address of the first segment.
+pub const FIRST_ADDRESS: usize = 520;
+
+/// The greatest address at which the stack may begin.
+const GREATEST_BASE: usize = 65_472;
+
+/// The most segments that are told where a program is too large.
+const MOST: usize = 10;
+
+/// How many words an item takes where it stands alone.
+fn words_alone(item: &Item) -> usize {
+    match item {
+        Item::Label(_) | Item::Global { .. } => 0,
+        Item::Data(_) | Item::DataLabel(_) | Item::Byte(_) => 1,
+        Item::Operation { base, number, .. } => match base {
+            Base::Label => 2,
+            _ if number.get() <= 511 => 1,
+            _ => 2,
+        },
+    }
+}
+
+/// The address of each item, where they stand from `start` on: that of its first word, or of the next word where it takes none; and
+/// the address behind them. Memory is answered where a growth was refused.
+pub fn addresses(
+    alloc: Global,
+    start: usize,
+    items: &[Item],
+) -> Result<(Vec<usize>, usize), Memory> {
+    let mut found = Vec::new(alloc);
+    let mut next = start;
+    let mut is_half = false;
+    for item in items {
+        match item {
+            Item::Byte(_) if is_half => {
+                found.push(next.saturating_sub(1))?;
+                is_half = false;
+            }
+            _ => {
+                found.push(next)?;
+                next = next.saturating_add(words_alone(item));
+                is_half = matches!(item, Item::Byte(_));
+            }
+        }
+    }
+    Ok((found, next))
+}
+
+/// How many words a segment of these items takes. Memory is answered where a growth was refused.
+pub fn segment_words(alloc: Global, items: &[Item]) -> Result<usize, Memory> {
+    let (_, words) = addresses(alloc, 0, items)?;
+    Ok(words)
+}
+
+/// A segment's name and its size.
+#[derive(Debug, Drop)]
+pub struct SegmentSize {
+    /// What it is called.
+    pub name: String,
+    /// How many words it takes.
+    pub words: usize,
+}
+
+/// The largest of these that is none of those that were told.
+fn largest(sizes: &[SegmentSize], told: &[usize]) -> Option<usize> {
+    let mut best: Option<(usize, usize)> = None;
+    for (index, size) in sizes.iter().enumerate() {
+        if !told.contains(&index) {
+            let is_larger = match best {
+                Some((_, words)) => size.words > words,
+                None => true,
+            };
+            if is_larger {
+                best = Some((index, size.words));
+            }
+        }
+    }
+    match best {
+        Some((index, _)) => Some(index),
+        None => None,
+    }
+}
+
+/// What is said where these segments take too many words: by how much, and the largest ones, a line each, without the last line's end.
+/// Memory is answered where a growth was refused.
+pub fn too_large(alloc: Global, sizes: &[SegmentSize]) -> Result<String, Memory> {
+    let mut base = FIRST_ADDRESS;
+    for size in sizes {
+        base = base.saturating_add(size.words);
+    }
+    let surplus = base.saturating_sub(GREATEST_BASE);
+    let mut lines = String::new(alloc);
+    write!(
+        lines,
+        "the program is too large by {surplus} words: the stack would begin at {base}, and {GREATEST_BASE} is the most"
+    )?;
+    let mut told = Vec::new(alloc);
+    for _ in 0..MOST {
+        if let Some(index) = largest(sizes, told.as_slice()) {
+            if let Some(size) = sizes.get(index) {
+                let name = size.name.as_str();
+                let words = size.words;
+                write!(lines, "\n  {name}: {words} words")?;
+            }
+            told.push(index)?;
+        }
+    }
+    Ok(lines)
+}

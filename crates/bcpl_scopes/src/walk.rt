@@ -1,0 +1,459 @@
+//! A walk over a section's trees in text order, which declares names as the compiler does and keeps what they mean.
+
+use bc_core::Core;
+use bc_parse_tree::{
+    Block, Command, Constant, Declaration, Definition, Exp, Item, Label, Section, Storage,
+};
+use bc_scope_names::{
+    Meant, Numbers, Prior, Scope, behind_entry, declare_entry, declare_let, declare_parameters,
+    declare_pending, priors_of_let,
+};
+use bc_word::Memory;
+use std::alloc::Global;
+
+/// The frame of what stands outside of all routines.
+const OUTSIDE: usize = usize::MAX;
+
+/// What cells of a frame are.
+#[derive(Clone, Copy, Debug, PartialEq, Eq)]
+pub enum Cells {
+    Parameter,
+    Variable,
+    /// The cells of a vector up to this number, behind the variable's own.
+    Vector(u16),
+    /// The variable of a FOR, and its limit.
+    Counter,
+}
+
+/// A name of a frame.
+#[derive(Clone, Copy, Debug, PartialEq, Eq)]
+pub struct Row<'s> {
+    /// The frame by its index.
+    pub frame: usize,
+    pub name: &'s [u8],
+    pub offset: u64,
+    pub count: u64,
+    pub cells: Cells,
+    /// The leaf at which it is declared.
+    pub leaf: usize,
+}
+
+/// A routine.
+#[derive(Clone, Copy, Debug, PartialEq, Eq)]
+pub struct Frame<'s> {
+    pub name: &'s [u8],
+    /// Its label.
+    pub label: u64,
+    /// The global that it sets.
+    pub global: Option<u16>,
+    pub leaf: usize,
+}
+
+/// A static, a table or a string.
+#[derive(Clone, Copy, Debug, PartialEq, Eq)]
+pub struct Datum {
+    pub label: u64,
+    pub leaf: usize,
+}
+
+/// A global that is declared.
+#[derive(Clone, Copy, Debug, PartialEq, Eq)]
+pub struct Known<'s> {
+    pub name: &'s [u8],
+    pub number: u16,
+    pub leaf: usize,
+}
+
+/// What was met so far.
+#[derive(Drop)]
+pub struct Walk<'p, 's> {
+    core: &'p Core,
+    scope: Scope<'s>,
+    at: Numbers,
+    leaves: usize,
+    pub frames: Vec<Frame<'s>>,
+    pub rows: Vec<Row<'s>>,
+    pub data: Vec<Datum>,
+    pub globals: Vec<Known<'s>>,
+    /// The globals that are named or set.
+    pub used: Vec<u16>,
+}
+
+impl<'p, 's> Walk<'p, 's> {
+    /// Nothing was met yet of a section whose translation this is.
+    pub fn new(alloc: Global, core: &'p Core) -> Walk<'p, 's> {
+        Walk {
+            core,
+            scope: Scope::new(alloc),
+            at: Numbers::start(),
+            leaves: 0,
+            frames: Vec::new(alloc),
+            rows: Vec::new(alloc),
+            data: Vec::new(alloc),
+            globals: Vec::new(alloc),
+            used: Vec::new(alloc),
+        }
+    }
+
+    /// What is met in the section. Memory is answered where a growth was refused.
+    pub fn section(&mut self, section: &Section<'s>) -> Result<(), Memory> {
+        let _level = self.declarations(OUTSIDE, &section.declarations, 0)?;
+        Ok(())
+    }
+
+    fn leaf(&mut self) {
+        self.leaves = self.leaves.saturating_add(1);
+    }
+
+    /// The level of the VALOF with this number.
+    fn level_of(&self, number: u64) -> u64 {
+        match self.core.valofs().get(number as usize) {
+            Some(valof) => u64::from(valof.level),
+            None => 0,
+        }
+    }
+
+    /// A name that stands for its value.
+    fn name(&mut self, name: &'s [u8]) -> Result<(), Memory> {
+        self.leaf();
+        match self.scope.meant_by(name) {
+            Meant::Global(number) => Ok(self.used.push(number)?),
+            _ => Ok(()),
+        }
+    }
+
+    /// A table or a string at the next leaf.
+    fn datum(&mut self) -> Result<(), Memory> {
+        self.data.push(Datum {
+            label: self.at.place,
+            leaf: self.leaves,
+        })?;
+        self.leaf();
+        self.at = self.at.behind_place()?;
+        Ok(())
+    }
+
+    /// A variable of a frame at the next leaf.
+    fn variable(
+        &mut self,
+        frame: usize,
+        name: &'s [u8],
+        count: u64,
+        cells: Cells,
+    ) -> Result<(), Memory> {
+        if let Meant::Variable(offset) = self.scope.meant_by(name) {
+            self.rows.push(Row {
+                frame,
+                name,
+                offset,
+                count,
+                cells,
+                leaf: self.leaves,
+            })?;
+        }
+        self.leaf();
+        Ok(())
+    }
+
+    #[cycle(scoping)]
+    fn expression(&mut self, frame: usize, e: &Exp<'s>) -> Result<(), Memory> {
+        match e {
+            Exp::Name(name) => self.name(name),
+            Exp::Number(_) | Exp::Character(_) | Exp::True | Exp::False => {
+                self.leaf();
+                Ok(())
+            }
+            Exp::String(_) => self.datum(),
+            Exp::Table(values) => {
+                self.datum()?;
+                self.expressions(frame, values)
+            }
+            Exp::Valof(body) => {
+                self.leaf();
+                let level = self.level_of(self.at.valof);
+                self.at = self.at.behind_valof()?;
+                self.block(frame, body, level)
+            }
+            Exp::Monadic(_, operand) => self.expression(frame, operand),
+            Exp::Dyadic(_, left, right) => {
+                self.expression(frame, left)?;
+                self.expression(frame, right)
+            }
+            Exp::Condition { test, this, that } => {
+                self.expression(frame, test)?;
+                self.expression(frame, this)?;
+                self.expression(frame, that)
+            }
+            Exp::Call(called, values) => {
+                self.expression(frame, called)?;
+                self.expressions(frame, values)
+            }
+        }
+    }
+
+    #[cycle(scoping)]
+    fn expressions(&mut self, frame: usize, list: &[Exp<'s>]) -> Result<(), Memory> {
+        for e in list {
+            self.expression(frame, e)?;
+        }
+        Ok(())
+    }
+
+    #[cycle(scoping)]
+    fn block(&mut self, frame: usize, tree: &Block<'s>, level: u64) -> Result<(), Memory> {
+        let outside = self.scope.mark();
+        let level = self.declarations(frame, &tree.declarations, level)?;
+        self.items(frame, &tree.items, level)?;
+        self.scope.leave(outside);
+        Ok(())
+    }
+
+    /// Declarations from this next free offset on; given is the one behind them.
+    #[cycle(scoping)]
+    fn declarations(
+        &mut self,
+        frame: usize,
+        list: &[Declaration<'s>],
+        level: u64,
+    ) -> Result<u64, Memory> {
+        let mut level = level;
+        for tree in list {
+            match tree {
+                Declaration::Constants(storage, constants) => self.constants(*storage, constants)?,
+                Declaration::Let(definitions) => {
+                    level = self.definitions(frame, definitions, level)?;
+                }
+            }
+        }
+        Ok(level)
+    }
+
+    #[cycle(scoping)]
+    fn constants(&mut self, storage: Storage, list: &[Constant<'s>]) -> Result<(), Memory> {
+        declare_pending(&mut self.scope, list)?;
+        for tree in list {
+            declare_entry(&mut self.scope, storage, self.at, tree)?;
+            self.constant(storage, tree.name)?;
+            self.at = behind_entry(storage, self.at)?;
+            self.expression(OUTSIDE, &tree.value)?;
+        }
+        Ok(())
+    }
+
+    /// The name of a constant, a static or a global at the next leaf.
+    fn constant(&mut self, storage: Storage, name: &'s [u8]) -> Result<(), Memory> {
+        if let Meant::Global(number) = self.scope.meant_by(name) {
+            self.globals.push(Known {
+                name,
+                number,
+                leaf: self.leaves,
+            })?;
+        }
+        if let Storage::Static = storage {
+            self.data.push(Datum {
+                label: self.at.place,
+                leaf: self.leaves,
+            })?;
+        }
+        self.leaf();
+        Ok(())
+    }
+
+    /// The definitions of a LET at this next free offset; given is the one behind them.
+    #[cycle(scoping)]
+    fn definitions(
+        &mut self,
+        frame: usize,
+        list: &[Definition<'s>],
+        level: u64,
+    ) -> Result<u64, Memory> {
+        let priors = priors_of_let(&mut self.scope, list)?;
+        let behind = declare_let(&mut self.scope, &priors, self.at, level, list)?;
+        let mut i: u64 = 0;
+        for tree in list {
+            self.definition(frame, tree, priors.at(i))?;
+            i = i.saturating_add(1);
+        }
+        Ok(behind)
+    }
+
+    #[cycle(scoping)]
+    fn definition(
+        &mut self,
+        frame: usize,
+        tree: &Definition<'s>,
+        prior: Prior,
+    ) -> Result<(), Memory> {
+        match tree {
+            Definition::Variables(names, values) => {
+                for name in names {
+                    self.variable(frame, name, 1, Cells::Variable)?;
+                }
+                self.expressions(frame, values)
+            }
+            Definition::Vector(name, greatest) => {
+                let count = u64::from(prior.greatest).saturating_add(2);
+                self.variable(frame, name, count, Cells::Vector(prior.greatest))?;
+                self.leaf();
+                self.expression(frame, greatest)
+            }
+            Definition::Function(name, parameters, value) => {
+                let outside = self.scope.mark();
+                let inside = self.routine(name, parameters, prior.global)?;
+                self.expression(inside, value)?;
+                self.scope.leave(outside);
+                Ok(())
+            }
+            Definition::Routine(name, parameters, body) => {
+                let outside = self.scope.mark();
+                let inside = self.routine(name, parameters, prior.global)?;
+                let level = (parameters.len() as u64).saturating_add(2);
+                self.block(inside, body, level)?;
+                self.scope.leave(outside);
+                Ok(())
+            }
+        }
+    }
+
+    /// The name and the parameters of a routine; given is its frame.
+    fn routine(
+        &mut self,
+        name: &'s [u8],
+        parameters: &[&'s [u8]],
+        global: Option<u16>,
+    ) -> Result<usize, Memory> {
+        let frame = self.frames.len();
+        self.frames.push(Frame {
+            name,
+            label: self.at.place,
+            global,
+            leaf: self.leaves,
+        })?;
+        if let Some(number) = global {
+            self.used.push(number)?;
+        }
+        self.leaf();
+        self.at = self.at.behind_place()?;
+        declare_parameters(&mut self.scope, parameters)?;
+        for name in parameters {
+            self.variable(frame, name, 1, Cells::Parameter)?;
+        }
+        Ok(frame)
+    }
+
+    #[cycle(scoping)]
+    fn items(&mut self, frame: usize, list: &[Item<'s>], level: u64) -> Result<(), Memory> {
+        for item in list {
+            for label in &item.labels {
+                self.label(frame, label)?;
+            }
+            if let Some(command) = &item.command {
+                self.command(frame, command, level)?;
+            }
+        }
+        Ok(())
+    }
+
+    #[cycle(scoping)]
+    fn label(&mut self, frame: usize, label: &Label<'s>) -> Result<(), Memory> {
+        self.leaf();
+        match label {
+            Label::Case(value) => self.expression(frame, value),
+            Label::Default | Label::Name(_) => Ok(()),
+        }
+    }
+
+    /// A command that holds no others.
+    #[cycle(scoping)]
+    fn single(&mut self, frame: usize, command: &Command<'s>) -> Result<(), Memory> {
+        match command {
+            Command::Assign(places, values) => {
+                self.expressions(frame, places)?;
+                self.expressions(frame, values)
+            }
+            Command::Call(called, values) => {
+                self.expression(frame, called)?;
+                self.expressions(frame, values)
+            }
+            Command::ResultIs(value) => {
+                self.leaf();
+                self.expression(frame, value)
+            }
+            Command::Goto(_) => {
+                self.leaf();
+                self.leaf();
+                Ok(())
+            }
+            Command::Break | Command::Loop | Command::EndCase | Command::Return | Command::Finish =>
+                {
+                    self.leaf();
+                    Ok(())
+                }
+            _ => Ok(()),
+        }
+    }
+
+    /// A FOR at this next free offset.
+    #[cycle(scoping)]
+    fn counted(&mut self, frame: usize, command: &Command<'s>, level: u64) -> Result<(), Memory> {
+        let Command::For {
+            variable,
+            start,
+            limit,
+            step,
+            body,
+        } = command
+        else {
+            return self.single(frame, command);
+        };
+        let first = self.leaves;
+        self.leaf();
+        self.expression(frame, start)?;
+        self.expression(frame, limit)?;
+        if let Some(by) = step {
+            self.expression(frame, by)?;
+        }
+        self.rows.push(Row {
+            frame,
+            name: *variable,
+            offset: level,
+            count: 2,
+            cells: Cells::Counter,
+            leaf: first,
+        })?;
+        let outside = self.scope.mark();
+        self.scope.declare(variable, Meant::Variable(level))?;
+        self.block(frame, body, level.saturating_add(2))?;
+        self.scope.leave(outside);
+        Ok(())
+    }
+
+    #[cycle(scoping)]
+    fn command(&mut self, frame: usize, command: &Command<'s>, level: u64) -> Result<(), Memory> {
+        match command {
+            Command::Block(body) => self.block(frame, body, level),
+            Command::Repeat(repeated) => self.command(frame, repeated, level),
+            Command::RepeatWhile(repeated, test) | Command::RepeatUntil(repeated, test) => {
+                self.command(frame, repeated, level)?;
+                self.expression(frame, test)
+            }
+            Command::If(test, body)
+            | Command::Unless(test, body)
+            | Command::While(test, body)
+            | Command::Until(test, body) => {
+                self.expression(frame, test)?;
+                self.block(frame, body, level)
+            }
+            Command::Test { test, this, that } => {
+                self.expression(frame, test)?;
+                self.block(frame, this, level)?;
+                self.block(frame, that, level)
+            }
+            Command::SwitchOn(of, list) => {
+                self.expression(frame, of)?;
+                self.items(frame, list, level)
+            }
+            _ => self.counted(frame, command, level),
+        }
+    }
+}

@@ -1,0 +1,439 @@
+use crate::leaves::leaves_of;
+use crate::lines::{Files, Lines};
+use crate::marks::{Marks, Owner};
+use crate::outline::Outline;
+use crate::page::{Page, WIDTH};
+use crate::sizes::{words_of_items, words_of_pieces};
+use bc_core::{Core, Place};
+use bc_lex_tokens::Token;
+use bc_parse_tree::Section;
+use bc_rules::code_of;
+use bc_rules_defs::Entry;
+use bc_show::{ShownDerivation, ShownItem};
+use bc_text_items::Item;
+use bc_word::Memory;
+use std::alloc::Global;
+
+/// The column of items, and that of what is said of them.
+const ITEMS: usize = 8;
+
+const SAID: usize = 44;
+
+/// How many columns of a line of the file are shown, and of other text.
+const LINE: usize = 88;
+
+const SHOWN: usize = 50;
+
+/// A file's section with its code, as the compiler made them.
+#[derive(Clone, Copy)]
+pub struct Program<'p, 's> {
+    pub files: Files<'p, 's>,
+    /// The index of the file among the sources.
+    pub main: usize,
+    pub tokens: &'p [Token<'s>],
+    pub section: &'p Section<'s>,
+    pub core: &'p Core,
+    /// The items of its segment, and its entries.
+    pub items: &'p [Item],
+    pub entries: &'p [Entry],
+    /// How many words stand in front of its segment: the first cells, the primitives, and BLIB's segment.
+    pub first: [u64; 3],
+}
+
+/// How many words the parts of a segment have.
+#[derive(Clone, Copy)]
+struct Sizes {
+    roots: u64,
+    commands: u64,
+    data: u64,
+}
+
+/// A listing of code that is being written.
+#[derive(Drop)]
+struct Listing<'p, 's> {
+    page: Page,
+    program: Program<'p, 's>,
+    text: &'s [u8],
+    lines: Lines,
+    leaves: Vec<Token<'s>>,
+    marks: Marks,
+    places: Vec<usize>,
+    /// For each root whether some of its items were told.
+    begun: Vec<bool>,
+    /// How many lines of the file are told.
+    told: usize,
+    /// The line that was told last, if it was one of the file.
+    last: Option<usize>,
+    sizes: Sizes,
+}
+
+impl<'p, 's> Listing<'p, 's> {
+    /// Tells a line of the file.
+    fn tell(&mut self, number: usize) -> Result<(), Memory> {
+        let line = self.lines.line(self.text, number);
+        self.page.add(b"/ ")?;
+        self.page.add_number(number as u64, 4)?;
+        self.page.add(b" |")?;
+        if !line.is_empty() {
+            self.page.add(b" ")?;
+            self.page.add_front(line, LINE)?;
+        }
+        self.page.end_line()?;
+        self.last = Some(number);
+        Ok(())
+    }
+
+    /// Tells that a line of another file is meant.
+    fn tell_elsewhere(&mut self, file: usize, at: usize) -> Result<(), Memory> {
+        let text = self.program.files.text(file);
+        let lines = Lines::new(self.page.alloc(), text)?;
+        let number = lines.number_at(at);
+        self.page.add(b"/ ")?;
+        self.page.add_text(self.program.files.path(file))?;
+        self.page.add(b":")?;
+        self.page.add_number(number as u64, 0)?;
+        self.page.add(b" | ")?;
+        self.page.add_front(lines.line(text, number), SHOWN)?;
+        self.page.end_line()?;
+        self.last = None;
+        Ok(())
+    }
+
+    /// Tells the lines up to this one that were not told, or this one again.
+    fn tell_up_to(&mut self, number: usize) -> Result<(), Memory> {
+        if number > self.told {
+            for line in self.told..number {
+                self.tell(line.saturating_add(1))?;
+            }
+            self.told = number;
+            return Ok(());
+        }
+        match self.last {
+            Some(last) if last == number => Ok(()),
+            _ => self.tell(number),
+        }
+    }
+
+    /// Tells where a leaf stands.
+    fn tell_leaf(&mut self, leaf: usize) -> Result<(), Memory> {
+        match self.leaves.get(leaf).copied() {
+            Some(token) if token.file == self.program.main => {
+                let number = self.lines.number_at(token.start);
+                self.tell_up_to(number)
+            }
+            Some(token) => self.tell_elsewhere(token.file, token.start),
+            None => Ok(()),
+        }
+    }
+
+    /// The text of an item.
+    fn text_of(&self, item: &Item) -> Result<String, Memory> {
+        let item = ShownItem(item);
+        Ok(format!(in self.page.alloc(); "{item}")?)
+    }
+
+    /// Whether an item that takes so many columns begins a further line, as labels do, and what would pass the limit.
+    fn is_further(&self, item: &Item, columns: usize, limit: usize) -> bool {
+        let column = self.page.column();
+        let behind = column.saturating_add(columns).saturating_add(1);
+        column > 0 && (matches!(item, Item::Label(_)) || behind > limit)
+    }
+
+    /// Adds an item to its line.
+    fn put_item(&mut self, item: &Item, text: &str) -> Result<(), Memory> {
+        if !matches!(item, Item::Label(_)) {
+            if self.page.column() < ITEMS {
+                self.page.fill_to(ITEMS)?;
+            } else {
+                self.page.add(b" ")?;
+            }
+        }
+        self.page.add_text(text)
+    }
+
+    /// Adds an item, where need be on a further line.
+    fn add_item(&mut self, item: &Item) -> Result<(), Memory> {
+        let text = self.text_of(item)?;
+        if self.is_further(item, text.len(), WIDTH) {
+            self.page.end_line()?;
+        }
+        self.put_item(item, text.as_str())
+    }
+
+    /// Ends a line, with what is said in it.
+    fn end_line(&mut self, said: &str) -> Result<(), Memory> {
+        if !said.is_empty() {
+            self.page.fill_to(SAID)?;
+            self.page.add(b"/ ")?;
+            self.page.add_text(said)?;
+        }
+        self.page.end_line()
+    }
+
+    /// Adds items in lines, and what is said of them: behind the first line, or in front where that is long.
+    fn add_items(&mut self, items: &[Item], said: &str) -> Result<(), Memory> {
+        let is_behind = SAID.saturating_add(said.len()).saturating_add(2) <= WIDTH;
+        if !is_behind {
+            self.page.fill_to(ITEMS)?;
+            self.page.add(b"/ ")?;
+            self.page.add_words(said, "        /   ")?;
+            self.page.end_line()?;
+        }
+        let limit = if is_behind { SAID - 1 } else { WIDTH };
+        let mut left = if is_behind { said } else { "" };
+        for item in items {
+            let text = self.text_of(item)?;
+            if self.is_further(item, text.len(), limit) {
+                self.end_line(left)?;
+                left = "";
+            }
+            self.put_item(item, text.as_str())?;
+        }
+        self.end_line(left)
+    }
+
+    /// The items of an owner from this one on: the index behind the last that stands beside it.
+    fn end_of_run(&self, from: usize) -> usize {
+        let behind = from.saturating_add(1);
+        let Some(owner) = self.marks.owners.get(from).copied() else {
+            return behind;
+        };
+        for end in behind..self.marks.owners.len() {
+            match self.marks.owners.get(end).copied() {
+                Some(other) if other == owner => {}
+                _ => return end,
+            }
+        }
+        self.marks.owners.len().max(behind)
+    }
+
+    /// Whether items of this root were told before; from now on they were.
+    fn is_begun(&mut self, index: usize) -> bool {
+        match self.begun.get_mut(index) {
+            Some(is_begun) => {
+                let was_begun = *is_begun;
+                *is_begun = true;
+                was_begun
+            }
+            None => false,
+        }
+    }
+
+    /// The items of a root, with its words and its rules.
+    fn add_root(&mut self, index: usize, items: &[Item]) -> Result<(), Memory> {
+        if let Some(leaf) = self.marks.leaves.get(index).copied() {
+            self.tell_leaf(leaf)?;
+        }
+        let entries = self.program.entries;
+        let Some(entry) = entries.get(index) else {
+            return self.add_items(items, "");
+        };
+        if self.is_begun(index) {
+            return self.add_items(items, "the same, behind a VALOF");
+        }
+        let alloc = self.page.alloc();
+        let pieces = code_of(
+            alloc,
+            &entry.root,
+            &entry.derivation,
+            entry.target,
+            entry.first,
+        )?;
+        let words = words_of_pieces(pieces.as_slice());
+        self.sizes.roots = self.sizes.roots.saturating_add(words);
+        let rules = ShownDerivation(&entry.derivation);
+        let unit = unit(words);
+        let said = format!(in alloc; "{words} {unit} by {rules}")?;
+        self.add_items(items, said.as_str())
+    }
+
+    /// Items of a command's own.
+    fn add_own(&mut self, index: usize, items: &[Item]) -> Result<(), Memory> {
+        let Some(own) = self.marks.own.get(index).copied() else {
+            return self.add_items(items, "");
+        };
+        self.tell_leaf(own.leaf)?;
+        let alloc = self.page.alloc();
+        let words = words_of_items(alloc, items)?;
+        self.sizes.commands = self.sizes.commands.saturating_add(words);
+        let what = own.what.words();
+        if words == 0 {
+            return self.add_items(items, what);
+        }
+        let unit = unit(words);
+        let said = format!(in alloc; "{words} {unit}: {what}")?;
+        self.add_items(items, said.as_str())
+    }
+
+    /// The token at the leaf of this place, if there is one.
+    fn token_of_place(&self, label: u16) -> Option<Token<'s>> {
+        let index = usize::from(label).checked_sub(1)?;
+        let leaf = self.places.get(index)?;
+        self.leaves.get(*leaf).copied()
+    }
+
+    /// Tells what a place is whose data follow.
+    fn tell_place(&mut self, label: u16) -> Result<(), Memory> {
+        let Some(token) = self.token_of_place(label) else {
+            return Ok(());
+        };
+        let index = usize::from(label).saturating_sub(1);
+        let what = match self.program.core.places().get(index) {
+            Some(Place::Static(_)) => "static ",
+            Some(Place::Table(_)) => "",
+            Some(Place::Text(_)) => "string ",
+            Some(Place::Routine(_)) | None => return Ok(()),
+        };
+        self.page.add(b"/ ")?;
+        self.page.add_text(what)?;
+        self.page.add_front(token.text, SHOWN)?;
+        if token.file == self.program.main {
+            let number = self.lines.number_at(token.start);
+            self.page.add(b" of line ")?;
+            self.page.add_number(number as u64, 0)?;
+        }
+        self.page.end_line()
+    }
+
+    /// A global that is set.
+    fn add_setting(&mut self, item: &Item, label: u16) -> Result<(), Memory> {
+        self.add_item(item)?;
+        self.page.fill_to(SAID)?;
+        self.page.add(b"/ ")?;
+        if let Some(token) = self.token_of_place(label) {
+            self.page.add_front(token.text, SHOWN)?;
+        }
+        self.page.end_line()
+    }
+
+    /// What is the section's: its data, and the globals that it sets.
+    fn add_data(&mut self, items: &[Item]) -> Result<(), Memory> {
+        let words = words_of_items(self.page.alloc(), items)?;
+        self.sizes.data = self.sizes.data.saturating_add(words);
+        for item in items {
+            match item {
+                Item::Label(label) => {
+                    if self.page.column() > 0 {
+                        self.page.end_line()?;
+                    }
+                    self.tell_place(label.get())?;
+                    self.add_item(item)?;
+                }
+                Item::Global { label, .. } => {
+                    if self.page.column() > 0 {
+                        self.page.end_line()?;
+                    }
+                    self.add_setting(item, label.get())?;
+                }
+                _ => self.add_item(item)?,
+            }
+        }
+        if self.page.column() > 0 {
+            self.page.end_line()?;
+        }
+        Ok(())
+    }
+
+    /// The items from this one on that have one owner; gives the index behind them.
+    fn add_run(&mut self, from: usize) -> Result<usize, Memory> {
+        let end = self.end_of_run(from);
+        let all = self.program.items;
+        let Some(items) = all.get(from..end) else {
+            return Ok(end);
+        };
+        match self.marks.owners.get(from).copied() {
+            Some(Owner::Root(index)) => self.add_root(index, items)?,
+            Some(Owner::Command(index)) => self.add_own(index, items)?,
+            Some(Owner::Section) => {
+                let count = self.lines.count(self.text);
+                for line in self.told..count {
+                    self.tell(line.saturating_add(1))?;
+                }
+                self.told = count;
+                self.add_data(items)?;
+            }
+            None => {}
+        }
+        Ok(end)
+    }
+
+    /// A line of sizes.
+    fn add_size(&mut self, words: u64, what: &str) -> Result<(), Memory> {
+        self.page.add(b"/ ")?;
+        self.page.add_number(words, 6)?;
+        self.page.add(b"  ")?;
+        self.page.add_text(what)?;
+        self.page.end_line()
+    }
+
+    /// How many words there are, and at which address the stack begins.
+    fn add_sizes(&mut self) -> Result<(), Memory> {
+        let Sizes {
+            roots,
+            commands,
+            data,
+        } = self.sizes;
+        let [cells, primitives, library] = self.program.first;
+        self.add_size(roots, "words of roots")?;
+        self.add_size(commands, "words of commands")?;
+        self.add_size(data, "words of data")?;
+        let own = roots.saturating_add(commands).saturating_add(data);
+        self.add_size(own, "words of this segment")?;
+        self.add_size(cells, "cells in front of all segments")?;
+        self.add_size(primitives, "words of the primitives")?;
+        self.add_size(library, "words of BLIB")?;
+        let sum = own
+            .saturating_add(cells)
+            .saturating_add(primitives)
+            .saturating_add(library);
+        self.add_size(sum, "is their sum, the address at which the stack begins")
+    }
+}
+
+/// What so many words are called.
+fn unit(words: u64) -> &'static str {
+    if words == 1 { "word" } else { "words" }
+}
+
+/// The code of a file's section, each source line as a comment in front of its roots and of what is its commands' own, with
+/// labels, data, and the sizes at the end. Without its comments it is the text of the segment. Memory is answered where a
+/// growth was refused.
+pub fn code_listing(alloc: Global, program: Program<'_, '_>) -> Result<Vec<u8>, Memory> {
+    let count = program.items.len();
+    let outline = Outline::new(alloc, program.section)?;
+    let marks = Marks::new(alloc, &outline, count, program.entries)?;
+    let Outline { places, .. } = outline;
+    let text = program.files.text(program.main);
+    let lines = Lines::new(alloc, text)?;
+    let leaves = leaves_of(alloc, program.tokens)?;
+    let begun = vec![in alloc; false; program.entries.len()]?;
+    let mut listing = Listing {
+        page: Page::new(alloc),
+        program,
+        text,
+        lines,
+        leaves,
+        marks,
+        places,
+        begun,
+        told: 0,
+        last: None,
+        sizes: Sizes {
+            roots: 0,
+            commands: 0,
+            data: 0,
+        },
+    };
+    let mut at: usize = 0;
+    for _ in 0..count {
+        if at >= count {
+            break;
+        }
+        at = listing.add_run(at)?;
+    }
+    listing.page.add(b"Z")?;
+    listing.page.end_line()?;
+    listing.add_sizes()?;
+    let Listing { page, .. } = listing;
+    Ok(page.into_text())
+}

@@ -1,0 +1,19 @@
+//! Listings for people of what stands between a source and its code: its tokens, its tree, and its code.
+#![tactic(auto)]
+
+mod code;
+mod leaves;
+mod lines;
+mod marks;
+mod outline;
+mod page;
+mod sizes;
+mod tokens;
+mod tree;
+
+pub use code::{Program, code_listing};
+pub use leaves::leaves_of;
+pub use lines::{Files, Lines};
+pub use page::Page;
+pub use tokens::token_listing;
+pub use tree::tree_listing;

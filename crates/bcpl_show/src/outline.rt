@@ -1,0 +1,467 @@
+//! The steps of a section's code, by a walk over its trees: in which order roots and commands' own items come, and at which
+//! leaf each stands.
+
+use bc_parse_tree::{
+    Block, Command, Constant, Declaration, Definition, Exp, Item, Label, Section, Storage,
+};
+use bc_word::Memory;
+use std::alloc::Global;
+
+/// What is generated at once.
+#[derive(Clone, Copy, Debug, PartialEq, Eq)]
+pub struct Step {
+    /// The leaf at which it stands.
+    pub leaf: usize,
+    pub work: Work,
+}
+
+/// A root, or items of a command's own.
+#[derive(Clone, Copy, Debug, PartialEq, Eq)]
+pub enum Work {
+    Root,
+    /// So many items, and what they are for.
+    Own(usize, Purpose),
+}
+
+/// What items of a command's own are for.
+#[derive(Clone, Copy, Debug, PartialEq, Eq)]
+pub enum Purpose {
+    /// The label of a routine.
+    Routine,
+    /// The return from a routine.
+    End,
+    /// The end of a VALOF's body.
+    Valof,
+    /// Where a turn of a loop begins.
+    Turn,
+    /// Where LOOP goes.
+    Onward,
+    /// The way back of a loop, and where BREAK goes.
+    Back,
+    /// Where BREAK goes.
+    Behind,
+    /// Where control goes on behind a choice.
+    Join,
+    /// The jump past ELSE.
+    Past,
+    /// The values of a switch with their labels.
+    Switch,
+    /// Where ENDCASE goes.
+    Switched,
+    /// The label of a CASE, of DEFAULT, or of the source.
+    Label,
+    Break,
+    Loop,
+    EndCase,
+    Goto,
+    ResultIs,
+    Return,
+    Finish,
+}
+
+impl Purpose {
+    /// What is told of it.
+    pub fn words(self) -> &'static str {
+        match self {
+            Purpose::Routine => "the routine",
+            Purpose::End => "the return at its end",
+            Purpose::Valof => "the end of the VALOF",
+            Purpose::Turn => "each turn begins here",
+            Purpose::Onward => "LOOP goes here",
+            Purpose::Back => "the way back; BREAK goes behind it",
+            Purpose::Behind => "BREAK goes here",
+            Purpose::Join => "it goes on here",
+            Purpose::Past => "the jump past ELSE",
+            Purpose::Switch => "the switch",
+            Purpose::Switched => "ENDCASE goes here",
+            Purpose::Label => "a label",
+            Purpose::Break => "BREAK",
+            Purpose::Loop => "LOOP",
+            Purpose::EndCase => "ENDCASE",
+            Purpose::Goto => "GOTO",
+            Purpose::ResultIs => "RESULTIS",
+            Purpose::Return => "RETURN",
+            Purpose::Finish => "FINISH",
+        }
+    }
+}
+
+/// The steps of a section.
+#[derive(Drop)]
+pub struct Outline {
+    alloc: Global,
+    /// How many leaves were met.
+    leaves: usize,
+    /// The steps of each body: those of routines and of VALOFs.
+    pub bodies: Vec<Vec<Step>>,
+    /// The bodies of the routines in text order.
+    pub routines: Vec<usize>,
+    /// The bodies of the VALOFs by their numbers.
+    pub valofs: Vec<usize>,
+    /// The leaf of each place: the name of a routine or static, the word of a table, a string.
+    pub places: Vec<usize>,
+}
+
+/// How many CASEs a list has.
+fn cases_in(list: &[Item<'_>]) -> usize {
+    let mut count: usize = 0;
+    for item in list {
+        for label in &item.labels {
+            if let Label::Case(_) = label {
+                count = count.saturating_add(1);
+            }
+        }
+    }
+    count
+}
+
+impl Outline {
+    /// The steps of a section. Memory is answered where a growth was refused.
+    pub fn new(alloc: Global, section: &Section<'_>) -> Result<Outline, Memory> {
+        let mut outline = Outline {
+            alloc,
+            leaves: 0,
+            bodies: Vec::new(alloc),
+            routines: Vec::new(alloc),
+            valofs: Vec::new(alloc),
+            places: Vec::new(alloc),
+        };
+        let outside = outline.body()?;
+        outline.declarations(outside, &section.declarations)?;
+        Ok(outline)
+    }
+
+    fn leaf(&mut self) {
+        self.leaves = self.leaves.saturating_add(1);
+    }
+
+    /// A body more, without steps.
+    fn body(&mut self) -> Result<usize, Memory> {
+        let body = self.bodies.len();
+        self.bodies.push(Vec::new(self.alloc))?;
+        Ok(body)
+    }
+
+    fn step(&mut self, body: usize, leaf: usize, work: Work) -> Result<(), Memory> {
+        if let Some(steps) = self.bodies.get_mut(body) {
+            steps.push(Step { leaf, work })?;
+        }
+        Ok(())
+    }
+
+    /// A root at the next leaf.
+    fn root(&mut self, body: usize) -> Result<(), Memory> {
+        self.step(body, self.leaves, Work::Root)
+    }
+
+    /// Items of a command's own at the leaf that was met last.
+    fn own(&mut self, body: usize, count: usize, what: Purpose) -> Result<(), Memory> {
+        self.step(body, self.leaves.saturating_sub(1), Work::Own(count, what))
+    }
+
+    /// A place at the next leaf.
+    fn place(&mut self) -> Result<(), Memory> {
+        Ok(self.places.push(self.leaves)?)
+    }
+
+    #[cycle(walking)]
+    fn expression(&mut self, e: &Exp<'_>) -> Result<(), Memory> {
+        match e {
+            Exp::Name(_) | Exp::Number(_) | Exp::Character(_) | Exp::True | Exp::False => {
+                self.leaf();
+                Ok(())
+            }
+            Exp::String(_) => {
+                self.place()?;
+                self.leaf();
+                Ok(())
+            }
+            Exp::Table(values) => {
+                self.place()?;
+                self.leaf();
+                self.expressions(values)
+            }
+            Exp::Valof(block) => self.valof(block),
+            Exp::Monadic(_, operand) => self.expression(operand),
+            Exp::Dyadic(_, left, right) => {
+                self.expression(left)?;
+                self.expression(right)
+            }
+            Exp::Condition { test, this, that } => {
+                self.expression(test)?;
+                self.expression(this)?;
+                self.expression(that)
+            }
+            Exp::Call(called, values) => {
+                self.expression(called)?;
+                self.expressions(values)
+            }
+        }
+    }
+
+    #[cycle(walking)]
+    fn expressions(&mut self, list: &[Exp<'_>]) -> Result<(), Memory> {
+        for e in list {
+            self.expression(e)?;
+        }
+        Ok(())
+    }
+
+    #[cycle(walking)]
+    fn valof(&mut self, block: &Block<'_>) -> Result<(), Memory> {
+        self.leaf();
+        let body = self.body()?;
+        self.valofs.push(body)?;
+        self.block(body, block)?;
+        self.own(body, 1, Purpose::Valof)
+    }
+
+    /// A root that is this expression.
+    #[cycle(walking)]
+    fn root_of(&mut self, body: usize, e: &Exp<'_>) -> Result<(), Memory> {
+        self.root(body)?;
+        self.expression(e)
+    }
+
+    /// Roots, one for each of these.
+    #[cycle(walking)]
+    fn roots_of(&mut self, body: usize, list: &[Exp<'_>]) -> Result<(), Memory> {
+        for e in list {
+            self.root_of(body, e)?;
+        }
+        Ok(())
+    }
+
+    #[cycle(walking)]
+    fn block(&mut self, body: usize, block: &Block<'_>) -> Result<(), Memory> {
+        self.declarations(body, &block.declarations)?;
+        self.items(body, &block.items)
+    }
+
+    #[cycle(walking)]
+    fn declarations(&mut self, body: usize, list: &[Declaration<'_>]) -> Result<(), Memory> {
+        for declaration in list {
+            match declaration {
+                Declaration::Constants(storage, constants) => self.constants(*storage, constants)?,
+                Declaration::Let(definitions) => self.definitions(body, definitions)?,
+            }
+        }
+        Ok(())
+    }
+
+    #[cycle(walking)]
+    fn constants(&mut self, storage: Storage, list: &[Constant<'_>]) -> Result<(), Memory> {
+        for constant in list {
+            if storage == Storage::Static {
+                self.place()?;
+            }
+            self.leaf();
+            self.expression(&constant.value)?;
+        }
+        Ok(())
+    }
+
+    #[cycle(walking)]
+    fn definitions(&mut self, body: usize, list: &[Definition<'_>]) -> Result<(), Memory> {
+        for definition in list {
+            self.definition(body, definition)?;
+        }
+        Ok(())
+    }
+
+    /// Names, each a leaf.
+    fn names(&mut self, names: &[&[u8]]) {
+        self.leaves = self.leaves.saturating_add(names.len());
+    }
+
+    /// The name and the parameters of a routine, and its body.
+    fn head(&mut self, parameters: &[&[u8]]) -> Result<usize, Memory> {
+        let body = self.body()?;
+        self.routines.push(body)?;
+        self.place()?;
+        self.leaf();
+        self.own(body, 1, Purpose::Routine)?;
+        self.names(parameters);
+        Ok(body)
+    }
+
+    #[cycle(walking)]
+    fn definition(&mut self, body: usize, definition: &Definition<'_>) -> Result<(), Memory> {
+        match definition {
+            Definition::Variables(names, values) => {
+                self.names(names);
+                self.roots_of(body, values)
+            }
+            Definition::Vector(_, last) => {
+                self.root(body)?;
+                self.leaf();
+                self.leaf();
+                self.expression(last)
+            }
+            Definition::Function(_, parameters, value) => {
+                let body = self.head(parameters)?;
+                self.root_of(body, value)?;
+                self.own(body, 1, Purpose::End)
+            }
+            Definition::Routine(_, parameters, block) => {
+                let body = self.head(parameters)?;
+                self.block(body, block)?;
+                self.own(body, 2, Purpose::End)
+            }
+        }
+    }
+
+    #[cycle(walking)]
+    fn items(&mut self, body: usize, list: &[Item<'_>]) -> Result<(), Memory> {
+        for item in list {
+            for label in &item.labels {
+                self.label(body, label)?;
+            }
+            if let Some(command) = &item.command {
+                self.command(body, command)?;
+            }
+        }
+        Ok(())
+    }
+
+    #[cycle(walking)]
+    fn label(&mut self, body: usize, label: &Label<'_>) -> Result<(), Memory> {
+        self.leaf();
+        match label {
+            Label::Case(value) => {
+                self.own(body, 1, Purpose::Label)?;
+                self.expression(value)
+            }
+            Label::Default => self.own(body, 1, Purpose::Label),
+            Label::Name(_) => self.own(body, 1, Purpose::Label),
+        }
+    }
+
+    /// A command of one word.
+    fn word(&mut self, body: usize, count: usize, what: Purpose) -> Result<(), Memory> {
+        self.leaf();
+        self.own(body, count, what)
+    }
+
+    /// Items of a command's own at the next leaf.
+    fn ahead(&mut self, body: usize, count: usize, what: Purpose) -> Result<(), Memory> {
+        self.step(body, self.leaves, Work::Own(count, what))
+    }
+
+    /// The end of the turns of a FOR, whose variable is this leaf.
+    fn turned(&mut self, body: usize, variable: usize) -> Result<(), Memory> {
+        self.step(body, variable, Work::Own(1, Purpose::Onward))?;
+        self.step(body, variable, Work::Root)?;
+        self.step(body, variable, Work::Own(2, Purpose::Back))
+    }
+
+    /// A command that holds no others.
+    #[cycle(walking)]
+    fn single(&mut self, body: usize, command: &Command<'_>) -> Result<(), Memory> {
+        match command {
+            Command::Assign(places, values) => {
+                self.roots_of(body, places)?;
+                self.expressions(values)
+            }
+            Command::Call(called, values) => {
+                self.root_of(body, called)?;
+                self.expressions(values)
+            }
+            Command::ResultIs(value) => {
+                self.leaf();
+                self.root_of(body, value)?;
+                self.own(body, 1, Purpose::ResultIs)
+            }
+            Command::Goto(_) => {
+                self.leaf();
+                self.word(body, 1, Purpose::Goto)
+            }
+            Command::Break => self.word(body, 1, Purpose::Break),
+            Command::Loop => self.word(body, 1, Purpose::Loop),
+            Command::EndCase => self.word(body, 1, Purpose::EndCase),
+            Command::Return => self.word(body, 2, Purpose::Return),
+            Command::Finish => self.word(body, 1, Purpose::Finish),
+            _ => Ok(()),
+        }
+    }
+
+    /// A command that tests before what it holds, or chooses.
+    #[cycle(walking)]
+    fn guarded(&mut self, body: usize, command: &Command<'_>) -> Result<(), Memory> {
+        match command {
+            Command::If(test, block) | Command::Unless(test, block) => {
+                self.root_of(body, test)?;
+                self.block(body, block)?;
+                self.own(body, 1, Purpose::Join)
+            }
+            Command::While(test, block) | Command::Until(test, block) => {
+                self.ahead(body, 1, Purpose::Turn)?;
+                self.root_of(body, test)?;
+                self.block(body, block)?;
+                self.own(body, 2, Purpose::Back)
+            }
+            Command::Test { test, this, that } => {
+                self.root_of(body, test)?;
+                self.block(body, this)?;
+                self.own(body, 2, Purpose::Past)?;
+                self.block(body, that)?;
+                self.own(body, 1, Purpose::Join)
+            }
+            Command::SwitchOn(of, list) => {
+                self.root_of(body, of)?;
+                let items = cases_in(list).saturating_mul(2).saturating_add(3);
+                self.own(body, items, Purpose::Switch)?;
+                self.items(body, list)?;
+                self.own(body, 1, Purpose::Switched)
+            }
+            _ => self.single(body, command),
+        }
+    }
+
+    /// A FOR.
+    #[cycle(walking)]
+    fn counted(&mut self, body: usize, command: &Command<'_>) -> Result<(), Memory> {
+        let Command::For {
+            start,
+            limit,
+            step,
+            body: block,
+            ..
+        } = command
+        else {
+            return self.guarded(body, command);
+        };
+        let variable = self.leaves;
+        self.root(body)?;
+        self.leaf();
+        self.expression(start)?;
+        self.root_of(body, limit)?;
+        self.own(body, 1, Purpose::Turn)?;
+        self.step(body, variable, Work::Root)?;
+        if let Some(by) = step {
+            self.expression(by)?;
+        }
+        self.block(body, block)?;
+        self.turned(body, variable)
+    }
+
+    #[cycle(walking)]
+    fn command(&mut self, body: usize, command: &Command<'_>) -> Result<(), Memory> {
+        match command {
+            Command::Block(block) => self.block(body, block),
+            Command::Repeat(repeated) => {
+                self.ahead(body, 1, Purpose::Turn)?;
+                self.command(body, repeated)?;
+                self.own(body, 2, Purpose::Back)
+            }
+            Command::RepeatWhile(repeated, test) | Command::RepeatUntil(repeated, test) => {
+                self.ahead(body, 1, Purpose::Turn)?;
+                self.command(body, repeated)?;
+                self.own(body, 1, Purpose::Onward)?;
+                self.root_of(body, test)?;
+                self.own(body, 1, Purpose::Behind)
+            }
+            _ => self.counted(body, command),
+        }
+    }
+}

@@ -1,0 +1,134 @@
+use bc_word::Memory;
+use std::alloc::Global;
+
+/// How many columns a listing has.
+pub const WIDTH: usize = 100;
+
+/// A listing that is being written.
+#[derive(Drop)]
+pub struct Page {
+    alloc: Global,
+    text: Vec<u8>,
+    /// How many columns of the last line are taken.
+    column: usize,
+}
+
+/// Whether a byte goes on with a character of UTF-8.
+fn is_further(byte: u8) -> bool {
+    byte & 0xC0 == 0x80
+}
+
+/// How many columns these bytes take, one for each character.
+pub fn width(bytes: &[u8]) -> usize {
+    bytes.iter().filter(|byte| !is_further(**byte)).count()
+}
+
+/// As many of these bytes as take so many columns.
+fn front(bytes: &[u8], columns: usize) -> &[u8] {
+    let mut taken: usize = 0;
+    for (at, byte) in bytes.iter().enumerate() {
+        if !is_further(*byte) {
+            if taken == columns {
+                return bytes.get(..at).unwrap_or(bytes);
+            }
+            taken = taken.saturating_add(1);
+        }
+    }
+    bytes
+}
+
+impl Page {
+    pub fn new(alloc: Global) -> Page {
+        Page {
+            alloc,
+            text: Vec::new(alloc),
+            column: 0,
+        }
+    }
+
+    pub fn alloc(&self) -> Global {
+        self.alloc
+    }
+
+    /// The column behind the last one that is taken, counted from 0.
+    pub fn column(&self) -> usize {
+        self.column
+    }
+
+    /// Adds bytes that have no line break.
+    pub fn add(&mut self, bytes: &[u8]) -> Result<(), Memory> {
+        self.text.extend_from_slice(bytes)?;
+        self.column = self.column.saturating_add(width(bytes));
+        Ok(())
+    }
+
+    /// Adds as many of these bytes as take so many columns, and a sign where there are more.
+    pub fn add_front(&mut self, bytes: &[u8], columns: usize) -> Result<(), Memory> {
+        let shown = front(bytes, columns);
+        self.add(shown)?;
+        if shown.len() < bytes.len() {
+            self.add_text("…")?;
+        }
+        Ok(())
+    }
+
+    pub fn add_text(&mut self, text: &str) -> Result<(), Memory> {
+        self.add(text.as_bytes())
+    }
+
+    /// Adds a number, with blanks in front of it up to so many columns.
+    pub fn add_number(&mut self, number: u64, columns: usize) -> Result<(), Memory> {
+        let digits = format!(in self.alloc; "{number}")?;
+        let blanks = columns.saturating_sub(digits.len());
+        let column = self.column.saturating_add(blanks);
+        self.fill_to(column)?;
+        self.add(digits.as_bytes())
+    }
+
+    /// Adds blanks up to a column.
+    pub fn fill_to(&mut self, column: usize) -> Result<(), Memory> {
+        for _ in self.column..column {
+            self.add(b" ")?;
+        }
+        Ok(())
+    }
+
+    /// Adds bytes that go on in further lines from this column on where they don't fit.
+    pub fn add_folded(&mut self, bytes: &[u8], column: usize) -> Result<(), Memory> {
+        for byte in bytes {
+            if self.column >= WIDTH && !is_further(*byte) {
+                self.end_line()?;
+                self.fill_to(column)?;
+            }
+            self.add(&[*byte])?;
+        }
+        Ok(())
+    }
+
+    /// Adds words with a blank between each two. Where one doesn't fit, a further line begins with this head.
+    pub fn add_words(&mut self, words: &str, head: &str) -> Result<(), Memory> {
+        let mut is_first = true;
+        for word in words.split_whitespace() {
+            let taken = width(word.as_bytes()).saturating_add(1);
+            if !is_first && self.column.saturating_add(taken) > WIDTH {
+                self.end_line()?;
+                self.add_text(head)?;
+            } else if !is_first {
+                self.add(b" ")?;
+            }
+            self.add_text(word)?;
+            is_first = false;
+        }
+        Ok(())
+    }
+
+    pub fn end_line(&mut self) -> Result<(), Memory> {
+        self.text.push(b'\n')?;
+        self.column = 0;
+        Ok(())
+    }
+
+    pub fn into_text(self) -> Vec<u8> {
+        self.text
+    }
+}

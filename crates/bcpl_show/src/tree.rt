@@ -1,0 +1,293 @@
+use crate::leaves::{is_leaf, leaves_of};
+use crate::lines::Files;
+use crate::page::{Page, WIDTH, width};
+use bc_lex_tokens::{Symbol, Token, TokenKind};
+use bc_parse_spell::render;
+use bc_word::Memory;
+use std::alloc::Global;
+
+/// How far a tree's listing is.
+#[derive(Drop)]
+struct Layout<'p, 's> {
+    page: Page,
+    files: Files<'p, 's>,
+    /// The leaves of the section.
+    leaves: Vec<Token<'s>>,
+    /// How many of them were met.
+    met: usize,
+    /// The file of the declaration at work.
+    file: usize,
+    /// For each section bracket that is open whether it is that of a list of globals.
+    opened: Vec<bool>,
+    /// Whether the next token begins a line.
+    breaks: bool,
+}
+
+/// The symbol that a token is, if it is one.
+fn symbol_of(kind: Option<&TokenKind<'_>>) -> Option<Symbol> {
+    match kind {
+        Some(TokenKind::Symbol(symbol)) => Some(*symbol),
+        _ => None,
+    }
+}
+
+/// Whether a token is this symbol.
+fn is(kind: Option<&TokenKind<'_>>, wanted: Symbol) -> bool {
+    match symbol_of(kind) {
+        Some(symbol) => symbol.is(wanted),
+        None => false,
+    }
+}
+
+/// Whether a token begins a declaration.
+fn is_declaration(kind: Option<&TokenKind<'_>>) -> bool {
+    match symbol_of(kind) {
+        Some(symbol) => matches!(
+            symbol,
+            Symbol::Let | Symbol::Manifest | Symbol::Static | Symbol::Global
+        ),
+        None => false,
+    }
+}
+
+/// Whether a token can end an operand, so that an operator behind it has two.
+fn is_operand_end(kind: Option<&TokenKind<'_>>) -> bool {
+    match symbol_of(kind) {
+        Some(symbol) => matches!(
+            symbol,
+            Symbol::True | Symbol::False | Symbol::CloseBracket | Symbol::CloseSection
+        ),
+        None => kind.is_some(),
+    }
+}
+
+/// Whether a line may be folded behind a token: no line break there stands for a semicolon.
+fn is_foldable(kind: Option<&TokenKind<'_>>) -> bool {
+    match symbol_of(kind) {
+        Some(symbol) => !matches!(
+            symbol,
+            Symbol::True
+                | Symbol::False
+                | Symbol::CloseBracket
+                | Symbol::CloseSection
+                | Symbol::Break
+                | Symbol::Loop
+                | Symbol::EndCase
+                | Symbol::Return
+                | Symbol::Finish
+                | Symbol::Repeat
+        ),
+        None => false,
+    }
+}
+
+/// Whether no blank stands behind a token, which stands behind `earlier`: behind a bracket and an operator of one operand.
+fn is_close_behind(earlier: Option<&TokenKind<'_>>, kind: Option<&TokenKind<'_>>) -> bool {
+    match symbol_of(kind) {
+        Some(symbol) => match symbol {
+            Symbol::OpenBracket | Symbol::AddressOf => true,
+            Symbol::Minus | Symbol::Indirection => !is_operand_end(earlier),
+            _ => false,
+        },
+        None => false,
+    }
+}
+
+/// Whether no blank stands in front of a token, which stands behind `last`.
+fn is_close_before(last: Option<&TokenKind<'_>>, kind: Option<&TokenKind<'_>>) -> bool {
+    match symbol_of(kind) {
+        Some(symbol) => match symbol {
+            Symbol::CloseBracket | Symbol::Comma | Symbol::Semicolon => true,
+            Symbol::OpenBracket => {
+                matches!(last, Some(TokenKind::Name(_))) || is(last, Symbol::CloseBracket)
+            }
+            _ => false,
+        },
+        None => false,
+    }
+}
+
+/// The token at this place, if there is one.
+fn at<'k, 's>(kinds: &'k [TokenKind<'s>], place: usize) -> Option<&'k TokenKind<'s>> {
+    kinds.get(place)
+}
+
+/// The token so many places before this one, if there is one.
+fn before<'k, 's>(
+    kinds: &'k [TokenKind<'s>],
+    place: usize,
+    back: usize,
+) -> Option<&'k TokenKind<'s>> {
+    match place.checked_sub(back) {
+        Some(place) => kinds.get(place),
+        None => None,
+    }
+}
+
+/// How many columns the tokens take at the least that stand right behind the token at this place.
+fn glued(kinds: &[TokenKind<'_>], place: usize) -> usize {
+    let mut count: usize = 0;
+    for next in place.saturating_add(1)..kinds.len() {
+        let last = before(kinds, next, 1);
+        if !is_close_behind(before(kinds, next, 2), last)
+            && !is_close_before(last, at(kinds, next))
+        {
+            return count;
+        }
+        count = count.saturating_add(1);
+    }
+    count
+}
+
+impl Layout<'_, '_> {
+    /// Tells the file of a declaration, where it is another than that of the one before.
+    fn tell_file(&mut self) -> Result<(), Memory> {
+        let file = match self.leaves.get(self.met) {
+            Some(leaf) => leaf.file,
+            None => self.file,
+        };
+        if file != self.file {
+            self.file = file;
+            self.page.add(b"// ")?;
+            self.page.add_text(self.files.path(file))?;
+            self.page.end_line()?;
+        }
+        Ok(())
+    }
+
+    fn depth(&self) -> usize {
+        self.opened.len()
+    }
+
+    /// Whether what is listed is a list of globals.
+    fn is_in_globals(&self) -> bool {
+        match self.opened.last() {
+            Some(is_globals) => *is_globals,
+            None => false,
+        }
+    }
+
+    /// Whether the token at this place begins a label.
+    fn is_label(&self, kinds: &[TokenKind<'_>], place: usize) -> bool {
+        match at(kinds, place) {
+            Some(TokenKind::Symbol(symbol)) => matches!(symbol, Symbol::Case | Symbol::Default),
+            Some(TokenKind::Name(_)) => self.is_colon_of_label(kinds, place.saturating_add(1)),
+            _ => false,
+        }
+    }
+
+    /// Begins the line of the token at this place: labels stand a step further out.
+    fn begin_line(&mut self, kinds: &[TokenKind<'_>], place: usize) -> Result<(), Memory> {
+        let is_out = self.is_label(kinds, place);
+        let depth = self.depth().saturating_sub(usize::from(is_out));
+        if self.page.column() > 0 {
+            self.page.end_line()?;
+        }
+        self.breaks = false;
+        if self.opened.is_empty() && is_declaration(at(kinds, place)) {
+            self.tell_file()?;
+        }
+        self.page.fill_to(depth.saturating_mul(2))
+    }
+
+    /// Adds what stands in front of a token on its line, which takes so many columns.
+    fn part(
+        &mut self,
+        kinds: &[TokenKind<'_>],
+        place: usize,
+        columns: usize,
+    ) -> Result<(), Memory> {
+        if place == 0 || self.breaks {
+            return self.begin_line(kinds, place);
+        }
+        let last = before(kinds, place, 1);
+        if is_close_before(last, at(kinds, place)) || self.is_colon_of_label(kinds, place) {
+            return Ok(());
+        }
+        let is_close = is_close_behind(before(kinds, place, 2), last);
+        if is_close && !is(last, Symbol::OpenBracket) {
+            return Ok(());
+        }
+        let columns = columns.saturating_add(glued(kinds, place));
+        let behind = self.page.column().saturating_add(columns).saturating_add(1);
+        if behind > WIDTH && is_foldable(last) {
+            self.page.end_line()?;
+            let column = self.depth().saturating_mul(2).saturating_add(4);
+            return self.page.fill_to(column);
+        }
+        if is_close {
+            return Ok(());
+        }
+        self.page.add(b" ")
+    }
+
+    /// Whether the token at this place is the colon of a label.
+    fn is_colon_of_label(&self, kinds: &[TokenKind<'_>], place: usize) -> bool {
+        is(at(kinds, place), Symbol::Colon) && !self.is_in_globals()
+    }
+
+    /// What closes with a token, before it is added.
+    fn close(&mut self, kinds: &[TokenKind<'_>], place: usize) {
+        if is(at(kinds, place), Symbol::CloseSection) {
+            let _opened = self.opened.pop();
+            self.breaks = !is(before(kinds, place, 1), Symbol::OpenSection);
+        } else if is(at(kinds, place), Symbol::And) {
+            self.breaks = true;
+        }
+    }
+
+    /// What opens or ends behind a token that was added.
+    fn open(&mut self, kinds: &[TokenKind<'_>], place: usize) -> Result<(), Memory> {
+        if is(at(kinds, place), Symbol::OpenSection) {
+            self.opened
+                .push(is(before(kinds, place, 1), Symbol::Global))?;
+            self.breaks = true;
+        } else if is(at(kinds, place), Symbol::Semicolon) {
+            if self.opened.is_empty() {
+                self.page.end_line()?;
+                self.page.end_line()?;
+            }
+            self.breaks = true;
+        } else if is(at(kinds, place), Symbol::Colon) {
+            self.breaks = !self.is_in_globals();
+        }
+        Ok(())
+    }
+}
+
+/// The tokens of the canonical spelling of the source `main`, laid out: a construct a line, what belongs to a bracket of a
+/// section two columns further in. A comment stands in front of declarations that stand in another file than those before
+/// them. Its tokens are these. Memory is answered where a growth was refused.
+pub fn tree_listing<'s>(
+    alloc: Global,
+    files: Files<'_, 's>,
+    main: usize,
+    tokens: &[Token<'s>],
+    kinds: &[TokenKind<'s>],
+) -> Result<Vec<u8>, Memory> {
+    let leaves = leaves_of(alloc, tokens)?;
+    let mut layout = Layout {
+        page: Page::new(alloc),
+        files,
+        leaves,
+        met: 0,
+        file: main,
+        opened: Vec::new(alloc),
+        breaks: false,
+    };
+    for (place, kind) in kinds.iter().enumerate() {
+        let text = render(alloc, &[*kind])?;
+        layout.close(kinds, place);
+        layout.part(kinds, place, width(text.as_slice()))?;
+        layout.page.add(text.as_slice())?;
+        layout.open(kinds, place)?;
+        if is_leaf(*kind) {
+            layout.met = layout.met.saturating_add(1);
+        }
+    }
+    if !kinds.is_empty() {
+        layout.page.end_line()?;
+    }
+    let Layout { page, .. } = layout;
+    Ok(page.into_text())
+}

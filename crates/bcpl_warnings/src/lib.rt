@@ -1,0 +1,14 @@
+//! What is lawful in a source and likely wrong: a warning is no refusal, and says nothing of what the program does.
+#![tactic(auto)]
+
+mod globals;
+mod routines;
+mod separated;
+mod starts;
+mod strings;
+mod tokens;
+mod unreachable;
+mod values;
+mod warning;
+
+pub use warning::{likely_starts, warnings};

@@ -1,0 +1,93 @@
+use crate::tokens::{is_at, name_at};
+use bc_lex_tokens::{Symbol, Token};
+use bc_word::Memory;
+use std::alloc::Global;
+
+/// The routines of BE that LIBHDR names.
+const LIBRARY: [&[u8]; 10] = [
+    b"SELECTINPUT",
+    b"SELECTOUTPUT",
+    b"WRCH",
+    b"ENDREAD",
+    b"ENDWRITE",
+    b"PUTBYTE",
+    b"WRITES",
+    b"WRITEN",
+    b"NEWLINE",
+    b"WRITEF",
+];
+
+/// The names of a section that mean routines without a value.
+#[derive(Debug, Drop)]
+pub struct Routines<'s> {
+    /// Those that BE defines.
+    commands: Vec<&'s [u8]>,
+    /// Those that are declared otherwise, too.
+    others: Vec<&'s [u8]>,
+}
+
+/// The index of the bracket that closes the one with this index.
+fn closing(tokens: &[Token<'_>], open: usize) -> Option<usize> {
+    let mut depth: usize = 0;
+    for (index, _) in tokens.iter().enumerate() {
+        if index >= open {
+            if is_at(tokens, index, Symbol::OpenBracket) {
+                depth = depth.saturating_add(1);
+            } else if is_at(tokens, index, Symbol::CloseBracket) {
+                depth = depth.saturating_sub(1);
+                if depth == 0 {
+                    return Some(index);
+                }
+            }
+        }
+    }
+    None
+}
+
+/// Whether the token with this index stands behind a word that begins a definition.
+pub fn is_defined(tokens: &[Token<'_>], index: usize) -> bool {
+    index > 0 && (is_at(tokens, index - 1, Symbol::Let) || is_at(tokens, index - 1, Symbol::And))
+}
+
+/// Whether the name with this index is declared as something other than a routine.
+fn is_variable(tokens: &[Token<'_>], index: usize) -> bool {
+    let is_begun = is_defined(tokens, index)
+        || index > 0
+            && (is_at(tokens, index - 1, Symbol::Comma) || is_at(tokens, index - 1, Symbol::For));
+    let next = index.saturating_add(1);
+    is_begun && (is_at(tokens, next, Symbol::Equal) || is_at(tokens, next, Symbol::Comma))
+}
+
+impl<'s> Routines<'s> {
+    /// The routines of these tokens, and those of the library. Memory is answered where a growth was refused.
+    pub fn of(alloc: Global, tokens: &[Token<'s>]) -> Result<Routines<'s>, Memory> {
+        let mut commands = Vec::new(alloc);
+        let mut others = Vec::new(alloc);
+        for (index, _) in tokens.iter().enumerate() {
+            if let Some(name) = name_at(tokens, index) {
+                let next = index.saturating_add(1);
+                if is_defined(tokens, index) && is_at(tokens, next, Symbol::OpenBracket) {
+                    let is_command = match closing(tokens, next) {
+                        Some(close) => is_at(tokens, close.saturating_add(1), Symbol::Be),
+                        None => false,
+                    };
+                    if is_command {
+                        commands.push(name)?;
+                    } else {
+                        others.push(name)?;
+                    }
+                } else if is_variable(tokens, index) {
+                    others.push(name)?;
+                }
+            }
+        }
+        Ok(Routines { commands, others })
+    }
+
+    /// Whether a name means a routine of BE wherever it stands.
+    pub fn has(&self, name: &[u8]) -> bool {
+        let is_command = self.commands.iter().any(|known| *known == name)
+            || LIBRARY.iter().any(|known| *known == name);
+        is_command && !self.others.iter().any(|known| *known == name)
+    }
+}

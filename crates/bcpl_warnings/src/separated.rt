@@ -1,0 +1,64 @@
+use crate::tokens::{can_end, is_at, is_line_start};
+use bc_lex::Source;
+use bc_lex_tokens::{Symbol, Token};
+use bcpl_places::line_at;
+
+/// How a line looks otherwise than it is read.
+#[derive(Clone, Copy, Debug, PartialEq, Eq)]
+pub enum Looks {
+    /// It looks like a command of its own, and goes on with the line before.
+    Apart,
+    /// It looks as if it went on with the line before, and is a command of its own.
+    Together,
+}
+
+/// How many bytes of its line stand in front of the token with this index.
+fn indented(sources: &[Source<'_>], tokens: &[Token<'_>], index: usize) -> usize {
+    let Some(token) = tokens.get(index) else {
+        return 0
+    };
+    let Some(source) = sources.get(token.file) else {
+        return 0
+    };
+    let at = token.start.min(source.text.len());
+    let start = line_at(source.text, at).start.min(at);
+    at - start
+}
+
+/// The index of the first token of the line on which the token with this index stands.
+fn line_start(tokens: &[Token<'_>], index: usize) -> usize {
+    let mut at = index;
+    for _ in 0..index {
+        if is_line_start(tokens, at) {
+            break;
+        }
+        at = at.saturating_sub(1);
+    }
+    at
+}
+
+/// How the line that begins with the token with this index looks, where that is not how it is read.
+pub fn misread(sources: &[Source<'_>], tokens: &[Token<'_>], index: usize) -> Option<Looks> {
+    if index == 0 || !is_line_start(tokens, index) || !can_end(tokens, index - 1) {
+        return None;
+    }
+    let is_bracket = is_at(tokens, index, Symbol::OpenBracket);
+    let is_sign = is_at(tokens, index, Symbol::Indirection);
+    let is_minus = is_at(tokens, index, Symbol::Minus);
+    if !is_bracket && !is_sign && !is_minus {
+        return None;
+    }
+    let before = indented(sources, tokens, line_start(tokens, index - 1));
+    let own = indented(sources, tokens, index);
+    if is_minus {
+        if own <= before {
+            Some(Looks::Apart)
+        } else {
+            None
+        }
+    } else if is_bracket || own > before {
+        Some(Looks::Together)
+    } else {
+        None
+    }
+}

@@ -1,0 +1,110 @@
+use bc_lex_tokens::{Symbol, Token, TokenKind};
+
+/// The symbol that the token with this index is; none where it is none.
+pub fn symbol_at(tokens: &[Token<'_>], index: usize) -> Option<Symbol> {
+    match tokens.get(index) {
+        Some(
+            Token {
+                kind: TokenKind::Symbol(symbol),
+                ..
+            },
+        ) => Some(*symbol),
+        _ => None,
+    }
+}
+
+/// Whether the token with this index is this symbol.
+pub fn is_at(tokens: &[Token<'_>], index: usize, symbol: Symbol) -> bool {
+    match symbol_at(tokens, index) {
+        Some(found) => found.is(symbol),
+        None => false,
+    }
+}
+
+/// The name that the token with this index is; none where it is none.
+pub fn name_at<'s>(tokens: &[Token<'s>], index: usize) -> Option<&'s [u8]> {
+    match tokens.get(index) {
+        Some(
+            Token {
+                kind: TokenKind::Name(name),
+                ..
+            },
+        ) => Some(*name),
+        _ => None,
+    }
+}
+
+/// Whether a line break stands in front of the token with this index.
+pub fn is_line_start(tokens: &[Token<'_>], index: usize) -> bool {
+    match tokens.get(index) {
+        Some(token) => token.line_before,
+        None => false,
+    }
+}
+
+/// Whether a command can end with the token with this index, so that a line break behind it may stand for a semicolon.
+pub fn can_end(tokens: &[Token<'_>], index: usize) -> bool {
+    match tokens.get(index) {
+        Some(token) => match token.kind {
+            TokenKind::Symbol(symbol) => matches!(
+                symbol,
+                Symbol::True
+                    | Symbol::False
+                    | Symbol::CloseBracket
+                    | Symbol::CloseSection
+                    | Symbol::Break
+                    | Symbol::Loop
+                    | Symbol::EndCase
+                    | Symbol::Return
+                    | Symbol::Finish
+                    | Symbol::Repeat
+            ),
+            _ => true,
+        },
+        None => false,
+    }
+}
+
+/// Whether a command can begin with the token with this index.
+pub fn can_begin(tokens: &[Token<'_>], index: usize) -> bool {
+    match tokens.get(index) {
+        Some(token) => match token.kind {
+            TokenKind::Symbol(symbol) => matches!(
+                symbol,
+                Symbol::OpenBracket
+                    | Symbol::Indirection
+                    | Symbol::OpenSection
+                    | Symbol::If
+                    | Symbol::Unless
+                    | Symbol::Test
+                    | Symbol::While
+                    | Symbol::Until
+                    | Symbol::For
+                    | Symbol::SwitchOn
+                    | Symbol::Case
+                    | Symbol::Default
+                    | Symbol::Break
+                    | Symbol::Loop
+                    | Symbol::EndCase
+                    | Symbol::Return
+                    | Symbol::Finish
+                    | Symbol::ResultIs
+                    | Symbol::Goto
+                    | Symbol::Let
+                    | Symbol::Manifest
+                    | Symbol::Static
+                    | Symbol::Global
+            ),
+            _ => true,
+        },
+        None => false,
+    }
+}
+
+/// Whether a line break in front of the token with this index stands for a semicolon.
+pub fn is_separated(tokens: &[Token<'_>], index: usize) -> bool {
+    index > 0
+        && is_line_start(tokens, index)
+        && can_end(tokens, index - 1)
+        && can_begin(tokens, index)
+}
