@@ -7,7 +7,7 @@ use Rattle.bc_parse_tree.specs.declared.tree.Monadic.TheVariants as monadic
 use Rattle.bc_parse_tree.specs.Tree as tree
 use Rattle.bc_parse_tree.specs.Height.{exp_height, exps_height}
 use Rattle.bc_core.specs.Tree.{Exp, Num, Frame, Glob, Place, Load, Neg, Not, Bin, Cond, Call, Valof}
-use Rattle.bc_scope_defs.specs.Scope.{Meant, Constant, Pending, Static, Global, Routine, Variable, OuterVariable, OuterLabel, LabelOutside, Undeclared, Env, Numbers, meant_by}
+use Rattle.bc_scope_defs.specs.Scope.{Meant, Constant, Pending, Static, Global, Routine, Variable, OuterVariable, OuterLabel, StrayVariable, StrayLabel, LabelOutside, Undeclared, Env, Numbers, meant_by}
 use Rattle.bc_scope_defs.specs.Scope as scope
 use Rattle.bc_scope_defs.specs.Numbering.{behind}
 use Rattle.bc_scope_defs.specs.Scoping.{operator}
@@ -27,6 +27,8 @@ name_nested (Variable k) = (omega arith, omega arith)
 name_nested (scope.Label l) = (omega arith, omega arith)
 name_nested OuterVariable = (omega arith, omega arith)
 name_nested OuterLabel = (omega arith, omega arith)
+name_nested StrayVariable = (omega arith, omega arith)
+name_nested StrayLabel = (omega arith, omega arith)
 name_nested LabelOutside = (omega arith, omega arith)
 name_nested Undeclared = (omega arith, omega arith)
 

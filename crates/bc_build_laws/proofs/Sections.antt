@@ -5,6 +5,7 @@ use Rattle.bc_core.specs.Tree.{Root}
 use Rattle.bc_core.specs.Commands as core
 use Rattle.bc_core.specs.Level.{level_behind_parameters}
 use Rattle.bc_core.specs.Layout.{Bodies, cells_of_block, cells_of_body}
+use Rattle.bc_scope_defs.specs.Scope.{nothing_known}
 use Rattle.bc_scope_defs.specs.Found.{Found, FoundRoutine, RoutineBody, Gives, Does, Thing, AValof, ARoutine, Data, AStatic, ATable, AText, found_in_section, section_start}
 use Rattle.bc_scope_defs.specs.Translation.{core_block, valofs_of, places_of, core_body, core_routine, core_of}
 use Rattle.bc_scope_defs.specs.FramesAlong.{width_of_body, frame_of}
@@ -119,7 +120,7 @@ roots_have_levels T choice ds n =
     let levels = level_of c.valofs in
     let nested = all_nested ds in
     let behind = or_else (frames_fault fs) (places_fault fs) in
-    let frames = none_left (frames_fault fs) (places_fault fs) (none_right (declarations_fault false [] section_start ds 0) behind (same_section_fault ds ∙ n)) in
+    let frames = none_left (frames_fault fs) (places_fault fs) (none_right (declarations_fault nothing_known section_start ds 0) behind (same_section_fault ds ∙ n)) in
     let V = table levels 0 c.valofs in
     let wide = table_wide levels 0 1 fs nested (all_at levels 0 1 fs nested (λ i. let m : 0 + i ≡ i = omega arith in ap levels m)) in
     let bodies = bodies_from Plain (marked_over coding levels) 0 c.valofs in

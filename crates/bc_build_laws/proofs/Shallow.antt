@@ -1,5 +1,6 @@
 -- The roots of a section that nests at most 200 deep are shallow.
 use Rattle.std.proofs.Common.{List, [], ◌∷◌, arith}
+use Rattle.bc_scope_defs.specs.Scope.{nothing_known}
 use Rattle.bc_scope_defs.specs.Found.{Thing, AValof, ARoutine, Data, AStatic, ATable, AText, section_start, found_in_section}
 use Rattle.bc_scope_defs.specs.Translation.{valofs_of, places_of, core_of}
 use Rattle.bc_build_laws.specs.Laws.{IsShallow, RootsAreShallow}
@@ -35,5 +36,5 @@ valofs_low (Data m d ∷ things) h = valofs_low things h.1
 pub roots_are_shallow : RootsAreShallow
 roots_are_shallow coding ds h =
     let things = found_in_section ds in
-    let low = declarations_low [] section_start ds 0 h in
+    let low = declarations_low nothing_known section_start ds 0 h in
     all_roots IsShallow Low suits coding (core_of ds) (places_low things low) (valofs_low things low)

@@ -94,7 +94,7 @@ mutual
       (definition_low O E at d s (omega arith)) (definitions_low O E (behind_definition at d) ds s (omega arith))
 
   declaration_low : (E : Env) (at : Numbers) (d : tree.Declaration) (s : ℕ) → declaration_height d ≤ 200 → ThingsLow (found_in_declaration E at d s)
-  declaration_low E at (tree.Constants k es) s h = entries_low k at es (pending es E)
+  declaration_low E at (tree.Constants k es) s h = entries_low k at es (pending k es E)
   declaration_low E at (tree.Let ds) s h = definitions_low E (in_let E at s ds) at ds (s + cells_of_all (before_let ds E) ds) (omega arith)
 
   pub declarations_low : (E : Env) (at : Numbers) (ds : tree.Declarations) (s : ℕ) → declarations_height ds ≤ 200 → ThingsLow (found_in_declarations E at ds s)

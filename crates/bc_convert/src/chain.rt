@@ -1,11 +1,11 @@
 use crate::complaint::Fault;
 use crate::notes::Notes;
-use crate::operands::{is_plain, take_out};
+use crate::operands::{is_plain, is_too_long, take_out};
 use bc_convert_tokens::Source;
 use bc_word::Memory;
 
 /// What was read of a chain of relations: where it begins, the indices around its last operand, and what is to be put behind it.
-#[derive(Clone, Copy, Debug)]
+#[derive(Clone, Copy)]
 pub struct Chain {
     pub at: usize,
     pub from: usize,
@@ -14,7 +14,7 @@ pub struct Chain {
 }
 
 /// How far a chain has come.
-#[derive(Clone, Copy, Debug, PartialEq, Eq)]
+#[derive(Clone, Copy)]
 pub enum ChainState {
     /// One relation, which needs no change.
     Single,
@@ -37,6 +37,10 @@ impl Chain {
     ) -> Result<ChainState, Memory> {
         if is_plain(source, self.from, self.to) {
             let middle = notes.rendered(source, self.from, self.to)?;
+            if is_too_long(middle.as_slice()) {
+                notes.complain(source, self.from, Fault::TooLongToRepeat)?;
+                return Ok(self.state);
+            }
             self.link(source, notes, middle.as_slice())?;
             return self.open(notes, is_inner);
         }

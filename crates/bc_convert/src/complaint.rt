@@ -63,6 +63,18 @@ pub enum Fault {
     /// A chain of relations with calls in it.
     #[error("the middle of this chain of relations would be worked out twice")]
     CallInChain,
+    /// What is so long that it isn't written out twice.
+    #[error("what would be written out several times is over 200 bytes long")]
+    TooLongToRepeat,
+    /// ABS of what is no number, where a constant is wanted.
+    #[error("a constant has no ABS here")]
+    ConstantAbs,
+    /// A list of assignments with an operator.
+    #[error("several are assigned to with one operator")]
+    OperatorInList,
+    /// A GOTO past a declaration behind commands.
+    #[error("the label now stands in a block that this GOTO is outside of")]
+    LabelInBlock,
     /// A range of cases that is no range of constants, or over 256.
     #[error("this range of cases is no range of at most 256 numbers or characters")]
     CaseRange,
@@ -108,6 +120,12 @@ impl Fault {
             Fault::ByteInList => "write one assignment after the other",
             Fault::CallOnTheLeft => "keep the left side's address in a variable first",
             Fault::CallInChain => "keep its value in a variable first",
+            Fault::TooLongToRepeat => "keep its value in a variable first",
+            Fault::ConstantAbs => "write the value itself",
+            Fault::OperatorInList => "write one assignment after the other",
+            Fault::LabelInBlock => {
+                "declare at the head of the block what the LET behind commands does, and assign to it there"
+            }
             Fault::CaseRange => "write the cases out, or choose by IF in DEFAULT",
             Fault::FirstGlobal => "write its number behind the name, with a colon between them",
             Fault::LateDeclaration => "put this one and what needs it between $( and $)",
@@ -117,7 +135,7 @@ impl Fault {
 }
 
 /// What can't be converted, and the stretch of the text that it begins with: its first byte, and the byte behind it.
-#[derive(Clone, Copy, Debug, PartialEq, Eq)]
+#[derive(Clone, Copy)]
 pub struct Complaint {
     pub start: usize,
     pub end: usize,

@@ -13,7 +13,7 @@ use bc_word::Memory;
 use std::alloc::Global;
 
 /// What becomes of a source.
-#[derive(Debug, Drop)]
+#[derive(Drop)]
 pub struct Conversion {
     /// The text as it is converted.
     pub text: Vec<u8>,
@@ -41,6 +41,16 @@ fn find_label_values(source: Source<'_>, notes: &mut Notes) -> Result<(), Memory
     Ok(())
 }
 
+/// Jumps past a declaration behind commands, to a label that now stands in the block of that.
+fn find_parted_jumps(source: Source<'_>, notes: &mut Notes) -> Result<(), Memory> {
+    for index in 0..source.tokens.len() {
+        if notes.is_parted(source, index) {
+            notes.complain(source, index, Fault::LabelInBlock)?;
+        }
+    }
+    Ok(())
+}
+
 /// What is found in a source whose tokens are told apart.
 fn found(
     alloc: Global,
@@ -57,6 +67,7 @@ fn found(
     };
     items(walk, &mut notes, 0, source.tokens.len())?;
     find_label_values(source, &mut notes)?;
+    find_parted_jumps(source, &mut notes)?;
     Ok(notes)
 }
 

@@ -1,4 +1,5 @@
 use crate::complaint::Fault;
+use crate::names::is_first_free;
 use crate::notes::Notes;
 use crate::numbers::value_of_number;
 use bc_convert_tokens::{Kind, Source};
@@ -6,7 +7,7 @@ use bc_word::Memory;
 
 /// The names of a definition: where the first one stands, how many they are, with a comma between each two, and where the
 /// sign behind them stands.
-#[derive(Clone, Copy, Debug)]
+#[derive(Clone, Copy)]
 pub struct Values {
     pub first: usize,
     pub count: usize,
@@ -57,7 +58,7 @@ pub fn put_values(
 }
 
 /// What the next entry without a number counts on from.
-#[derive(Clone, Copy, Debug)]
+#[derive(Clone, Copy)]
 pub enum Last {
     /// A number.
     Number(u32),
@@ -86,6 +87,9 @@ pub fn continued(source: Source<'_>, from: usize, to: usize) -> Option<Last> {
     }
     if to - from == 1 && source.kind(from) == Kind::Number {
         return value_of_number(source, from).ok().map(Last::Number);
+    }
+    if to - from == 1 && is_first_free(source, from) {
+        return Some(Last::Number(200));
     }
     Some(Last::Value { from, to, more: 0 })
 }

@@ -8,6 +8,7 @@ mod complaint;
 mod conversion;
 mod declarations;
 mod library;
+mod magnitudes;
 mod names;
 mod notes;
 mod numbers;

@@ -1,5 +1,6 @@
 use crate::library::library_name;
 use crate::options::Options;
+use crate::spelling::gets_header_alone;
 use bc_convert_tokens::{Dialect, Kind, Source};
 use bc_word::Memory;
 use std::alloc::Global;
@@ -87,6 +88,30 @@ fn renamed<'o>(options: Options<'o>, bytes: &[u8]) -> Option<&'o [u8]> {
     None
 }
 
+/// Whether a word has no capital letter.
+fn is_small(word: &[u8]) -> bool {
+    !word.iter().any(|byte| byte.is_ascii_uppercase())
+}
+
+/// The library's name that the name at an index is for, in a dialect that writes it otherwise.
+fn for_library(source: Source<'_>, index: usize, dialect: Dialect) -> Option<&'static [u8]> {
+    let bytes = source.bytes(index);
+    let is_meant = dialect.has_small_words || dialect.has_small_library && is_small(bytes);
+    match library_name(bytes) {
+        Some(new) if is_meant && !(gets_header_alone(source) && is_own(source, index)) => Some(new),
+        _ => None,
+    }
+}
+
+/// Whether the name at an index is the number of the first global that is free, in a list of GLOBAL.
+pub fn is_first_free(source: Source<'_>, index: usize) -> bool {
+    index > 0
+        && source.bytes(index).eq_ignore_ascii_case(b"UG")
+        && source.kind(index - 1) == Kind::Colon
+        && listing_word(source, index) == Kind::Global
+        && !is_declared(source, index)
+}
+
 /// What the name at an index is called here, where it is called otherwise.
 pub fn name_change(
     alloc: Global,
@@ -99,10 +124,11 @@ pub fn name_change(
     if let Some(new) = renamed(options, bytes) {
         return Ok(Some(Vec::from_slice(alloc, new)?));
     }
-    if dialect.has_small_words
-        && let Some(new) = library_name(bytes)
-    {
+    if let Some(new) = for_library(source, index, dialect) {
         return Ok(Some(Vec::from_slice(alloc, new)?));
+    }
+    if is_first_free(source, index) {
+        return Ok(Some(Vec::from_slice(alloc, b"200")?));
     }
     if bytes.contains(&b'_') {
         return Ok(Some(without_underlines(alloc, source, index)?));
@@ -133,22 +159,62 @@ pub fn declares(source: Source<'_>, index: usize) -> bool {
 
 /// Whether a name stands in a list of GLOBAL, MANIFEST or STATIC.
 fn is_entry(source: Source<'_>, index: usize) -> bool {
+    matches!(
+        listing_word(source, index),
+        Kind::Global | Kind::Manifest | Kind::Static
+    )
+}
+
+/// The token in front of the section bracket that a name stands in, behind which no other section bracket stands.
+fn listing_word(source: Source<'_>, index: usize) -> Kind {
     for back in 1..=index {
         let at = index - back;
         match source.kind(at) {
-            Kind::CloseSection => return false,
+            Kind::CloseSection => return Kind::End,
             Kind::OpenSection => {
-                let before = if at == 0 {
+                return if at == 0 {
                     Kind::End
                 } else {
                     source.kind(at - 1)
                 };
-                return matches!(before, Kind::Global | Kind::Manifest | Kind::Static);
             }
             _ => {}
         }
     }
-    false
+    Kind::End
+}
+
+/// Whether a name is spelled as the one at an index.
+fn is_same_name(source: Source<'_>, index: usize, other: usize) -> bool {
+    source.kind(other) == Kind::Name && source.is_same(index, other)
+}
+
+/// Whether a round bracket stands behind the name at an index.
+fn is_called(source: Source<'_>, index: usize) -> bool {
+    source.kind(index.saturating_add(1)) == Kind::OpenRound
+}
+
+/// Whether the name at an index is declared there as a routine.
+fn declares_routine(source: Source<'_>, index: usize) -> bool {
+    index > 0 && matches!(source.kind(index - 1), Kind::Let | Kind::And) && is_called(source, index)
+}
+
+/// Whether the name at an index is declared there, and not by GLOBAL.
+fn declares_own(source: Source<'_>, index: usize) -> bool {
+    declares(source, index) && listing_word(source, index) != Kind::Global
+}
+
+/// Whether the name at an index is the source's own, though the library has it: a routine other than START, or what is declared
+/// otherwise than by GLOBAL and never called.
+fn is_own(source: Source<'_>, index: usize) -> bool {
+    let count = source.tokens.len();
+    if (0..count).any(|other| is_same_name(source, index, other)
+        && declares_routine(source, other))
+    {
+        return !source.bytes(index).eq_ignore_ascii_case(b"START");
+    }
+    (0..count).any(|other| is_same_name(source, index, other) && declares_own(source, other))
+        && !(0..count).any(|other| is_same_name(source, index, other) && is_called(source, other))
 }
 
 /// Whether the tokens in front of a name, back to LET, AND or FOR, are names, commas and an opening bracket alone.

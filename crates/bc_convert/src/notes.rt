@@ -1,11 +1,11 @@
 use crate::complaint::{Complaint, Fault};
 use bc_convert_edits::Replacement;
-use bc_convert_tokens::{Source, is_name_byte};
+use bc_convert_tokens::{Kind, Source, is_name_byte};
 use bc_word::Memory;
 use std::alloc::Global;
 
 /// What becomes of a token: what stands in front of it, in its place and behind it, and whether the blanks in front of it go.
-#[derive(Debug, Drop)]
+#[derive(Drop)]
 struct Slot {
     before: Vec<u8>,
     instead: Option<Vec<u8>>,
@@ -28,6 +28,14 @@ impl Slot {
     }
 }
 
+/// A list from an index on, with a declaration behind commands that begins a block up to the end of the list.
+#[derive(Clone, Copy)]
+pub struct LateBlock {
+    pub from: usize,
+    pub at: usize,
+    pub to: usize,
+}
+
 /// What was found in a source so far: what becomes of each token, and what can't be converted.
 #[derive(Drop)]
 pub struct Notes {
@@ -36,6 +44,7 @@ pub struct Notes {
     complaints: Vec<Complaint>,
     labels: Vec<usize>,
     destinations: Vec<usize>,
+    blocks: Vec<LateBlock>,
     fresh: usize,
 }
 
@@ -52,6 +61,7 @@ impl Notes {
             complaints: Vec::new(alloc),
             labels: Vec::new(alloc),
             destinations: Vec::new(alloc),
+            blocks: Vec::new(alloc),
             fresh: 0,
         })
     }
@@ -157,6 +167,33 @@ impl Notes {
         Ok(())
     }
 
+    /// Writes down that a declaration behind commands begins a block.
+    pub fn note_block(&mut self, block: LateBlock) -> Result<(), Memory> {
+        self.blocks.push(block)?;
+        Ok(())
+    }
+
+    /// Whether the GOTO with its destination at an index stands in front of a declaration behind commands, and its label behind it
+    /// in the same list.
+    pub fn is_parted(&self, source: Source<'_>, destination: usize) -> bool {
+        self.destinations.contains(&destination)
+            && self.blocks.iter().any(|block| {
+                block.from <= destination
+                    && destination < block.at
+                    && self.has_label(source, *block, destination)
+            })
+    }
+
+    /// Whether the label of a destination stands in a block, and in no bracket within it.
+    fn has_label(&self, source: Source<'_>, block: LateBlock, destination: usize) -> bool {
+        self.labels.iter().any(|label| {
+            block.at <= *label
+                && *label < block.to
+                && source.is_same(*label, destination)
+                && !is_enclosed(source, block.at, *label)
+        })
+    }
+
     /// Where the labels stand.
     pub fn labels(&self) -> &[usize] {
         self.labels.as_slice()
@@ -253,6 +290,11 @@ fn put_token(whole: &mut Vec<u8>, slot: &Slot, bytes: &[u8]) -> Result<(), Memor
 /// Whether there are blanks alone between two tokens.
 fn is_plain_gap(gap: &[u8]) -> bool {
     !gap.is_empty() && gap.iter().all(|byte| *byte == b' ' || *byte == b'\t')
+}
+
+/// Whether a bracket that opens behind an index and in front of another one closes behind that.
+fn is_enclosed(source: Source<'_>, from: usize, index: usize) -> bool {
+    (from..index).any(|at| source.kind(at) == Kind::OpenSection && source.partner(at) > index)
 }
 
 /// Whether a token has this spelling.

@@ -4,7 +4,7 @@ use bc_word::Memory;
 use std::alloc::Global;
 
 /// What becomes of a number.
-#[derive(Debug, Drop)]
+#[derive(Drop)]
 pub enum NumberChange {
     /// It stays as it is.
     Kept,

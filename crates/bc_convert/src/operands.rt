@@ -4,7 +4,7 @@ use bc_word::Memory;
 
 /// How an operand was read: the index behind it, and where it is a byte of a string as a whole the index of its `%`, whose
 /// change is not written down yet.
-#[derive(Clone, Copy, Debug)]
+#[derive(Clone, Copy)]
 pub struct Operand {
     pub end: usize,
     pub byte: Option<usize>,
@@ -65,6 +65,11 @@ fn is_call(source: Source<'_>, index: usize) -> bool {
 /// Whether the tokens between two indices hold no call and no VALOF, so that they may be worked out twice.
 pub fn is_plain(source: Source<'_>, from: usize, to: usize) -> bool {
     (from..to).all(|index| !is_call(source, index) && source.kind(index) != Kind::Valof)
+}
+
+/// Whether a text is too long to be written out several times.
+pub fn is_too_long(text: &[u8]) -> bool {
+    text.len() > 200
 }
 
 /// Takes out the tokens between two indices.

@@ -2,14 +2,14 @@ use bc_word::Memory;
 use std::alloc::Global;
 
 /// A name of an old library, and what it is called here.
-#[derive(Clone, Copy, Debug)]
+#[derive(Clone, Copy)]
 pub struct Renaming<'o> {
     pub old: &'o [u8],
     pub new: &'o [u8],
 }
 
 /// What a conversion is told beside the source.
-#[derive(Clone, Copy, Debug)]
+#[derive(Clone, Copy)]
 pub struct Options<'o> {
     /// Names of the library that the source was written for, where they are called otherwise here.
     pub library: &'o [Renaming<'o>],

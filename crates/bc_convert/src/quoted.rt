@@ -4,7 +4,7 @@ use bc_word::Memory;
 use std::alloc::Global;
 
 /// What stands in front in an old string or character constant.
-#[derive(Clone, Copy, Debug)]
+#[derive(Clone, Copy)]
 enum Piece {
     /// Nothing: the end.
     End,
@@ -113,7 +113,7 @@ fn put_byte(text: &mut Vec<u8>, byte: u8) -> Result<(), Memory> {
 }
 
 /// What becomes of a string or a character constant.
-#[derive(Debug, Drop)]
+#[derive(Drop)]
 pub struct Respelled {
     /// The bytes between its signs.
     pub inside: Vec<u8>,

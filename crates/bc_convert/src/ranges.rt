@@ -7,7 +7,7 @@ use bc_word::Memory;
 use std::alloc::Global;
 
 /// A constant that a case has, and whether it is written as a character.
-#[derive(Clone, Copy, Debug)]
+#[derive(Clone, Copy)]
 pub struct CaseConstant {
     value: i64,
     is_character: bool,

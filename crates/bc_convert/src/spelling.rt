@@ -271,7 +271,7 @@ fn needs_name(source: Source<'_>, index: usize) -> bool {
 }
 
 /// Whether the library's header is all that the source gets.
-fn gets_header_alone(source: Source<'_>) -> bool {
+pub fn gets_header_alone(source: Source<'_>) -> bool {
     (1..source.tokens.len()).all(|index| source.kind(index - 1) != Kind::Get
         || gets_header(source, index))
 }

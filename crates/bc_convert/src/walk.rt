@@ -4,10 +4,11 @@ use crate::chain::{Chain, ChainState, close_chain};
 use crate::commands::{put_byte_of, put_compound};
 use crate::complaint::Fault;
 use crate::declarations::{Values, continued, put_entry, put_values};
-use crate::notes::Notes;
+use crate::magnitudes::{put_absolute, tell_absolutes};
+use crate::notes::{LateBlock, Notes};
 use crate::operands::{Operand, finish, is_adjacent, is_compound, is_plain, level_at};
 use crate::ranges::{case_constant, cases_between, replace_apart};
-use bc_convert_tokens::{Dialect, Kind, Source};
+use bc_convert_tokens::{Dialect, Kind, Source, is_name_byte};
 use bc_word::Memory;
 
 /// How deep the parts of a source may nest: each part counts for some of its own.
@@ -72,6 +73,11 @@ fn is_no_command(kind: Kind) -> bool {
         || matches!(kind, Kind::And | Kind::Semicolon | Kind::Get | Kind::Header)
 }
 
+/// Whether an item of a list begins at an index: in front, behind a separator, or behind the colon of a case or a label.
+fn begins_item(source: Source<'_>, from: usize, at: usize) -> bool {
+    at == from || source.is_separated(at) || at > 0 && source.kind(at - 1) == Kind::Colon
+}
+
 /// The items of a list, from one index up to another one. A declaration behind commands gets a block of its own, which goes
 /// to the end of the list.
 #[cycle(walk)]
@@ -86,7 +92,7 @@ pub fn items(walk: Walk<'_>, notes: &mut Notes, from: usize, to: usize) -> Resul
         if at >= to {
             return Ok(());
         }
-        if at == from || source.is_separated(at) {
+        if begins_item(source, from, at) {
             let kind = source.kind(at);
             if has_commands && begins_declaration(kind) {
                 put_block(source, notes, from, at, to)?;
@@ -111,6 +117,7 @@ fn put_block(
         None => Ok(()),
         Some(false) => notes.complain(source, at, Fault::LateDeclaration),
         Some(true) => {
+            notes.note_block(LateBlock { from, at, to })?;
             notes.put_before(at, b"$( ")?;
             notes.put_before(to, b"$) ")
         }
@@ -289,6 +296,7 @@ fn entries(walk: Walk<'_>, notes: &mut Notes, at: usize, to: usize) -> Result<us
         } else if matches!(source.kind(next), Kind::Equal | Kind::Colon) {
             let start = behind(next, closing);
             let end = expression(walk.deeper(), notes, 2, start, closing)?;
+            tell_absolutes(source, notes, start, end)?;
             last = continued(source, start, end);
             entry = end.max(start);
         } else {
@@ -318,6 +326,7 @@ fn cases(walk: Walk<'_>, notes: &mut Notes, at: usize, to: usize) -> Result<usiz
             put_range(source, notes, (start, end), (from, last))?;
             end = last;
         }
+        tell_absolutes(source, notes, start, end)?;
         if source.kind(end) != Kind::Comma {
             return Ok(end);
         }
@@ -375,7 +384,10 @@ fn command(walk: Walk<'_>, notes: &mut Notes, at: usize, to: usize) -> Result<us
         finish(notes, start, further)?;
         end = operators(walk.deeper(), notes, 0, start, further.end, to)?;
     }
-    if has_byte && source.kind(end) == Kind::Assign {
+    if is_compound(source, end) {
+        notes.complain(source, end, Fault::OperatorInList)?;
+        end = behind(behind(end, to), to);
+    } else if has_byte && source.kind(end) == Kind::Assign {
         notes.complain(source, at, Fault::ByteInList)?;
     }
     Ok(end.max(behind(at, to)))
@@ -543,7 +555,10 @@ fn operand(
     let source = walk.source;
     let next = behind(at, to);
     match source.kind(at) {
-        Kind::Add => Ok(Operand::plain(expression(walk.deeper(), notes, 9, next, to)?)),
+        Kind::Add => {
+            drop_plus(source, notes, at)?;
+            Ok(Operand::plain(expression(walk.deeper(), notes, 9, next, to)?))
+        }
         Kind::Not => Ok(Operand::plain(expression(walk.deeper(), notes, 6, next, to)?)),
         Kind::Abs => Ok(Operand::plain(absolute(walk.deeper(), notes, at, to)?)),
         Kind::Bang | Kind::Address | Kind::Content => {
@@ -562,6 +577,21 @@ fn operand(
         kind if kind.can_be_operand() => selected(walk.deeper(), notes, at, next, to, calls_only),
         _ => Ok(Operand::plain(at)),
     }
+}
+
+/// Whether a token's last byte may stand in a name.
+fn ends_a_word(bytes: &[u8]) -> bool {
+    bytes.last().is_some_and(|byte| is_name_byte(*byte))
+}
+
+/// Takes out a sign that is `+`, where it is no operator between two operands.
+fn drop_plus(source: Source<'_>, notes: &mut Notes, at: usize) -> Result<(), Memory> {
+    if source.bytes(at) != b"+".as_slice() {
+        return Ok(());
+    }
+    let runs_on = at > 0 && source.gap(at).is_empty() && ends_a_word(source.bytes(at - 1));
+    let blank: &[u8] = if runs_on { b" " } else { b"" };
+    notes.replace(at, blank)
 }
 
 /// Whether `*(` behind an operand is a subscript.
@@ -639,45 +669,4 @@ fn absolute(walk: Walk<'_>, notes: &mut Notes, at: usize, to: usize) -> Result<u
     }
     put_absolute(source, notes, at, end)?;
     Ok(end)
-}
-
-/// Writes down that ABS stands at an index, and its operand behind it up to another one: the operand is worked out twice where
-/// it holds no call, and else kept in a variable of a VALOF.
-fn put_absolute(
-    source: Source<'_>,
-    notes: &mut Notes,
-    at: usize,
-    end: usize,
-) -> Result<(), Memory> {
-    let start = behind(at, end);
-    if !is_plain(source, start, end) {
-        let name = notes.fresh_name(source)?;
-        notes.replace(at, b"(VALOF $( LET ")?;
-        notes.put_behind(start, name.as_slice())?;
-        notes.put_behind(start, b" =")?;
-        notes.put_behind(end, b"; RESULTIS ")?;
-        put_choice(notes, end, name.as_slice())?;
-        notes.put_behind(end, b" ")?;
-        notes.put_behind(end, name.as_slice())?;
-        return notes.put_behind(end, b" $))");
-    }
-    if matches!(source.kind(start), Kind::Add | Kind::Not) {
-        notes.put_before(start, b"(")?;
-        notes.put_behind(end, b")")?;
-    }
-    let text = notes.rendered(source, start, end)?;
-    notes.replace(at, b"(")?;
-    put_choice(notes, start, text.as_slice())?;
-    if source.gap(start).is_empty() {
-        notes.put_behind(start, b" ")?;
-    }
-    notes.put_behind(end, b")")
-}
-
-/// Puts behind a token the test whether a value is negative, and the value that it has then without its sign.
-fn put_choice(notes: &mut Notes, end: usize, value: &[u8]) -> Result<(), Memory> {
-    notes.put_behind(end, value)?;
-    notes.put_behind(end, b"<0 -> -")?;
-    notes.put_behind(end, value)?;
-    notes.put_behind(end, b",")
 }

@@ -1,6 +1,6 @@
 /// A span of a text, from the byte `start` up to and without the byte `end`, and the bytes that stand for it. Where
 /// `start` and `end` are equal, bytes are put in and none is taken out.
-#[derive(Debug, Drop)]
+#[derive(Drop)]
 pub struct Replacement {
     pub start: usize,
     pub end: usize,

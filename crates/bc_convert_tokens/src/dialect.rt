@@ -5,10 +5,12 @@ use bc_word::Memory;
 use std::alloc::Global;
 
 /// What a source tells of the dialect that it is written in.
-#[derive(Clone, Copy, Debug, PartialEq, Eq)]
+#[derive(Clone, Copy)]
 pub struct Dialect {
     /// Reserved words stand in small letters.
     pub has_small_words: bool,
+    /// Names of the library stand in small letters.
+    pub has_small_library: bool,
     /// `*` and a round bracket right behind it are a subscript.
     pub has_star_subscripts: bool,
 }
@@ -17,11 +19,14 @@ impl Dialect {
     /// The dialect of a source whose words are not told apart yet.
     ///
     /// Reserved words stand in small letters where the source begins with one, or where `let` and a word stand side by side,
-    /// which is no part of a source in this dialect. `*(` is a subscript where something is assigned to one.
+    /// which is no part of a source in this dialect. The library's names stand in small letters where these do, where the
+    /// library's header does behind GET, or where `start` is declared and START isn't. `*(` is a subscript where something is
+    /// assigned to one.
     pub fn of(source: Source<'_>) -> Dialect {
         let has_small_words = begins_small(source) || has_small_let(source);
         Dialect {
             has_small_words,
+            has_small_library: has_small_words || has_small_library(source),
             has_star_subscripts: assigns_to_star(source),
         }
     }
@@ -47,6 +52,31 @@ fn has_small_let(source: Source<'_>) -> bool {
     false
 }
 
+/// Whether a string is the name of the library's header in small letters, with any ending.
+fn is_small_header(string: &[u8]) -> bool {
+    string == b"\"libhdr\"".as_slice() || string.starts_with(b"\"libhdr.".as_slice())
+}
+
+/// Whether the token at an index is LET or AND.
+fn is_let_or_and(source: Source<'_>, index: usize) -> bool {
+    let word = source.bytes(index);
+    is_same_word(word, b"LET") || is_same_word(word, b"AND")
+}
+
+/// Whether a routine of this name is declared.
+fn declares_routine(source: Source<'_>, name: &[u8]) -> bool {
+    (1..source.tokens.len()).any(|index| source.bytes(index) == name
+        && is_let_or_and(source, index - 1)
+        && source.kind(index.saturating_add(1)) == Kind::OpenRound)
+}
+
+/// Whether names of the library stand in small letters in a source whose reserved words are capitals.
+fn has_small_library(source: Source<'_>) -> bool {
+    let gets_header = (1..source.tokens.len()).any(|index| is_small_header(source.bytes(index))
+        && is_same_word(source.bytes(index - 1), b"GET"));
+    gets_header || declares_routine(source, b"start") && !declares_routine(source, b"START")
+}
+
 /// Whether a `*` and a round bracket stand side by side, without a blank between them.
 fn is_star_subscript(source: Source<'_>, star: usize) -> bool {
     source.kind(star) == Kind::Star
@@ -60,7 +90,10 @@ fn assigns_to_star(source: Source<'_>) -> bool {
         let closing = source.partner(star.saturating_add(1));
         if is_star_subscript(source, star)
             && source.kind(closing) == Kind::CloseRound
-            && source.kind(closing.saturating_add(1)) == Kind::Assign
+            && matches!(
+                source.kind(closing.saturating_add(1)),
+                Kind::Assign | Kind::Underline
+            )
         {
             return true;
         }
@@ -68,23 +101,82 @@ fn assigns_to_star(source: Source<'_>) -> bool {
     false
 }
 
+/// Whether the bracket at an index opens a list of GLOBAL, MANIFEST or STATIC.
+fn opens_entries(source: Source<'_>, index: usize) -> bool {
+    if index == 0 {
+        return false;
+    }
+    let word = source.bytes(index - 1);
+    is_same_word(word, b"GLOBAL")
+        || is_same_word(word, b"MANIFEST")
+        || is_same_word(word, b"STATIC")
+}
+
+/// Whether an index stands in a list of GLOBAL, MANIFEST or STATIC.
+fn is_in_entries(source: Source<'_>, index: usize) -> bool {
+    for back in 1..=index {
+        let at = index - back;
+        match source.kind(at) {
+            Kind::CloseSection | Kind::CloseSquare => return false,
+            Kind::OpenSection | Kind::OpenSquare => return opens_entries(source, at),
+            _ => {}
+        }
+    }
+    false
+}
+
+/// Whether an entry of such a list can begin at an index: behind the bracket, a semicolon or a line break, or behind a comma
+/// where a value follows.
+fn begins_entry(source: Source<'_>, index: usize) -> bool {
+    if index == 0 {
+        return false;
+    }
+    match source.kind(index - 1) {
+        Kind::OpenSection | Kind::OpenSquare | Kind::Semicolon => true,
+        Kind::Comma => source.kind(index.saturating_add(1)) == Kind::Equal,
+        Kind::Word | Kind::Number | Kind::Character | Kind::CloseRound | Kind::Query => {
+            source.gap(index).contains(&b'\n')
+        }
+        _ => false,
+    }
+}
+
+/// Whether the tokens in front of an index, back to LET or AND, are words, commas and opening brackets, the last one no word.
+fn is_in_heading(source: Source<'_>, index: usize) -> bool {
+    if index == 0 || source.kind(index - 1) == Kind::Word {
+        return false;
+    }
+    for back in 1..=index {
+        let at = index - back;
+        match source.kind(at) {
+            Kind::Word if is_let_or_and(source, at) => return true,
+            Kind::Word | Kind::Comma | Kind::OpenRound => {}
+            _ => return false,
+        }
+    }
+    false
+}
+
+/// Whether the word at an index is declared there, if it is a name.
+fn is_declared_at(source: Source<'_>, index: usize) -> bool {
+    if index == 0 {
+        return false;
+    }
+    is_let_or_and(source, index - 1)
+        || is_same_word(source.bytes(index - 1), b"FOR")
+        || is_in_heading(source, index)
+        || begins_entry(source, index) && is_in_entries(source, index)
+}
+
 /// Whether the word at an index, which is of a kind in old dialects, is a name there all the same: it is declared or assigned
 /// to, or what an operator needs does not follow it.
 fn is_used_as_name(source: Source<'_>, index: usize, kind: Kind) -> bool {
-    let before = if index == 0 {
-        &[]
-    } else {
-        source.bytes(index - 1)
-    };
-    let is_declared = is_same_word(before, b"LET")
-        || is_same_word(before, b"AND")
-        || is_same_word(before, b"FOR");
     let is_operator = !matches!(kind, Kind::Constant | Kind::Joint);
     match source.kind(index.saturating_add(1)) {
         Kind::Assign | Kind::Colon => true,
         Kind::Comma | Kind::CloseRound | Kind::Semicolon | Kind::Equal | Kind::Relation =>
-            is_declared || is_operator,
-        _ => is_declared,
+            is_operator || is_declared_at(source, index),
+        _ => is_declared_at(source, index),
     }
 }
 

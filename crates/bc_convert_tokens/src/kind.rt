@@ -1,5 +1,5 @@
 /// What a token of an old source is, as far as a conversion has to know it.
-#[derive(Clone, Copy, Debug, PartialEq, Eq)]
+#[derive(Clone, Copy)]
 pub enum Kind {
     /// A word of which it is not decided yet whether it is a name.
     Word,

@@ -2,7 +2,7 @@ use crate::bytes::span;
 use crate::kind::Kind;
 
 /// A token: what it is, its first byte and the byte behind it, and whether a line break stands in front of it.
-#[derive(Clone, Copy, Debug)]
+#[derive(Clone, Copy)]
 pub struct Token {
     pub kind: Kind,
     pub start: usize,
@@ -11,7 +11,7 @@ pub struct Token {
 }
 
 /// A text, its tokens, and for each token that opens a bracket the index of the one that closes it.
-#[derive(Clone, Copy, Debug)]
+#[derive(Clone, Copy)]
 pub struct Source<'s> {
     pub text: &'s [u8],
     pub tokens: &'s [Token],

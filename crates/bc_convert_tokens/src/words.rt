@@ -1,7 +1,7 @@
 use crate::kind::Kind;
 
 /// A word that is no name in an old dialect: what it is, how this dialect spells it, and whether it may be a name here.
-#[derive(Clone, Copy, Debug)]
+#[derive(Clone, Copy)]
 pub struct ReservedWord {
     pub text: &'static [u8],
     pub kind: Kind,

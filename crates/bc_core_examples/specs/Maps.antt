@@ -1,4 +1,4 @@
--- Worked examples: a lawful map, and four unlawful ones.
+-- Worked examples: a lawful map, and five unlawful ones.
 use Rattle.std.specs.Prelude.{◌≡◌, ◌⊎◌, ℕ, ◌==◌, cond, ◌≤◌, List, [], ◌∷◌, Some, All}
 use Rattle.std.proofs.Common.{inl, inr, ⊎_elim, refl, arith}
 use Rattle.std.proofs.lemmas.List.Elements.{All-cons, All-nil, All-head, All-tail}
@@ -44,6 +44,13 @@ over_the_routine h =
 over_the_primitives : ¬ IsMap one_section (with_places 545 547 560)
 over_the_primitives h =
     never (All-head (Apart (range 520 26)) (range 545 1) (range 547 3 ∷ []) h.apart.0) (λ a. omega (arith, a)) (λ b. omega (arith, b))
+
+-- the routine lies over the last global, where it touches nothing else
+over_the_globals : ¬ IsMap one_section (with_places 519 547 560)
+over_the_globals h =
+    let behind = All-tail (Inside 560) (range 520 26) (range 519 1 ∷ range 547 3 ∷ []) h.inside in
+    let first = All-head (Inside 560) (range 519 1) (range 547 3 ∷ []) behind in
+    omega (arith, first.0)
 
 -- the stack begins within the table
 under_the_stack : ¬ IsMap one_section (with_places 546 547 549)

@@ -1,2 +1,5 @@
 pub mod Forms
+pub mod Roots
 pub mod Taking
+pub mod Sections
+pub mod Words

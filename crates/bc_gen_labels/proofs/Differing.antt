@@ -138,7 +138,7 @@ mutual
       let E1 = in_list k is (in_declarations E at s ds) in
       let at2 = behind_labels at1 (labels_in is) in
       let s1 = level_behind E at s ds in
-      items_differ false faults.none_met W E1 k at2 is s1 (none_right (along.declarations_fault true E at ds s) (items_fault false faults.none_met W E1 at2 is s1) h)
+      items_differ false faults.none_met W E1 k at2 is s1 (none_right (along.declarations_fault E at ds s) (items_fault false faults.none_met W E1 at2 is s1) h)
 
   items_differ : (cases : Bool) (M : Met) (W : Allowed) (E : Env) (k : ℕ) (at : Numbers) (is : tree.Items) (s : ℕ) → items_fault cases M W E at is s ≡ None → items_cases_differ (core_items E k at is s) ≡ true
   items_differ cases M W E k at tree.no_items s h = refl

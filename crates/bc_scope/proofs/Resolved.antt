@@ -10,6 +10,7 @@ use Rattle.bc_parse_tree.specs.Size.{declarations_size}
 use Rattle.bc_scope_names.specs.declared.error.ScopeError.{ScopeError}
 use Rattle.bc_scope_names.specs.declared.error.ScopeError.TheVariants as code
 use Rattle.bc_scope_faults.specs.Judged.{IsFault}
+use Rattle.bc_scope_defs.specs.Scope.{nothing_known}
 use Rattle.bc_scope_defs.specs.Found.{Thing, AValof, ARoutine, Data, section_start, found_in_section}
 use Rattle.bc_scope_defs.specs.Translation.{places_of, core_of}
 use Rattle.bc_scope_defs.specs.Faults.{Fault, ATooManyPlaces, unless, or_else, places_among, places_fault, section_fault}
@@ -19,14 +20,14 @@ use Rattle.bc_scope_laws.proofs.Fitting.{sections_fit}
 
 -- the first fault but for the number of places, as it is found
 abbrev pub judged : Declarations → Option Fault
-judged ds = or_else (declarations_fault false [] section_start ds 0) (frames_fault (found_in_section ds))
+judged ds = or_else (declarations_fault nothing_known section_start ds 0) (frames_fault (found_in_section ds))
 
 grouped : (a b c : Option Fault) → or_else a (or_else b c) ≡ or_else (or_else a b) c
 grouped None b c = refl
 grouped (Some f) b c = refl
 
 pub places_last : (ds : Declarations) → section_fault ds ≡ or_else (judged ds) (places_fault (found_in_section ds))
-places_last ds = sym (same_section_fault ds) ∙ grouped (declarations_fault false [] section_start ds 0) (frames_fault (found_in_section ds)) (places_fault (found_in_section ds))
+places_last ds = sym (same_section_fault ds) ∙ grouped (declarations_fault nothing_known section_start ds 0) (frames_fault (found_in_section ds)) (places_fault (found_in_section ds))
 
 first : (a b : Option Fault) (f : Fault) → a ≡ Some f → or_else a b ≡ Some f
 first a b f h = ap (λ x. or_else x b) h

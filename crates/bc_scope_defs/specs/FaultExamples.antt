@@ -5,10 +5,10 @@ use Rattle.std.proofs.Common.{refl}
 use Rattle.bc_parse_tree.specs.declared.tree.Storage.TheVariants as storage
 use Rattle.bc_parse_tree.specs.declared.tree.Dyadic.TheVariants as dyadic
 use Rattle.bc_parse_tree.specs.declared.tree.Monadic.TheVariants as monadic
-use Rattle.bc_parse_tree.specs.Tree.{Exp, Block, Declarations, Labelled, Labels_alone, Item, no_labels, label, Command}
+use Rattle.bc_parse_tree.specs.Tree.{Exp, Block, Declarations, Definition, Labelled, Labels_alone, Item, no_labels, label, Command}
 use Rattle.bc_parse_tree.specs.Tree as tree
-use Rattle.bc_scope_defs.specs.Found.{Thing, Data, AStatic}
-use Rattle.bc_scope_defs.specs.Faults.{Fault, AnUndeclared, ADeclaredTwice, ADynamicFree, ANotConstant, AGlobalNumber, ANotAssignable, AMisplaced, AFrameTooLarge, ACaseTwice, ATooManyPlaces, section_fault, places_fault}
+use Rattle.bc_scope_defs.specs.Found.{Thing, Data, AStatic, found_in_section}
+use Rattle.bc_scope_defs.specs.Faults.{Fault, AnUndeclared, ADeclaredTwice, ADynamicFree, ANotConstant, AGlobalNumber, ANotAssignable, AMisplaced, AFrameTooLarge, ACaseTwice, ATooManyPlaces, or_else, section_fault, frames_fault, places_fault}
 use Rattle.bc_scope_defs.specs.Examples.{a, b, f, g, l, v, x, y, start, of, number, two, list, set, do_call, plain, labelled, with_case, items, declarations, body, commands, lets, variables, variable, constants, alone}
 
 -- of `LET START() BE ..`
@@ -63,6 +63,28 @@ dynamic_free = refl
 own_parameter : section_fault (nested_routine (x ∷ [])) ≡ None
 own_parameter = refl
 
+-- DynamicFree wants an enclosing routine: `LET F() = X AND X = 1` outside routines is at fault at X = 1 alone, and so is
+-- `LET F() BE $( LET H() = X; H() $) AND X = 1`
+outside_and_used : section_fault (declarations (lets (tree.Function f [] (of x) ∷ variables (x ∷ []) (number 1 ∷ []) ∷ []) ∷ [])) ≡ Some AMisplaced
+outside_and_used = refl
+
+outside_and_set :
+    section_fault (declarations (lets (tree.Routine f [] (commands (set x (number 2) ∷ [])) ∷ variables (x ∷ []) (number 1 ∷ []) ∷ []) ∷ [])) ≡ Some AMisplaced
+outside_and_set = refl
+
+outside_and_nested :
+    section_fault (declarations (lets (tree.Routine f [] (body (lets (tree.Function g [] (of x) ∷ []) ∷ []) (plain (do_call g []) ∷ []))
+    ∷ variables (x ∷ []) (number 1 ∷ []) ∷ []) ∷ [])) ≡ Some AMisplaced
+outside_and_nested = refl
+
+-- in a routine the same is DynamicFree
+inside_and_used : fault_in (body (lets (tree.Function f [] (of x) ∷ variables (x ∷ []) (number 1 ∷ []) ∷ []) ∷ []) []) ≡ Some (ADynamicFree x)
+inside_and_used = refl
+
+-- a name's meaning is looked for in text order: `LET A = Y AND A = 1`
+text_order : fault_in (body (lets (variables (a ∷ []) (of y ∷ []) ∷ variables (a ∷ []) (number 1 ∷ []) ∷ []) ∷ []) []) ≡ Some (AnUndeclared y)
+text_order = refl
+
 -- Constants
 
 -- `MANIFEST $( A = 1/0 $)` and `MANIFEST $( A = 1/1 $)`
@@ -86,6 +108,66 @@ constant_behind = refl
 vector_of_itself : fault_in (body (lets (tree.Vector v (of v) ∷ []) ∷ []) []) ≡ Some ANotConstant
 vector_of_itself = refl
 
+-- an own name in a constant is what it will be: a static, a global and a variable are cells, which `@` and `:=` may take, and the whole is no
+-- constant; a manifest and a routine are none
+abbrev address_of : Exp → Exp
+address_of e = tree.Monadic monadic.Address e
+
+own_static : section_fault (declarations (constants storage.Static ((a, address_of (of a)) ∷ []) ∷ [])) ≡ Some ANotConstant
+own_static = refl
+
+own_global : section_fault (declarations (constants storage.Global ((a, address_of (of a)) ∷ []) ∷ [])) ≡ Some ANotConstant
+own_global = refl
+
+own_manifest : section_fault (manifest (address_of (of a))) ≡ Some ANotAssignable
+own_manifest = refl
+
+-- of a later entry too
+later_static : section_fault (declarations (constants storage.Static ((a, address_of (of b)) ∷ (b, number 1) ∷ []) ∷ [])) ≡ Some ANotConstant
+later_static = refl
+
+-- `LET V = VEC @V`, `LET V = VEC VALOF $( V := 1 $)`, `LET V = VEC @F AND F() = 1`
+own_vector : fault_in (body (lets (tree.Vector v (address_of (of v)) ∷ []) ∷ []) []) ≡ Some ANotConstant
+own_vector = refl
+
+own_vector_set : fault_in (body (lets (tree.Vector v (tree.Valof (commands (set v (number 1) ∷ []))) ∷ []) ∷ []) []) ≡ Some ANotConstant
+own_vector_set = refl
+
+own_routine : fault_in (body (lets (tree.Vector v (address_of (of f)) ∷ tree.Function f [] (number 1) ∷ []) ∷ []) []) ≡ Some ANotAssignable
+own_routine = refl
+
+-- a routine within the constant sees the variable as another's
+own_vector_in_a_routine :
+    fault_in (body (lets (tree.Vector v (tree.Valof (body (lets (tree.Function f [] (of v) ∷ []) ∷ []) [])) ∷ []) ∷ []) []) ≡ Some (ADynamicFree v)
+own_vector_in_a_routine = refl
+
+-- a label in a constant is no fault of its own, and neither is `@` of it
+abbrev label_in_vector : Exp → Option Fault
+label_in_vector k = fault_in (body [] (labelled l (tree.Compound (body (lets (tree.Vector v k ∷ []) ∷ []) [])) ∷ []))
+
+label_in_constant : label_in_vector (of l) ≡ Some ANotConstant
+label_in_constant = refl
+
+address_of_label : label_in_vector (address_of (of l)) ≡ Some ANotConstant
+address_of_label = refl
+
+-- else it is no value
+label_is_no_value : fault_in (body (variable x (number 0) ∷ []) (labelled l (set x (address_of (of l))) ∷ [])) ≡ Some AMisplaced
+label_is_no_value = refl
+
+-- a K that is no constant: `FOR X = 1 TO 2 BY Y`, `CASE Y:`, `TABLE Y`, where Y is a variable
+abbrev with_variable : Command → Option Fault
+with_variable c = fault_in (body (variable y (number 0) ∷ []) (plain c ∷ []))
+
+by_a_variable : with_variable (tree.ForBy x (number 1) (number 2) (of y) (commands [])) ≡ Some ANotConstant
+by_a_variable = refl
+
+case_of_a_variable : with_variable (tree.SwitchOn (number 1) (items (Labelled (label (tree.Case (of y)) no_labels) tree.Return ∷ []))) ≡ Some ANotConstant
+case_of_a_variable = refl
+
+table_of_a_variable : with_variable (set y (tree.Table (list (of y ∷ [])))) ≡ Some ANotConstant
+table_of_a_variable = refl
+
 -- what is undeclared in a constant comes before that it is none
 undeclared_in_constant : section_fault (manifest (two dyadic.Add (of y) (two dyadic.Divide (number 1) (number 0)))) ≡ Some (AnUndeclared y)
 undeclared_in_constant = refl
@@ -106,6 +188,31 @@ assignable = refl
 
 sides_first : fault_of (tree.Assign (list (tree.True ∷ [])) (list (of y ∷ []))) ≡ Some (AnUndeclared y)
 sides_first = refl
+
+-- `@X` of a variable, `@!1`, `@(1!2)`, and of what has no cell
+abbrev address_taken : Exp → Option Fault
+address_taken e = fault_in (body (variable x (number 0) ∷ []) (plain (set x (address_of e)) ∷ []))
+
+address_of_variable : address_taken (of x) ≡ None
+address_of_variable = refl
+
+address_of_content : address_taken (tree.Monadic monadic.Load (number 1)) ≡ None
+address_of_content = refl
+
+address_of_indexed : address_taken (two dyadic.Index (number 1) (number 2)) ≡ None
+address_of_indexed = refl
+
+address_of_number : address_taken (number 1) ≡ Some ANotAssignable
+address_of_number = refl
+
+address_of_routine : address_taken (of start) ≡ Some ANotAssignable
+address_of_routine = refl
+
+address_of_address : address_taken (address_of (of x)) ≡ Some ANotAssignable
+address_of_address = refl
+
+address_of_sum : address_taken (two dyadic.Add (of x) (number 1)) ≡ Some ANotAssignable
+address_of_sum = refl
 
 -- Places of commands
 
@@ -129,13 +236,63 @@ result_of_no_valof = refl
 end_case_in_a_loop : fault_of (tree.SwitchOn (number 1) (items (with_case 1 (tree.Repeat tree.EndCase) ∷ []))) ≡ None
 end_case_in_a_loop = refl
 
--- a variable outside routines
+-- a variable outside routines: also in a VALOF there, in a constant too
 outside : section_fault (declarations (variable x (number 1) ∷ [])) ≡ Some AMisplaced
 outside = refl
+
+outside_in_valof : section_fault (declarations (variable x (tree.Valof (body (variable y (number 1) ∷ []) (plain (do_call g []) ∷ []))) ∷ [])) ≡ Some AMisplaced
+outside_in_valof = refl
+
+outside_in_constant : section_fault (manifest (tree.Valof (body (variable y (number 1) ∷ []) []))) ≡ Some AMisplaced
+outside_in_constant = refl
+
+-- in a routine of such a VALOF it is none
+outside_in_routine :
+    section_fault (manifest (tree.Valof (body (lets (tree.Routine f [] (body (variable y (number 1) ∷ []) []) ∷ []) ∷ []) []))) ≡ Some ANotConstant
+outside_in_routine = refl
+
+-- FOR's start, limit and K are looked up outside, and its variable is known in the body alone
+abbrev counts : (start limit : Exp) → Command → Option Fault
+counts a z c = fault_of (tree.For x a z (commands (c ∷ [])))
+
+for_in_start : counts (of x) (number 2) tree.Return ≡ Some (AnUndeclared x)
+for_in_start = refl
+
+for_in_limit : counts (number 1) (of x) tree.Return ≡ Some (AnUndeclared x)
+for_in_limit = refl
+
+for_in_step : fault_of (tree.ForBy x (number 1) (number 2) (of x) (commands [])) ≡ Some (AnUndeclared x)
+for_in_step = refl
+
+for_in_body : counts (number 1) (number 2) (set x (number 3)) ≡ None
+for_in_body = refl
+
+for_behind_body : fault_in (body [] (plain (tree.For x (number 1) (number 2) (commands [])) ∷ plain (set x (number 1)) ∷ [])) ≡ Some (AnUndeclared x)
+for_behind_body = refl
+
+-- BREAK in a SWITCHON in a loop is lawful
+break_in_switch_in_loop : fault_of (tree.Repeat (tree.SwitchOn (number 1) (items (with_case 1 tree.Break ∷ [])))) ≡ None
+break_in_switch_in_loop = refl
+
+break_in_switch : fault_of (tree.SwitchOn (number 1) (items (with_case 1 tree.Break ∷ []))) ≡ Some AMisplaced
+break_in_switch = refl
+
+loop_alone : fault_of tree.Loop ≡ Some AMisplaced
+loop_alone = refl
+
+end_case_alone : fault_of tree.EndCase ≡ Some AMisplaced
+end_case_alone = refl
 
 -- CASE in a list that is no SWITCHON's own, CASE 1 twice, DEFAULT twice
 case_in_a_block : fault_in (body [] (with_case 1 tree.Return ∷ [])) ≡ Some AMisplaced
 case_in_a_block = refl
+
+-- deeper in a SWITCHON too
+case_deeper : fault_of (tree.SwitchOn (number 1) (items (plain (tree.Compound (body [] (with_case 1 tree.Return ∷ []))) ∷ []))) ≡ Some AMisplaced
+case_deeper = refl
+
+default_in_a_block : fault_in (body [] (Labelled (label tree.Default no_labels) tree.Return ∷ [])) ≡ Some AMisplaced
+default_in_a_block = refl
 
 case_twice : fault_of (tree.SwitchOn (number 3) (items (with_case 1 tree.EndCase ∷ with_case 1 tree.EndCase ∷ []))) ≡ Some ACaseTwice
 case_twice = refl
@@ -172,14 +329,34 @@ goto_out_of_valof = refl
 goto_routine : fault_of (tree.Goto start) ≡ Some AMisplaced
 goto_routine = refl
 
+-- a variable, also of an enclosing routine
+goto_variable : fault_in (body (variable x (number 0) ∷ []) (plain (tree.Goto x) ∷ [])) ≡ Some AMisplaced
+goto_variable = refl
+
+goto_variable_of_another : fault_in (body (variable x (number 0) ∷ lets (tree.Routine f [] (commands (tree.Goto x ∷ [])) ∷ []) ∷ []) []) ≡ Some AMisplaced
+goto_variable_of_another = refl
+
+-- a label isn't known in its own block's declarations; a label of a VALOF outside routines is no enclosing routine's
+label_in_declarations : fault_in (body (variable x (of l) ∷ []) (labelled l tree.Return ∷ [])) ≡ Some (AnUndeclared l)
+label_in_declarations = refl
+
+abbrev goes_out : Definition
+goes_out = tree.Routine f [] (commands (tree.Goto l ∷ []))
+
+label_outside : section_fault (manifest (tree.Valof (body [] (labelled l (tree.Compound (body (lets (goes_out ∷ []) ∷ []) [])) ∷ [])))) ≡ Some AMisplaced
+label_outside = refl
+
 label_is_set : fault_in (body [] (labelled l (set l (number 1)) ∷ [])) ≡ Some AMisplaced
 label_is_set = refl
 
 -- Sizes
 
+abbrev with_vector : ℕ → Declarations
+with_vector k = alone (body (lets (tree.Vector v (number k) ∷ []) ∷ []) [])
+
 -- `LET V = VEC 32764` first in START is accepted, `VEC 32765` isn't
 abbrev vector : ℕ → Option Fault
-vector k = fault_in (body (lets (tree.Vector v (number k) ∷ []) ∷ []) [])
+vector k = section_fault (with_vector k)
 
 widest_vector : vector 32764 ≡ None
 widest_vector = refl
@@ -197,3 +374,7 @@ most_places = refl
 
 too_many_places : places_fault (statics 8001) ≡ Some ATooManyPlaces
 too_many_places = refl
+
+-- a frame that is too large comes before too many places
+large_and_many : or_else (frames_fault (found_in_section (with_vector 32765))) (places_fault (statics 8001)) ≡ Some AFrameTooLarge
+large_and_many = refl

@@ -7,9 +7,9 @@ use Rattle.bc_parse_tree.specs.declared.tree.Monadic.{Monadic}
 use Rattle.bc_parse_tree.specs.declared.tree.Monadic.TheVariants as monadic
 use Rattle.bc_parse_tree.specs.Tree.{Exp, Exps, none, more, Block, block, Declaration, Declarations, no_declarations, declaration, Entries, no_entries, entry, Definition, Definitions, no_definitions, definition, Item, Labelled, Labels_alone, Items, no_items, item, Label, Labels, no_labels, label, Command}
 use Rattle.bc_parse_tree.specs.Tree as tree
-use Rattle.bc_scope_defs.specs.Scope.{Meant, Constant, Pending, Static, Global, Routine, Variable, OuterVariable, OuterLabel, LabelOutside, Undeclared, Env, Name, is_name, meant_by}
+use Rattle.bc_scope_defs.specs.Scope.{Meant, Constant, Pending, Static, Global, Routine, Variable, OuterVariable, OuterLabel, StrayVariable, StrayLabel, LabelOutside, Undeclared, Env, nothing_known, Name, is_name, meant_by}
 use Rattle.bc_scope_defs.specs.Scope as scope
-use Rattle.bc_scope_defs.specs.Scoping.{constant, constant_in, pending, in_entry, names_of, before_let, in_for, in_list, in_valof}
+use Rattle.bc_scope_defs.specs.Scoping.{constant, constant_in, pending, in_entry, names_of, in_for, in_list, in_valof}
 use Rattle.bc_scope_defs.specs.Found.{in_parameters, Thing, AValof, ARoutine, Data, section_start, found_in_section}
 use Rattle.bc_scope_defs.specs.Frames.{known_behind, known_behind_all, frame_of}
 
@@ -60,6 +60,7 @@ name_fault c n Undeclared = Some (AnUndeclared n)
 name_fault c n OuterVariable = Some (ADynamicFree n)
 name_fault c n OuterLabel = Some (ADynamicFree n)
 name_fault c n (scope.Label l) = unless c AMisplaced
+name_fault c n StrayLabel = unless c AMisplaced
 name_fault c n LabelOutside = unless c AMisplaced
 name_fault c n _ = None
 
@@ -77,6 +78,7 @@ abbrev pub is_cell : Meant → Bool
 is_cell (Static m) = true
 is_cell (Global n) = true
 is_cell (Variable k) = true
+is_cell StrayVariable = true
 is_cell _ = false
 
 abbrev pub has_cell : Env → Exp → Bool
@@ -85,9 +87,23 @@ has_cell E (tree.Monadic monadic.Load e) = true
 has_cell E (tree.Dyadic dyadic.Index l r) = true
 has_cell E _ = false
 
-abbrev pub address_fault : Env → Monadic → Exp → Option Fault
-address_fault E monadic.Address e = unless (has_cell E e) ANotAssignable
-address_fault E _ e = None
+abbrev pub is_label : Meant → Bool
+is_label (scope.Label l) = true
+is_label StrayLabel = true
+is_label LabelOutside = true
+is_label _ = false
+
+abbrev pub names_label : Env → Exp → Bool
+names_label E (tree.Name n) = is_label (meant_by E n)
+names_label E _ = false
+
+-- `@L` in a constant is as L alone: no fault of its own
+abbrev pub has_address : (constant : Bool) → Env → Exp → Bool
+has_address c E e = has_cell E e || (c && names_label E e)
+
+abbrev pub address_fault : (constant : Bool) → Env → Monadic → Exp → Option Fault
+address_fault c E monadic.Address e = unless (has_address c E e) ANotAssignable
+address_fault c E _ e = None
 
 abbrev pub all_have_cells : Env → Exps → Bool
 all_have_cells E none = true
@@ -148,7 +164,7 @@ abbrev mutual
   fault c E (tree.Name n) = name_fault c n (meant_by E n)
   fault c E (tree.Table ks) = constants_fault E ks
   fault c E (tree.Valof b) = block_fault allowed_in_valof (in_valof E) b
-  fault c E (tree.Monadic m e) = or_else (fault c E e) (address_fault E m e)
+  fault c E (tree.Monadic m e) = or_else (fault c E e) (address_fault c E m e)
   fault c E (tree.Dyadic o l r) = or_else (fault c E l) (fault c E r)
   fault c E (tree.Condition t x y) = or_else (fault c E t) (or_else (fault c E x) (fault c E y))
   fault c E (tree.Call f es) = or_else (fault c E f) (all_fault c E es)
@@ -168,28 +184,28 @@ abbrev mutual
       or_else (twice_fault ns n) (or_else (or_else (fault true E k) (not_constant E k)) (or_else (entry_fault s E n k)
       (entries_fault s (ns ++ (n ∷ [])) es (in_entry s section_start n k E))))
 
-  -- inside: whether this is inside a block, where variables may stand; before: the names of the LET before these
-  pub definition_fault : (inside : Bool) → (before : List Name) → (constants names : Env) → Definition → Option Fault
-  definition_fault i ns B E (tree.Variables xs es) = or_else (all_twice_fault ns xs) (or_else (all_fault false E es) (unless i AMisplaced))
-  definition_fault i ns B E (tree.Vector n k) = or_else (twice_fault ns n) (or_else (or_else (fault true B k) (not_constant B k)) (unless i AMisplaced))
-  definition_fault i ns B E (tree.Function n ps e) = or_else (twice_fault ns n) (or_else (all_twice_fault [] ps) (fault false (in_parameters ps E) e))
-  definition_fault i ns B E (tree.Routine n ps b) =
+  -- before: the names of the LET before these; a variable stands inside a routine
+  pub definition_fault : (before : List Name) → Env → Definition → Option Fault
+  definition_fault ns E (tree.Variables xs es) = or_else (all_twice_fault ns xs) (or_else (all_fault false E es) (unless E.inside AMisplaced))
+  definition_fault ns E (tree.Vector n k) = or_else (twice_fault ns n) (or_else (or_else (fault true E k) (not_constant E k)) (unless E.inside AMisplaced))
+  definition_fault ns E (tree.Function n ps e) = or_else (twice_fault ns n) (or_else (all_twice_fault [] ps) (fault false (in_parameters ps E) e))
+  definition_fault ns E (tree.Routine n ps b) =
       or_else (twice_fault ns n) (or_else (all_twice_fault [] ps) (block_fault allowed_in_routine (in_parameters ps E) b))
 
-  pub definitions_fault : (inside : Bool) → (before : List Name) → (constants names : Env) → Definitions → Option Fault
-  definitions_fault i ns B E no_definitions = None
-  definitions_fault i ns B E (definition d ds) = or_else (definition_fault i ns B E d) (definitions_fault i (ns ++ names_of d) B E ds)
+  pub definitions_fault : (before : List Name) → Env → Definitions → Option Fault
+  definitions_fault ns E no_definitions = None
+  definitions_fault ns E (definition d ds) = or_else (definition_fault ns E d) (definitions_fault (ns ++ names_of d) E ds)
 
-  pub declaration_fault : (inside : Bool) → Env → Declaration → Option Fault
-  declaration_fault i E (tree.Constants k es) = entries_fault k [] es (pending es E)
-  declaration_fault i E (tree.Let ds) = definitions_fault i [] (before_let ds E) (known_behind E (tree.Let ds)) ds
+  pub declaration_fault : Env → Declaration → Option Fault
+  declaration_fault E (tree.Constants k es) = entries_fault k [] es (pending k es E)
+  declaration_fault E (tree.Let ds) = definitions_fault [] (known_behind E (tree.Let ds)) ds
 
-  pub declarations_fault : (inside : Bool) → Env → Declarations → Option Fault
-  declarations_fault i E no_declarations = None
-  declarations_fault i E (declaration d ds) = or_else (declaration_fault i E d) (declarations_fault i (known_behind E d) ds)
+  pub declarations_fault : Env → Declarations → Option Fault
+  declarations_fault E no_declarations = None
+  declarations_fault E (declaration d ds) = or_else (declaration_fault E d) (declarations_fault (known_behind E d) ds)
 
   pub block_fault : Allowed → Env → Block → Option Fault
-  block_fault W E (block ds is) = or_else (declarations_fault true E ds) (items_fault false none_met W (in_list 0 is (known_behind_all E ds)) is)
+  block_fault W E (block ds is) = or_else (declarations_fault E ds) (items_fault false none_met W (in_list 0 is (known_behind_all E ds)) is)
 
   pub label_fault : (cases : Bool) → Met → Env → Label → Option Fault
   label_fault cases M E (tree.Case k) = or_else (or_else (fault true E k) (not_constant E k)) (case_fault cases M (constant E k))
@@ -252,4 +268,4 @@ places_fault things = unless (nat_le (places_among things) 8000) ATooManyPlaces
 abbrev pub section_fault : Declarations → Option Fault
 section_fault ds =
     let things = found_in_section ds in
-    or_else (declarations_fault false [] ds) (or_else (frames_fault things) (places_fault things))
+    or_else (declarations_fault nothing_known ds) (or_else (frames_fault things) (places_fault things))

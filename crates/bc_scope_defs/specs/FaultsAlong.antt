@@ -4,7 +4,7 @@ use Rattle.bc_parse_tree.specs.declared.tree.Storage.{Storage}
 use Rattle.bc_parse_tree.specs.Tree.{Exp, Exps, none, more, Block, block, Declaration, Declarations, no_declarations, declaration, Entries, no_entries, entry, Definition, Definitions, no_definitions, definition, Item, Labelled, Labels_alone, Items, no_items, item, Label, Labels, no_labels, label, Command}
 use Rattle.bc_parse_tree.specs.Tree as tree
 use Rattle.bc_core.specs.Level.{operand_level, argument_level, routine_level, level_in_for, level_behind_parameters}
-use Rattle.bc_scope_defs.specs.Scope.{Env, Name, meant_by, Numbers, behind_place, behind_valof, behind_labels}
+use Rattle.bc_scope_defs.specs.Scope.{Env, nothing_known, Name, meant_by, Numbers, behind_place, behind_valof, behind_labels}
 use Rattle.bc_scope_defs.specs.Numbering.{behind_entry, behind, behind_all, behind_declarations, behind_declaration, behind_definition, behind_command, behind_block, labels_in}
 use Rattle.bc_scope_defs.specs.Scoping.{constant, pending, in_entry, names_of, count, cells_of_all, before_let, in_let, in_declaration, in_declarations, cells_in, level_behind, in_for, in_list, in_valof}
 use Rattle.bc_scope_defs.specs.Sides.{side_levels}
@@ -17,7 +17,7 @@ abbrev mutual
   fault c E at (tree.Name n) s = name_fault c n (meant_by E n)
   fault c E at (tree.Table ks) s = constants_fault E at ks
   fault c E at (tree.Valof b) s = block_fault allowed_in_valof (in_valof E) (behind_valof at) b s
-  fault c E at (tree.Monadic m e) s = or_else (fault c E at e s) (address_fault E m e)
+  fault c E at (tree.Monadic m e) s = or_else (fault c E at e s) (address_fault c E m e)
   fault c E at (tree.Dyadic o l r) s = or_else (fault c E at l (operand_level s)) (fault c E (behind at l) r (operand_level s))
   fault c E at (tree.Condition t x y) s =
       let behind_test = behind at t in or_else (fault c E at t s) (or_else (fault c E behind_test x s) (fault c E (behind behind_test x) y s))
@@ -47,33 +47,33 @@ abbrev mutual
       or_else (twice_fault ns n) (or_else (or_else (fault true E at k 0) (not_constant E k)) (or_else (entry_fault s E n k)
       (entries_fault s (ns ++ (n ∷ [])) (behind_entry s at) es (in_entry s at n k E))))
 
-  pub definition_fault : (inside : Bool) → (before : List Name) → (constants names : Env) → Numbers → Definition → (s : ℕ) → Option Fault
-  definition_fault i ns B E at (tree.Variables xs es) s = or_else (all_twice_fault ns xs) (or_else (initials_fault E at es s) (unless i AMisplaced))
-  definition_fault i ns B E at (tree.Vector n k) s =
-      or_else (all_twice_fault ns (n ∷ [])) (or_else (or_else (fault true B at k 0) (not_constant B k)) (unless i AMisplaced))
-  definition_fault i ns B E at (tree.Function n ps e) s =
+  pub definition_fault : (before : List Name) → Env → Numbers → Definition → (s : ℕ) → Option Fault
+  definition_fault ns E at (tree.Variables xs es) s = or_else (all_twice_fault ns xs) (or_else (initials_fault E at es s) (unless E.inside AMisplaced))
+  definition_fault ns E at (tree.Vector n k) s =
+      or_else (all_twice_fault ns (n ∷ [])) (or_else (or_else (fault true E at k 0) (not_constant E k)) (unless E.inside AMisplaced))
+  definition_fault ns E at (tree.Function n ps e) s =
       or_else (all_twice_fault ns (n ∷ [])) (or_else (all_twice_fault [] ps) (fault false (in_parameters ps E) (behind_place at) e (level_behind_parameters (length ps))))
-  definition_fault i ns B E at (tree.Routine n ps b) s =
+  definition_fault ns E at (tree.Routine n ps b) s =
       or_else (all_twice_fault ns (n ∷ [])) (or_else (all_twice_fault [] ps) (block_fault allowed_in_routine (in_parameters ps E) (behind_place at) b (level_behind_parameters (length ps))))
 
-  pub definitions_fault : (inside : Bool) → (before : List Name) → (constants names : Env) → Numbers → Definitions → (s : ℕ) → Option Fault
-  definitions_fault i ns B E at no_definitions s = None
-  definitions_fault i ns B E at (definition d ds) s =
-      or_else (definition_fault i ns B E at d s) (definitions_fault i (ns ++ names_of d) B E (behind_definition at d) ds s)
+  pub definitions_fault : (before : List Name) → Env → Numbers → Definitions → (s : ℕ) → Option Fault
+  definitions_fault ns E at no_definitions s = None
+  definitions_fault ns E at (definition d ds) s =
+      or_else (definition_fault ns E at d s) (definitions_fault (ns ++ names_of d) E (behind_definition at d) ds s)
 
-  pub declaration_fault : (inside : Bool) → Env → Numbers → Declaration → (s : ℕ) → Option Fault
-  declaration_fault i E at (tree.Constants k es) s = entries_fault k [] at es (pending es E)
-  declaration_fault i E at (tree.Let ds) s = definitions_fault i [] (before_let ds E) (in_let E at s ds) at ds (s + cells_of_all (before_let ds E) ds)
+  pub declaration_fault : Env → Numbers → Declaration → (s : ℕ) → Option Fault
+  declaration_fault E at (tree.Constants k es) s = entries_fault k [] at es (pending k es E)
+  declaration_fault E at (tree.Let ds) s = definitions_fault [] (in_let E at s ds) at ds (s + cells_of_all (before_let ds E) ds)
 
-  pub declarations_fault : (inside : Bool) → Env → Numbers → Declarations → (s : ℕ) → Option Fault
-  declarations_fault i E at no_declarations s = None
-  declarations_fault i E at (declaration d ds) s =
-      or_else (declaration_fault i E at d s) (declarations_fault i (in_declaration E at s d) (behind_declaration at d) ds (s + cells_in E d))
+  pub declarations_fault : Env → Numbers → Declarations → (s : ℕ) → Option Fault
+  declarations_fault E at no_declarations s = None
+  declarations_fault E at (declaration d ds) s =
+      or_else (declaration_fault E at d s) (declarations_fault (in_declaration E at s d) (behind_declaration at d) ds (s + cells_in E d))
 
   pub block_fault : Allowed → Env → Numbers → Block → (s : ℕ) → Option Fault
   block_fault W E at (block ds is) s =
       let behind_it = behind_declarations at ds in
-      or_else (declarations_fault true E at ds s)
+      or_else (declarations_fault E at ds s)
       (items_fault false none_met W (in_list behind_it.label is (in_declarations E at s ds)) (behind_labels behind_it (labels_in is)) is (level_behind E at s ds))
 
   pub label_fault : (cases : Bool) → Met → Env → Numbers → Label → Option Fault
@@ -136,4 +136,4 @@ frames_fault (Data m d ∷ things) = frames_fault things
 abbrev pub section_fault : Declarations → Option Fault
 section_fault ds =
     let things = found_in_section ds in
-    or_else (declarations_fault false [] section_start ds 0) (or_else (frames_fault things) (places_fault things))
+    or_else (declarations_fault nothing_known section_start ds 0) (or_else (frames_fault things) (places_fault things))

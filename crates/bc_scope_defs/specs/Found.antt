@@ -5,7 +5,7 @@ use Rattle.bc_parse_tree.specs.declared.tree.Storage.TheVariants as storage
 use Rattle.bc_parse_tree.specs.Tree.{Exp, Exps, none, more, Block, block, Declaration, Declarations, no_declarations, declaration, Entries, no_entries, entry, Definition, Definitions, no_definitions, definition, Item, Labelled, Labels_alone, Items, no_items, item, Command}
 use Rattle.bc_parse_tree.specs.Tree as tree
 use Rattle.bc_core.specs.Level.{operand_level, argument_level, routine_level, level_in_for, level_behind_parameters}
-use Rattle.bc_scope_defs.specs.Scope.{Meant, Global, Env, meant_by, Numbers, behind_valof, behind_labels, behind_place, Name}
+use Rattle.bc_scope_defs.specs.Scope.{Meant, Global, Env, nothing_known, meant_by, Numbers, behind_valof, behind_labels, behind_place, Name}
 use Rattle.bc_scope_defs.specs.Numbering.{behind_entry, behind, behind_all, behind_declarations, behind_declaration, behind_definition, behind_command, behind_block, labels_of, labels_in}
 use Rattle.bc_scope_defs.specs.Scoping.{constant, pending, in_entry, count, cells_of_all, before_let, in_let, in_declaration, in_declarations, cells_in, level_behind, in_for, in_list, in_valof, in_routine, variables}
 use Rattle.bc_scope_defs.specs.Characters.{decoded}
@@ -105,7 +105,7 @@ abbrev mutual
   found_in_definitions B E at (definition d ds) s = found_in_definition B E at d s ++ found_in_definitions B E (behind_definition at d) ds s
 
   pub found_in_declaration : Env → Numbers → Declaration → (s : ℕ) → List Thing
-  found_in_declaration E at (tree.Constants k es) s = found_in_entries k at es (pending es E)
+  found_in_declaration E at (tree.Constants k es) s = found_in_entries k at es (pending k es E)
   found_in_declaration E at (tree.Let ds) s = found_in_definitions E (in_let E at s ds) at ds (s + cells_of_all (before_let ds E) ds)
 
   pub found_in_declarations : Env → Numbers → Declarations → (s : ℕ) → List Thing
@@ -159,4 +159,4 @@ abbrev pub section_start : Numbers
 section_start = record { place = 1; valof = 0; label = 0 }
 
 abbrev pub found_in_section : Declarations → List Thing
-found_in_section ds = found_in_declarations [] section_start ds 0
+found_in_section ds = found_in_declarations nothing_known section_start ds 0

@@ -1,5 +1,5 @@
 -- Which names are known where.
-use Rattle.std.specs.Prelude.{ℕ, ◌+◌, List, [], ◌∷◌, Option, Some, None}
+use Rattle.std.specs.Prelude.{ℕ, ◌+◌, Bool, true, false, List, [], ◌∷◌, Option, Some, None}
 use Rattle.bc_word.specs.declared.operator.Op.{Op}
 use Rattle.bc_word.specs.declared.operator.Op.TheVariants as operators
 use Rattle.bc_word.specs.Words.{value_of, negated, complemented}
@@ -11,7 +11,7 @@ use Rattle.bc_parse_tree.specs.declared.tree.Monadic.{Monadic}
 use Rattle.bc_parse_tree.specs.declared.tree.Monadic.TheVariants as monadic
 use Rattle.bc_parse_tree.specs.Tree.{Exp, Exps, none, more, Declaration, Declarations, no_declarations, declaration, Entries, no_entries, entry, Definition, Definitions, no_definitions, definition, Item, Labelled, Labels_alone, Items, no_items, item, Label, Labels, no_labels, label}
 use Rattle.bc_parse_tree.specs.Tree as tree
-use Rattle.bc_scope_defs.specs.Scope.{Meant, Constant, Pending, Static, Global, Routine, Variable, OuterVariable, OuterLabel, LabelOutside, Env, Name, meant_by, Numbers}
+use Rattle.bc_scope_defs.specs.Scope.{Meant, Constant, Pending, Static, Global, Routine, Variable, OuterVariable, OuterLabel, StrayVariable, StrayLabel, LabelOutside, Env, Name, Names, with_name, meant_by, Numbers}
 use Rattle.bc_scope_defs.specs.Scope as scope
 use Rattle.bc_scope_defs.specs.Numbering.{behind_entry, behind_declaration, behind_definition, labels_named, labels_of_item}
 
@@ -69,11 +69,7 @@ or_zero (Some w) = w
 abbrev pub constant : Env → Exp → ℕ
 constant E k = or_zero (constant_in E k)
 
--- MANIFEST, STATIC and GLOBAL: all names of the declaration are known in its constants, and none of them is a constant yet
-
-abbrev pub pending : Entries → Env → Env
-pending no_entries E = E
-pending (entry n k es) E = pending es ((n, Pending) ∷ E)
+-- MANIFEST, STATIC and GLOBAL
 
 abbrev pub meant_as : Storage → Numbers → Option ℕ → Meant
 meant_as storage.Manifest at None = Pending
@@ -81,8 +77,17 @@ meant_as storage.Manifest at (Some w) = Constant w
 meant_as storage.Static at w = Static at.place
 meant_as storage.Global at w = Global (or_zero w)
 
+-- in the constants of a declaration its own names are known, as what they will be, and nothing there depends on their numbers
+abbrev pub any_numbers : Numbers
+any_numbers = record { place = 1; valof = 0; label = 0 }
+
+-- all names of the declaration, none of which is a constant yet
+abbrev pub pending : Storage → Entries → Env → Env
+pending s no_entries E = E
+pending s (entry n k es) E = pending s es (with_name n (meant_as s any_numbers None) E)
+
 abbrev pub in_entry : Storage → Numbers → Name → Exp → Env → Env
-in_entry s at n k E = (n, meant_as s at (constant_in E k)) ∷ E
+in_entry s at n k E = with_name n (meant_as s at (constant_in E k)) E
 
 -- each constant sees those of the same declaration before it
 abbrev pub in_entries : Storage → Numbers → Entries → Env → Env
@@ -105,37 +110,36 @@ abbrev pub cells_of_all : Env → Definitions → ℕ
 cells_of_all E no_definitions = 0
 cells_of_all E (definition d ds) = cells_of E d + cells_of_all E ds
 
-abbrev pub pending_names : List Name → Env → Env
-pending_names [] E = E
-pending_names (n ∷ ns) E = pending_names ns ((n, Pending) ∷ E)
-
 abbrev pub names_of : Definition → List Name
 names_of (tree.Variables ns es) = ns
 names_of (tree.Vector n k) = n ∷ []
 names_of (tree.Function n ps e) = n ∷ []
 names_of (tree.Routine n ps b) = n ∷ []
 
--- in the constants of a LET its own names are known, and none of them is a constant
-abbrev pub before_let : Definitions → Env → Env
-before_let no_definitions E = E
-before_let (definition d ds) E = before_let ds (pending_names (names_of d) E)
-
 -- variables from offset k on
 abbrev pub variables : List Name → ℕ → Env → Env
 variables [] k E = E
-variables (n ∷ ns) k E = variables ns (k + 1) ((n, Variable k) ∷ E)
+variables (n ∷ ns) k E = variables ns (k + 1) (with_name n (Variable k) E)
 
 -- a routine whose name means a global makes no new name
 abbrev pub routine_name : Meant → Name → ℕ → Env → Env
 routine_name (Global g) n m E = E
-routine_name _ n m E = (n, Routine m) ∷ E
+routine_name _ n m E = with_name n (Routine m) E
 
 -- before: what names mean before the LET
 abbrev pub in_definition : (before : Env) → Numbers → (k : ℕ) → Definition → Env → Env
 in_definition B at k (tree.Variables ns es) E = variables ns k E
-in_definition B at k (tree.Vector n c) E = (n, Variable k) ∷ E
+in_definition B at k (tree.Vector n c) E = with_name n (Variable k) E
 in_definition B at k (tree.Function n ps e) E = routine_name (meant_by B n) n at.place E
 in_definition B at k (tree.Routine n ps b) E = routine_name (meant_by B n) n at.place E
+
+-- the own names of a LET, as its constants see them: none is a constant
+abbrev pub own_names : (before : Env) → Definitions → Env → Env
+own_names B no_definitions E = E
+own_names B (definition d ds) E = own_names B ds (in_definition B any_numbers 0 d E)
+
+abbrev pub before_let : Definitions → Env → Env
+before_let ds E = own_names E ds E
 
 abbrev pub in_definitions : (before constants : Env) → Numbers → (k : ℕ) → Definitions → Env → Env
 in_definitions B K at k no_definitions E = E
@@ -146,7 +150,7 @@ abbrev pub in_let : Env → Numbers → (s : ℕ) → Definitions → Env
 in_let E at s ds = in_definitions E (before_let ds E) at s ds E
 
 abbrev pub in_declaration : Env → Numbers → (s : ℕ) → Declaration → Env
-in_declaration E at s (tree.Constants k es) = in_entries k at es (pending es E)
+in_declaration E at s (tree.Constants k es) = in_entries k at es (pending k es E)
 in_declaration E at s (tree.Let ds) = in_let E at s ds
 
 abbrev pub cells_in : Env → Declaration → ℕ
@@ -164,12 +168,12 @@ level_behind E at s (declaration d ds) = level_behind (in_declaration E at s d) 
 
 -- a FOR's variable stands at offset s
 abbrev pub in_for : Env → Name → (s : ℕ) → Env
-in_for E n s = (n, Variable s) ∷ E
+in_for E n s = with_name n (Variable s) E
 
 -- the labels of a list, from number k on
 
 abbrev pub in_label : (k : ℕ) → Label → Env → Env
-in_label k (tree.Named n) E = (n, scope.Label k) ∷ E
+in_label k (tree.Named n) E = with_name n (scope.Label k) E
 in_label k _ E = E
 
 abbrev pub in_labels : (k : ℕ) → Labels → Env → Env
@@ -184,16 +188,26 @@ abbrev pub in_list : (k : ℕ) → Items → Env → Env
 in_list k no_items E = E
 in_list k (item i is) E = in_list (k + labels_of_item i) is (in_item k i E)
 
--- the variables and labels of a routine are another's to the routines in it
+-- what stands around a routine is another routine's in it, or stands outside routines
+abbrev pub around_routine : (inside : Bool) → Meant → Meant
+around_routine true (Variable k) = OuterVariable
+around_routine true (scope.Label l) = OuterLabel
+around_routine true LabelOutside = OuterLabel
+around_routine false (Variable k) = StrayVariable
+around_routine false (scope.Label l) = StrayLabel
+around_routine false LabelOutside = StrayLabel
+around_routine i m = m
+
+abbrev pub around_valof : Meant → Meant
+around_valof (scope.Label l) = LabelOutside
+around_valof m = m
+
+abbrev pub seen_through : (Meant → Meant) → Names → Names
+seen_through f [] = []
+seen_through f (e ∷ es) = (e.0, f e.1) ∷ seen_through f es
 
 abbrev pub in_routine : Env → Env
-in_routine [] = []
-in_routine ((n, Variable k) ∷ E) = (n, OuterVariable) ∷ in_routine E
-in_routine ((n, scope.Label l) ∷ E) = (n, OuterLabel) ∷ in_routine E
-in_routine ((n, LabelOutside) ∷ E) = (n, OuterLabel) ∷ in_routine E
-in_routine (e ∷ E) = e ∷ in_routine E
+in_routine E = record { names = seen_through (around_routine E.inside) E.names; inside = true }
 
 abbrev pub in_valof : Env → Env
-in_valof [] = []
-in_valof ((n, scope.Label l) ∷ E) = (n, LabelOutside) ∷ in_valof E
-in_valof (e ∷ E) = e ∷ in_valof E
+in_valof E = record E { names = seen_through around_valof E.names }

@@ -9,7 +9,7 @@ use Rattle.bc_parse_tree.specs.Tree.{Exp, Block, Declarations, Command}
 use Rattle.bc_parse_tree.specs.Tree as tree
 use Rattle.bc_core.specs.Tree as core
 use Rattle.bc_core.specs.Commands as c
-use Rattle.bc_scope_defs.specs.Scope.{Env, Constant, Global, Routine, Variable}
+use Rattle.bc_scope_defs.specs.Scope.{Env, nothing_known, Constant, Global, Routine, Variable}
 use Rattle.bc_scope_defs.specs.Scoping.{level_behind}
 use Rattle.bc_scope_defs.specs.Sides.{side_level_of}
 use Rattle.bc_scope_defs.specs.Translation.{forms, core_of}
@@ -23,7 +23,7 @@ at k = core.Load (core.Frame k)
 -- Expressions, where A is the constant 5, V the global 100, F the routine with label 3, and X and Y stand at 2 and 3
 
 abbrev names : Env
-names = (a, Constant 5) ∷ (v, Global 100) ∷ (f, Routine 3) ∷ (x, Variable 2) ∷ (y, Variable 3) ∷ []
+names = record { names = (a, Constant 5) ∷ (v, Global 100) ∷ (f, Routine 3) ∷ (x, Variable 2) ∷ (y, Variable 3) ∷ []; inside = true }
 
 abbrev translated : Exp → core.Exp
 translated e = (forms names section_start e).content
@@ -125,7 +125,7 @@ sum_translated : core_of sum ≡ record {
 }
 sum_translated = refl
 
-sum_level : level_behind [] section_start 2 (declarations (lets (variables (a ∷ b ∷ []) (number 1 ∷ number 2 ∷ []) ∷ []) ∷ [])) ≡ 4
+sum_level : level_behind nothing_known section_start 2 (declarations (lets (variables (a ∷ b ∷ []) (number 1 ∷ number 2 ∷ []) ∷ []) ∷ [])) ≡ 4
 sum_level = refl
 
 sum_frame : frames sum ≡ 6 ∷ []

@@ -7,5 +7,4 @@ pub mod Turns
 pub mod Held
 pub mod Sets
 pub mod Kept
-pub mod Lets
 pub mod Scopes

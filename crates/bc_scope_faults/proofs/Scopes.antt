@@ -2,13 +2,14 @@
 use Rattle.std.proofs.Common.{◌≡◌, ℕ, List, [], length, take, ap, ◌∙◌, refl}
 use Rattle.bc_scope_names.specs.declared.scope.Entry.{Entry}
 use Rattle.bc_scope_names.specs.View.{Extends, scope_view}
+use Rattle.bc_scope_defs.specs.Scope as scope
 use Rattle.bc_scope_names.proofs.Extends.{extends_on, left}
 
-nothing : scope_view [] ≡ []
+nothing : scope_view [] ≡ scope.nothing_known
 unfolding scope_view
 nothing = refl
 
-pub nothing_known : (s : List Entry) → s ≡ [] → scope_view s ≡ []
+pub nothing_known : (s : List Entry) → s ≡ [] → scope_view s ≡ scope.nothing_known
 nothing_known s e = ap scope_view e ∙ nothing
 
 -- behind two parts that made names known

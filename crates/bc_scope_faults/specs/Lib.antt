@@ -3,4 +3,3 @@ pub mod Kept
 pub mod Seen
 pub mod Walked
 pub mod Parts
-pub mod Vectors

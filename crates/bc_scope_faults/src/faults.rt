@@ -6,10 +6,10 @@
 //!
 //! A scope serves all places in turn. What an inner place makes known is taken back behind it; behind a fault the scope
 //! may know more than before, and the names that were known stand below.
-ghost use Rattle.std.specs.Prelude.{◌≡◌, ◌+◌, true, false, [], ◌∷◌, ◌++◌, max, map, length, IfOk, OnOk};
+ghost use Rattle.std.specs.Prelude.{◌≡◌, ◌+◌, true, false, [], ◌∷◌, ◌++◌, max, length, OnOk};
 ghost use Rattle.bc_parse_tree.specs.View.{exp_view, exps_view, command_view, block_view, declaration_view, declarations_view, definition_view, definitions_view, label_view, labels_view, item_view, items_view, entries_view};
 ghost use Rattle.bc_core.specs.Level.{operand_level, argument_level, routine_level, level_in_for, level_behind_parameters};
-ghost use Rattle.bc_scope_defs.specs.Scope.{Env, behind_place, behind_valof, behind_labels};
+ghost use Rattle.bc_scope_defs.specs.Scope.{Env, nothing_known, behind_place, behind_valof, behind_labels};
 ghost use Rattle.bc_scope_defs.specs.Numbering.{labels_in, behind_entries, behind, behind_all, behind_block, behind_declarations, behind_declaration, behind_definitions, behind_definition, behind_items, behind_item, behind_command};
 ghost use Rattle.bc_scope_defs.specs.Scoping.{count, names_of, before_let, in_let, cells_of_all, in_entries, in_declaration, in_declarations, cells_in, level_behind, in_for, in_list};
 ghost use Rattle.bc_scope_defs.specs.Sides.{side_levels};
@@ -17,11 +17,10 @@ ghost use Rattle.bc_scope_defs.specs.Found.{section_start, found_in_section, rou
 ghost use Rattle.bc_scope_defs.specs.Frames.{all_held, widest};
 ghost use Rattle.bc_scope_defs.specs.FramesAlong.{width, widths, width_of_arguments, width_of_initials, width_of_definition, width_of_definitions, width_of_declaration, width_of_declarations, width_of_block, width_of_items, width_of_command};
 ghost use Rattle.bc_scope_defs.specs.Faults.{ANotAssignable, or_else, unless, none_met, met_label, met_labels, in_a_loop, in_a_switch, allowed_in_routine, all_have_cells, not_constant, all_twice_fault};
-ghost use Rattle.bc_scope_defs.specs.FaultsAlong.{fault, arguments_fault, constants_fault, sides_fault, initials_fault, entries_fault, definitions_fault, declaration_fault, declarations_fault, frames_fault, block_fault, label_fault, labels_fault, items_fault, command_fault};
+ghost use Rattle.bc_scope_defs.specs.FaultsAlong.{fault, arguments_fault, constants_fault, sides_fault, initials_fault, entries_fault, definition_fault, definitions_fault, declaration_fault, declarations_fault, frames_fault, block_fault, label_fault, labels_fault, items_fault, command_fault};
 ghost use Rattle.bc_scope_names.specs.View.{scope_view, numbers_view};
 ghost use Rattle.bc_scope_faults.specs.Judged.{Judges, Passes};
 ghost use Rattle.bc_scope_faults.specs.Kept.{Keeps, Grows};
-ghost use Rattle.bc_scope_faults.specs.Vectors.{fault_view, vector_fault, vector_faults, definition_fault_by, definitions_fault_by};
 ghost use Rattle.bc_scope_faults.specs.Seen.{allowed_view, names_view, met_view, Walks, WalksOn};
 ghost use Rattle.bc_scope_faults.specs.Walked.{Sided, Entered, Defined, DeclaredBy, ItemWalks};
 ghost use Rattle.bc_scope_defs.specs.Source.{labels_of_that};
@@ -29,26 +28,17 @@ ghost use Rattle.bc_scope_faults.specs.Parts.{item_fault, item_found, item_width
 
 use crate::judging::{
     Allowed, Met, address_fault, all_have_cells, all_held, declare_all_once, declare_once,
-    entry_fault, fault_at, jump_fault, level_at, level_of, name_fault, names_in, no_faults,
-    parameters_fault, push_width, unless_found, unless_misplaced, widest,
+    entry_fault, jump_fault, level_at, level_of, name_fault, names_in, parameters_fault,
+    push_width, unless_misplaced, widest,
 };
 use crate::progress::{Extent, Progress, also_fits};
 use bc_parse_tree::{Block, Command, Constant, Declaration, Definition, Exp, Item, Label, Storage};
 use bc_scope_names::{
-    Meant, Numbers, Scope, ScopeError, behind_definition, behind_entry, constant, constant_in,
-    count, declare_entry, declare_let, declare_let_pending, declare_list, declare_parameters,
-    declare_pending, has_vector, labels_in, priors_of_let, side_levels, sum,
+    Meant, Numbers, Scope, ScopeError, behind_entry, constant, constant_in, count, declare_entry,
+    declare_let, declare_list, declare_parameters, declare_pending, labels_in, priors_of_let,
+    side_levels, sum,
 };
-use bc_word::Memory;
 use indexmap::IndexSet;
-
-/// What a definition of a LET is judged by beside the names: whether it stands in a block, and the fault of its
-/// constant, which the names of the LET hide.
-#[derive(Clone, Copy)]
-struct OfLet<'s> {
-    inside: bool,
-    fault: Option<ScopeError<'s>>,
-}
 
 /// Whose list items stand in: a SWITCHON's or not, and what its commands may do.
 #[derive(Clone, Copy)]
@@ -95,7 +85,7 @@ fn expression<'s>(
         }
         Exp::Monadic(sign, operand) => {
             let width = expression(scope, progress, in_constant, operand, level)?;
-            address_fault(scope, *sign, operand)?;
+            address_fault(scope, in_constant, *sign, operand)?;
             Ok(width)
         }
         Exp::Dyadic(_, left, right) => {
@@ -299,26 +289,25 @@ fn entries<'s>(
 #[tactic(auto, using(crate::proofs::Frames::frames_along, crate::proofs::Frames::max_along, crate::proofs::Kept::keeping))]
 fn definition<'s>(
     scope: &mut Scope<'s>,
-    of_let: OfLet<'s>,
     before: &mut IndexSet<&'s [u8]>,
     progress: &mut Progress,
     tree: &Definition<'s>,
     level: u64,
 ) -> Result<u64, ScopeError<'s>>
-    ensures answer { Defined result (definition_fault_by of_let.entry.inside (names_view before.old.keys) (fault_view of_let.entry.fault) (scope_view scope.old) (numbers_view progress.old.at) (definition_view tree.now) level) progress.old progress.new (behind_definition (numbers_view progress.old.at) (definition_view tree.now)) (found_in_definition (scope_view scope.old) (scope_view scope.old) (numbers_view progress.old.at) (definition_view tree.now) level) (width_of_definition (scope_view scope.old) (numbers_view progress.old.at) (definition_view tree.now) level) (names_view before.new.keys) (names_view before.old.keys ++ names_of (definition_view tree.now)) }
+    ensures answer { Defined result (definition_fault (names_view before.old.keys) (scope_view scope.old) (numbers_view progress.old.at) (definition_view tree.now) level) progress.old progress.new (behind_definition (numbers_view progress.old.at) (definition_view tree.now)) (found_in_definition (scope_view scope.old) (scope_view scope.old) (numbers_view progress.old.at) (definition_view tree.now) level) (width_of_definition (scope_view scope.old) (numbers_view progress.old.at) (definition_view tree.now) level) (names_view before.new.keys) (names_view before.old.keys ++ names_of (definition_view tree.now)) }
     ensures kept { Keeps result scope.old scope.new }
 {
     match tree {
         Definition::Variables(names, values) => {
             declare_all_once(before, names)?;
             let width = initials(scope, progress, values, level)?;
-            unless_misplaced(of_let.inside)?;
+            unless_misplaced(scope.is_inside())?;
             Ok(width)
         }
-        Definition::Vector(name, _) => {
+        Definition::Vector(name, greatest) => {
             declare_once(before, name)?;
-            unless_found(of_let.fault)?;
-            unless_misplaced(of_let.inside)?;
+            constant_fault(scope, *progress, greatest)?;
+            unless_misplaced(scope.is_inside())?;
             Ok(0)
         }
         Definition::Function(name, parameters, value) => {
@@ -381,155 +370,66 @@ fn routine<'s>(
     Ok(())
 }
 
-/// The fault of a constant, as a value, behind which the names are as they were.
-///
-/// `Memory` comes where an allocation was refused or a number would pass 64 bits.
-#[cycle(faults)]
-#[tactic(auto, using(bc_scope_names::proofs::Extends::left, crate::proofs::Kept::keeping, crate::proofs::Kept::known_still))]
-fn found_fault<'s>(
-    scope: &mut Scope<'s>,
-    progress: Progress,
-    e: &Exp<'s>,
-) -> Result<Option<ScopeError<'s>>, Memory>
-    ensures { IfOk result (λ f. (fault_view f ≡ or_else (fault true (scope_view scope.old) (numbers_view progress.at) (exp_view e.now) 0) (not_constant (scope_view scope.old) (exp_view e.now))) × (scope.new ≡ scope.old)) }
-{
-    let mark = scope.mark();
-    match constant_fault(scope, progress, e) {
-        Ok(()) => Ok(None),
-        Err(ScopeError::Memory) => Err(Memory),
-        Err(fault) => {
-            scope.leave(mark);
-            Ok(Some(fault))
-        }
-    }
-}
-
-/// The fault of a vector's constant.
-#[cycle(faults)]
-fn vector_fault<'s>(
-    scope: &mut Scope<'s>,
-    progress: Progress,
-    tree: &Definition<'s>,
-) -> Result<Option<ScopeError<'s>>, Memory>
-    ensures { IfOk result (λ f. (fault_view f ≡ vector_fault (scope_view scope.old) (numbers_view progress.at) (definition_view tree.now)) × (scope.new ≡ scope.old)) }
-{
-    match tree {
-        Definition::Vector(_, greatest) => found_fault(scope, progress, greatest),
-        Definition::Variables(_, _)
-        | Definition::Function(_, _, _)
-        | Definition::Routine(_, _, _) => Ok(None),
-    }
-}
-
-/// The faults of the constants of vectors, for each definition one.
-#[cycle(faults)]
-fn vector_faults<'s>(
-    scope: &mut Scope<'s>,
-    progress: Progress,
-    list: &[Definition<'s>],
-) -> Result<Vec<Option<ScopeError<'s>>>, Memory>
-    ensures { IfOk result (λ fs. (map fault_view fs.items ≡ vector_faults (scope_view scope.old) (numbers_view progress.at) (definitions_view list.now)) × (scope.new ≡ scope.old)) }
-{
-    let mut faults = Vec::with_capacity(scope.alloc(), list.len())?;
-    let mut progress = progress;
-    for tree in list {
-        faults.push(vector_fault(scope, progress, tree)?)?;
-        behind_definition(&mut progress.at, tree)?;
-    }
-    Ok(faults)
-}
-
-/// The faults of the constants of a LET, which see its names as pending.
-#[inline(never)]
-#[cycle(faults)]
-#[tactic(auto, using(bc_scope_names::proofs::Extends::left, crate::proofs::Kept::keeping, crate::proofs::Lets::none_found))]
-fn pending_faults<'s>(
-    scope: &mut Scope<'s>,
-    progress: Progress,
-    list: &[Definition<'s>],
-) -> Result<Vec<Option<ScopeError<'s>>>, Memory>
-    ensures { IfOk result (λ fs. (map fault_view fs.items ≡ vector_faults (before_let (definitions_view list.now) (scope_view scope.old)) (numbers_view progress.at) (definitions_view list.now)) × (scope.new ≡ scope.old)) }
-{
-    if !has_vector(list) {
-        return no_faults(scope.alloc(), list);
-    }
-    let mark = scope.mark();
-    declare_let_pending(scope, list)?;
-    let faults = vector_faults(scope, progress, list)?;
-    scope.leave(mark);
-    Ok(faults)
-}
-
-/// The definitions of a LET, with the faults of their constants, all at the level behind its cells.
+/// The definitions of a LET, all at the level behind its cells.
 #[cycle(faults)]
 #[tactic(auto, using(crate::proofs::Frames::frames_along, crate::proofs::Frames::max_along, crate::proofs::Kept::keeping))]
 fn definitions<'s>(
     scope: &mut Scope<'s>,
-    inside: bool,
-    faults: &[Option<ScopeError<'s>>],
     progress: &mut Progress,
     list: &[Definition<'s>],
     level: u64,
 ) -> Result<u64, ScopeError<'s>>
-    ensures answer { Walks result (definitions_fault_by inside [] faults.now (scope_view scope.old) (numbers_view progress.old.at) (definitions_view list.now) level) progress.old progress.new (behind_definitions (numbers_view progress.old.at) (definitions_view list.now)) (found_in_definitions (scope_view scope.old) (scope_view scope.old) (numbers_view progress.old.at) (definitions_view list.now) level) (width_of_definitions (scope_view scope.old) (numbers_view progress.old.at) (definitions_view list.now) level) }
+    ensures answer { Walks result (definitions_fault [] (scope_view scope.old) (numbers_view progress.old.at) (definitions_view list.now) level) progress.old progress.new (behind_definitions (numbers_view progress.old.at) (definitions_view list.now)) (found_in_definitions (scope_view scope.old) (scope_view scope.old) (numbers_view progress.old.at) (definitions_view list.now) level) (width_of_definitions (scope_view scope.old) (numbers_view progress.old.at) (definitions_view list.now) level) }
     ensures kept { Keeps result scope.old scope.new }
 {
     let mut before = IndexSet::with_capacity(scope.alloc(), names_in(list))?;
     let mut width = 0u64;
-    let mut i = 0u64;
     for tree in list {
-        let fault = fault_at(faults, i);
-        let of_let = OfLet { inside, fault };
-        let own = definition(scope, of_let, &mut before, progress, tree, level)?;
-        width = width.max(own);
-        i = sum(i, 1)?;
+        width = width.max(definition(scope, &mut before, progress, tree, level)?);
     }
     Ok(width)
 }
 
-/// The definitions of a LET. Its constants are looked at first, before its names are variables and routines.
+/// The definitions of a LET, among the names that it makes known: to its constants, too, they are what they will be.
 #[cycle(faults)]
-#[tactic(auto, using(crate::proofs::Anywhere::frames_of_own, crate::proofs::Lets::by_faults, bc_scope_names::proofs::Extends::left, crate::proofs::Kept::keeping))]
+#[tactic(auto, using(crate::proofs::Anywhere::frames_of_own, bc_scope_names::proofs::Extends::left, crate::proofs::Kept::keeping))]
 fn definitions_of_let<'s>(
     scope: &mut Scope<'s>,
-    inside: bool,
     progress: &mut Progress,
     list: &[Definition<'s>],
     level: u64,
 ) -> Result<Extent, ScopeError<'s>>
-    ensures answer { DeclaredBy result (definitions_fault inside [] (before_let (definitions_view list.now) (scope_view scope.old)) (in_let (scope_view scope.old) (numbers_view progress.old.at) level (definitions_view list.now)) (numbers_view progress.old.at) (definitions_view list.now) (level + cells_of_all (before_let (definitions_view list.now) (scope_view scope.old)) (definitions_view list.now))) progress.old progress.new (behind_definitions (numbers_view progress.old.at) (definitions_view list.now)) (found_in_definitions (scope_view scope.old) (in_let (scope_view scope.old) (numbers_view progress.old.at) level (definitions_view list.now)) (numbers_view progress.old.at) (definitions_view list.now) (level + cells_of_all (before_let (definitions_view list.now) (scope_view scope.old)) (definitions_view list.now))) scope.new (in_let (scope_view scope.old) (numbers_view progress.old.at) level (definitions_view list.now)) (level + cells_of_all (before_let (definitions_view list.now) (scope_view scope.old)) (definitions_view list.now)) (max (level + cells_of_all (before_let (definitions_view list.now) (scope_view scope.old)) (definitions_view list.now)) (width_of_definitions (in_let (scope_view scope.old) (numbers_view progress.old.at) level (definitions_view list.now)) (numbers_view progress.old.at) (definitions_view list.now) (level + cells_of_all (before_let (definitions_view list.now) (scope_view scope.old)) (definitions_view list.now)))) }
+    ensures answer { DeclaredBy result (definitions_fault [] (in_let (scope_view scope.old) (numbers_view progress.old.at) level (definitions_view list.now)) (numbers_view progress.old.at) (definitions_view list.now) (level + cells_of_all (before_let (definitions_view list.now) (scope_view scope.old)) (definitions_view list.now))) progress.old progress.new (behind_definitions (numbers_view progress.old.at) (definitions_view list.now)) (found_in_definitions (scope_view scope.old) (in_let (scope_view scope.old) (numbers_view progress.old.at) level (definitions_view list.now)) (numbers_view progress.old.at) (definitions_view list.now) (level + cells_of_all (before_let (definitions_view list.now) (scope_view scope.old)) (definitions_view list.now))) scope.new (in_let (scope_view scope.old) (numbers_view progress.old.at) level (definitions_view list.now)) (level + cells_of_all (before_let (definitions_view list.now) (scope_view scope.old)) (definitions_view list.now)) (max (level + cells_of_all (before_let (definitions_view list.now) (scope_view scope.old)) (definitions_view list.now)) (width_of_definitions (in_let (scope_view scope.old) (numbers_view progress.old.at) level (definitions_view list.now)) (numbers_view progress.old.at) (definitions_view list.now) (level + cells_of_all (before_let (definitions_view list.now) (scope_view scope.old)) (definitions_view list.now)))) }
     ensures kept { Grows result scope.old scope.new }
 {
     let priors = priors_of_let(scope, list)?;
-    let faults = pending_faults(scope, *progress, list)?;
     let level = declare_let(scope, &priors, progress.at, level, list)?;
-    let width = definitions(scope, inside, &faults, progress, list, level)?;
+    let width = definitions(scope, progress, list, level)?;
     Ok(Extent {
         level,
         width: level.max(width),
     })
 }
 
-/// A declaration; inside says whether it stands in a block, where variables may stand.
+/// A declaration.
 #[cycle(faults)]
 #[tactic(auto, using(bc_scope_names::proofs::Extends::left, crate::proofs::Kept::keeping))]
 fn declaration<'s>(
     scope: &mut Scope<'s>,
-    inside: bool,
     progress: &mut Progress,
     tree: &Declaration<'s>,
     level: u64,
 ) -> Result<Extent, ScopeError<'s>>
-    ensures answer { DeclaredBy result (declaration_fault inside (scope_view scope.old) (numbers_view progress.old.at) (declaration_view tree.now) level) progress.old progress.new (behind_declaration (numbers_view progress.old.at) (declaration_view tree.now)) (found_in_declaration (scope_view scope.old) (numbers_view progress.old.at) (declaration_view tree.now) level) scope.new (in_declaration (scope_view scope.old) (numbers_view progress.old.at) level (declaration_view tree.now)) (level + cells_in (scope_view scope.old) (declaration_view tree.now)) (width_of_declaration (scope_view scope.old) (numbers_view progress.old.at) (declaration_view tree.now) level) }
+    ensures answer { DeclaredBy result (declaration_fault (scope_view scope.old) (numbers_view progress.old.at) (declaration_view tree.now) level) progress.old progress.new (behind_declaration (numbers_view progress.old.at) (declaration_view tree.now)) (found_in_declaration (scope_view scope.old) (numbers_view progress.old.at) (declaration_view tree.now) level) scope.new (in_declaration (scope_view scope.old) (numbers_view progress.old.at) level (declaration_view tree.now)) (level + cells_in (scope_view scope.old) (declaration_view tree.now)) (width_of_declaration (scope_view scope.old) (numbers_view progress.old.at) (declaration_view tree.now) level) }
     ensures kept { Grows result scope.old scope.new }
 {
     match tree {
         Declaration::Constants(storage, list) => {
-            declare_pending(scope, list)?;
+            declare_pending(scope, *storage, list)?;
             entries(scope, progress, *storage, list)?;
             Ok(Extent { level, width: 0 })
         }
-        Declaration::Let(list) => definitions_of_let(scope, inside, progress, list, level),
+        Declaration::Let(list) => definitions_of_let(scope, progress, list, level),
     }
 }
 
@@ -539,18 +439,17 @@ fn declaration<'s>(
 #[tactic(auto, using(crate::proofs::Frames::frames_along, crate::proofs::Frames::max_along, bc_scope_names::proofs::Extends::left, crate::proofs::Kept::keeping))]
 fn declarations<'s>(
     scope: &mut Scope<'s>,
-    inside: bool,
     progress: &mut Progress,
     list: &[Declaration<'s>],
     level: u64,
 ) -> Result<Extent, ScopeError<'s>>
-    ensures answer { DeclaredBy result (declarations_fault inside (scope_view scope.old) (numbers_view progress.old.at) (declarations_view list.now) level) progress.old progress.new (behind_declarations (numbers_view progress.old.at) (declarations_view list.now)) (found_in_declarations (scope_view scope.old) (numbers_view progress.old.at) (declarations_view list.now) level) scope.new (in_declarations (scope_view scope.old) (numbers_view progress.old.at) level (declarations_view list.now)) (level_behind (scope_view scope.old) (numbers_view progress.old.at) level (declarations_view list.now)) (width_of_declarations (scope_view scope.old) (numbers_view progress.old.at) (declarations_view list.now) level) }
+    ensures answer { DeclaredBy result (declarations_fault (scope_view scope.old) (numbers_view progress.old.at) (declarations_view list.now) level) progress.old progress.new (behind_declarations (numbers_view progress.old.at) (declarations_view list.now)) (found_in_declarations (scope_view scope.old) (numbers_view progress.old.at) (declarations_view list.now) level) scope.new (in_declarations (scope_view scope.old) (numbers_view progress.old.at) level (declarations_view list.now)) (level_behind (scope_view scope.old) (numbers_view progress.old.at) level (declarations_view list.now)) (width_of_declarations (scope_view scope.old) (numbers_view progress.old.at) (declarations_view list.now) level) }
     ensures kept { Grows result scope.old scope.new }
 {
     let mut behind = level;
     let mut width = 0u64;
     for tree in list {
-        let extent = declaration(scope, inside, progress, tree, behind)?;
+        let extent = declaration(scope, progress, tree, behind)?;
         behind = extent.level;
         width = width.max(extent.width);
     }
@@ -594,11 +493,11 @@ fn declared_then_done<'s>(
     trees: &[Item<'s>],
     level: u64,
 ) -> Result<u64, ScopeError<'s>>
-    ensures answer { Walks result (or_else (declarations_fault true (scope_view scope.old) (numbers_view progress.old.at) (declarations_view declared.now) level) (items_fault false none_met (allowed_view allowed) (in_list (behind_declarations (numbers_view progress.old.at) (declarations_view declared.now)).label (items_view trees.now) (in_declarations (scope_view scope.old) (numbers_view progress.old.at) level (declarations_view declared.now))) (behind_labels (behind_declarations (numbers_view progress.old.at) (declarations_view declared.now)) (labels_in (items_view trees.now))) (items_view trees.now) (level_behind (scope_view scope.old) (numbers_view progress.old.at) level (declarations_view declared.now)))) progress.old progress.new (behind_items (behind_labels (behind_declarations (numbers_view progress.old.at) (declarations_view declared.now)) (labels_in (items_view trees.now))) (items_view trees.now)) (found_in_declarations (scope_view scope.old) (numbers_view progress.old.at) (declarations_view declared.now) level ++ found_in_items (in_list (behind_declarations (numbers_view progress.old.at) (declarations_view declared.now)).label (items_view trees.now) (in_declarations (scope_view scope.old) (numbers_view progress.old.at) level (declarations_view declared.now))) (behind_declarations (numbers_view progress.old.at) (declarations_view declared.now)).label (behind_labels (behind_declarations (numbers_view progress.old.at) (declarations_view declared.now)) (labels_in (items_view trees.now))) (items_view trees.now) (level_behind (scope_view scope.old) (numbers_view progress.old.at) level (declarations_view declared.now))) (max (width_of_declarations (scope_view scope.old) (numbers_view progress.old.at) (declarations_view declared.now) level) (width_of_items (in_list (behind_declarations (numbers_view progress.old.at) (declarations_view declared.now)).label (items_view trees.now) (in_declarations (scope_view scope.old) (numbers_view progress.old.at) level (declarations_view declared.now))) (behind_declarations (numbers_view progress.old.at) (declarations_view declared.now)).label (behind_labels (behind_declarations (numbers_view progress.old.at) (declarations_view declared.now)) (labels_in (items_view trees.now))) (items_view trees.now) (level_behind (scope_view scope.old) (numbers_view progress.old.at) level (declarations_view declared.now)))) }
+    ensures answer { Walks result (or_else (declarations_fault (scope_view scope.old) (numbers_view progress.old.at) (declarations_view declared.now) level) (items_fault false none_met (allowed_view allowed) (in_list (behind_declarations (numbers_view progress.old.at) (declarations_view declared.now)).label (items_view trees.now) (in_declarations (scope_view scope.old) (numbers_view progress.old.at) level (declarations_view declared.now))) (behind_labels (behind_declarations (numbers_view progress.old.at) (declarations_view declared.now)) (labels_in (items_view trees.now))) (items_view trees.now) (level_behind (scope_view scope.old) (numbers_view progress.old.at) level (declarations_view declared.now)))) progress.old progress.new (behind_items (behind_labels (behind_declarations (numbers_view progress.old.at) (declarations_view declared.now)) (labels_in (items_view trees.now))) (items_view trees.now)) (found_in_declarations (scope_view scope.old) (numbers_view progress.old.at) (declarations_view declared.now) level ++ found_in_items (in_list (behind_declarations (numbers_view progress.old.at) (declarations_view declared.now)).label (items_view trees.now) (in_declarations (scope_view scope.old) (numbers_view progress.old.at) level (declarations_view declared.now))) (behind_declarations (numbers_view progress.old.at) (declarations_view declared.now)).label (behind_labels (behind_declarations (numbers_view progress.old.at) (declarations_view declared.now)) (labels_in (items_view trees.now))) (items_view trees.now) (level_behind (scope_view scope.old) (numbers_view progress.old.at) level (declarations_view declared.now))) (max (width_of_declarations (scope_view scope.old) (numbers_view progress.old.at) (declarations_view declared.now) level) (width_of_items (in_list (behind_declarations (numbers_view progress.old.at) (declarations_view declared.now)).label (items_view trees.now) (in_declarations (scope_view scope.old) (numbers_view progress.old.at) level (declarations_view declared.now))) (behind_declarations (numbers_view progress.old.at) (declarations_view declared.now)).label (behind_labels (behind_declarations (numbers_view progress.old.at) (declarations_view declared.now)) (labels_in (items_view trees.now))) (items_view trees.now) (level_behind (scope_view scope.old) (numbers_view progress.old.at) level (declarations_view declared.now)))) }
     ensures kept { Keeps result scope.old scope.new }
 {
     let mark = scope.mark();
-    let extent = declarations(scope, true, progress, declared, level)?;
+    let extent = declarations(scope, progress, declared, level)?;
     declare_list(scope, progress.at.label, trees)?;
     progress.at = progress.at.behind_labels(labels_in(trees)?)?;
     let list = List {
@@ -962,7 +861,7 @@ fn command<'s>(
 #[tactic(auto, using(crate::proofs::Frames::frames_judged, crate::proofs::Scopes::nothing_known, crate::proofs::Scopes::nothing_left))]
 pub fn judge<'s>(scope: &mut Scope<'s>, list: &[Declaration<'s>]) -> Result<(), ScopeError<'s>>
     requires { scope.old ≡ [] }
-    ensures answer { Passes result (or_else (declarations_fault false [] section_start (declarations_view list.now) 0) (frames_fault (found_in_section (declarations_view list.now)))) }
+    ensures answer { Passes result (or_else (declarations_fault nothing_known section_start (declarations_view list.now) 0) (frames_fault (found_in_section (declarations_view list.now)))) }
     ensures emptied { OnOk result (scope.new ≡ []) }
 {
     let mark = scope.mark();
@@ -970,7 +869,7 @@ pub fn judge<'s>(scope: &mut Scope<'s>, list: &[Declaration<'s>]) -> Result<(), 
         at: Numbers::start(),
         fits: true,
     };
-    let _extent = declarations(scope, false, &mut progress, list, 0)?;
+    let _extent = declarations(scope, &mut progress, list, 0)?;
     scope.leave(mark);
     if progress.fits {
         Ok(())

@@ -1,13 +1,12 @@
 //! The faults that a part has by itself.
 ghost use Rattle.std.specs.Prelude.{◌≡◌, true, None, length, drop, [], ◌∷◌, ◌++◌, IfOk};
-ghost use Rattle.bc_parse_tree.specs.View.{exp_view, exps_view, definitions_view};
+ghost use Rattle.bc_parse_tree.specs.View.{exp_view, exps_view};
 ghost use Rattle.bc_scope_defs.specs.Frames.{all_held, widest};
-ghost use Rattle.bc_scope_defs.specs.Faults.{AMisplaced, unless, allowed_in_routine, allowed_in_valof, in_a_loop, in_a_switch, name_fault, jump_fault, is_cell, has_cell, address_fault, all_have_cells, twice_fault, all_twice_fault, none_met, case_fault, default_fault, entry_fault};
+ghost use Rattle.bc_scope_defs.specs.Faults.{AMisplaced, unless, allowed_in_routine, allowed_in_valof, in_a_loop, in_a_switch, name_fault, jump_fault, is_cell, has_cell, is_label, names_label, has_address, address_fault, all_have_cells, twice_fault, all_twice_fault, none_met, case_fault, default_fault, entry_fault};
 ghost use Rattle.bc_scope_names.specs.View.{meant_view, scope_view};
 ghost use Rattle.bc_core.specs.Level.{level_behind_parameters};
 ghost use Rattle.bc_scope_faults.specs.Parts.{head_level, side_width};
 ghost use Rattle.bc_scope_faults.specs.Judged.{Judges, Passes};
-ghost use Rattle.bc_scope_faults.specs.Vectors.{fault_view, first_found, no_faults};
 ghost use Rattle.bc_scope_faults.specs.Seen.{allowed_view, names_view, met_view};
 
 use bc_parse_tree::{Definition, Dyadic, Exp, Monadic, Storage};
@@ -82,16 +81,6 @@ pub fn unless_misplaced<'s>(allowed: bool) -> Result<(), ScopeError<'s>>
     }
 }
 
-/// A fault that was found before.
-pub fn unless_found<'s>(fault: Option<ScopeError<'s>>) -> Result<(), ScopeError<'s>>
-    ensures { Passes result (fault_view fault.entry) }
-{
-    match fault {
-        Some(fault) => Err(fault),
-        None => Ok(()),
-    }
-}
-
 /// A name in an expression.
 pub fn name_fault<'s>(in_constant: bool, name: &'s [u8], meant: Meant) -> Result<(), ScopeError<'s>>
     ensures { Passes result (name_fault in_constant name.entry.now (meant_view meant)) }
@@ -99,13 +88,16 @@ pub fn name_fault<'s>(in_constant: bool, name: &'s [u8], meant: Meant) -> Result
     match meant {
         Meant::Undeclared => Err(ScopeError::Undeclared(name)),
         Meant::OuterVariable | Meant::OuterLabel => Err(ScopeError::DynamicFree(name)),
-        Meant::Label(_) | Meant::LabelOutside => unless_misplaced(in_constant),
+        Meant::Label(_) | Meant::StrayLabel | Meant::LabelOutside => {
+            unless_misplaced(in_constant)
+        }
         Meant::Constant(_)
         | Meant::Pending
         | Meant::Static(_)
         | Meant::Global(_)
         | Meant::Routine(_)
-        | Meant::Variable(_) => Ok(()),
+        | Meant::Variable(_)
+        | Meant::StrayVariable => Ok(()),
     }
 }
 
@@ -124,6 +116,8 @@ pub fn jump_fault<'s>(name: &'s [u8], meant: Meant) -> Result<(), ScopeError<'s>
         | Meant::Routine(_)
         | Meant::Variable(_)
         | Meant::OuterVariable
+        | Meant::StrayVariable
+        | Meant::StrayLabel
         | Meant::LabelOutside => Err(ScopeError::Misplaced),
     }
 }
@@ -132,15 +126,53 @@ fn is_cell(meant: Meant) -> bool
     ensures { result ≡ is_cell (meant_view meant) }
 {
     match meant {
-        Meant::Static(_) | Meant::Global(_) | Meant::Variable(_) => true,
+        Meant::Static(_) | Meant::Global(_) | Meant::Variable(_) | Meant::StrayVariable => true,
         Meant::Constant(_)
         | Meant::Pending
         | Meant::Routine(_)
         | Meant::Label(_)
         | Meant::OuterVariable
         | Meant::OuterLabel
+        | Meant::StrayLabel
         | Meant::LabelOutside
         | Meant::Undeclared => false,
+    }
+}
+
+fn is_label(meant: Meant) -> bool
+    ensures { result ≡ is_label (meant_view meant) }
+{
+    match meant {
+        Meant::Label(_) | Meant::StrayLabel | Meant::LabelOutside => true,
+        Meant::Constant(_)
+        | Meant::Pending
+        | Meant::Static(_)
+        | Meant::Global(_)
+        | Meant::Routine(_)
+        | Meant::Variable(_)
+        | Meant::OuterVariable
+        | Meant::OuterLabel
+        | Meant::StrayVariable
+        | Meant::Undeclared => false,
+    }
+}
+
+fn names_label(scope: &Scope<'_>, e: &Exp<'_>) -> bool
+    ensures { result ≡ names_label (scope_view scope.now) (exp_view e.now) }
+{
+    match e {
+        Exp::Name(name) => is_label(scope.meant_by(name)),
+        Exp::Monadic(_, _)
+        | Exp::Dyadic(_, _, _)
+        | Exp::Number(_)
+        | Exp::Character(_)
+        | Exp::String(_)
+        | Exp::True
+        | Exp::False
+        | Exp::Table(_)
+        | Exp::Valof(_)
+        | Exp::Condition { .. }
+        | Exp::Call(_, _) => false,
     }
 }
 
@@ -165,17 +197,25 @@ pub fn has_cell(scope: &Scope<'_>, e: &Exp<'_>) -> bool
     }
 }
 
+/// Whether `@` may take an expression: what has a cell, and in a constant a label's name, which is at no fault there.
+fn has_address(scope: &Scope<'_>, in_constant: bool, e: &Exp<'_>) -> bool
+    ensures { result ≡ has_address in_constant (scope_view scope.now) (exp_view e.now) }
+{
+    has_cell(scope, e) || (in_constant && names_label(scope, e))
+}
+
 /// `@` wants a cell.
 pub fn address_fault<'s>(
     scope: &Scope<'s>,
+    in_constant: bool,
     sign: Monadic,
     operand: &Exp<'s>,
 ) -> Result<(), ScopeError<'s>>
-    ensures { Passes result (address_fault (scope_view scope.now) sign (exp_view operand.now)) }
+    ensures { Passes result (address_fault in_constant (scope_view scope.now) sign (exp_view operand.now)) }
 {
     match sign {
         Monadic::Address => {
-            if has_cell(scope, operand) {
+            if has_address(scope, in_constant, operand) {
                 Ok(())
             } else {
                 Err(ScopeError::NotAssignable)
@@ -201,7 +241,8 @@ pub fn declare_once<'s>(
     before: &mut IndexSet<&'s [u8]>,
     name: &'s [u8],
 ) -> Result<(), ScopeError<'s>>
-    ensures { Judges result (twice_fault (names_view before.old.keys) name.entry.now) (λ _. names_view before.new.keys ≡ names_view before.old.keys ++ name.entry.now ∷ []) }
+    ensures { Judges result (twice_fault (names_view before.old.keys) name.entry.now)
+        (λ _. names_view before.new.keys ≡ names_view before.old.keys ++ name.entry.now ∷ []) }
 {
     if before.insert(name)? {
         Ok(())
@@ -215,7 +256,8 @@ pub fn declare_all_once<'s>(
     before: &mut IndexSet<&'s [u8]>,
     names: &[&'s [u8]],
 ) -> Result<(), ScopeError<'s>>
-    ensures { Judges result (all_twice_fault (names_view before.old.keys) (names_view names.now)) (λ _. names_view before.new.keys ≡ names_view before.old.keys ++ names_view names.now) }
+    ensures { Judges result (all_twice_fault (names_view before.old.keys) (names_view names.now))
+        (λ _. names_view before.new.keys ≡ names_view before.old.keys ++ names_view names.now) }
 {
     for name in names {
         declare_once(before, name)?;
@@ -266,7 +308,9 @@ impl<'s> Met<'s> {
 
     /// CASE with its value.
     pub fn case(&mut self, in_cases: bool, value: Word) -> Result<(), ScopeError<'s>>
-        ensures { Judges result (case_fault in_cases (met_view self.old) value) (λ _. met_view self.new ≡ record { names = (met_view self.old).names; values = (met_view self.old).values ++ value ∷ []; default = self.old.default }) }
+        ensures { Judges result (case_fault in_cases (met_view self.old) value)
+            (λ _. met_view self.new ≡
+            record { names = (met_view self.old).names; values = (met_view self.old).values ++ value ∷ []; default = self.old.default }) }
     {
         unless_misplaced(in_cases)?;
         if self.values.insert(value.get())? {
@@ -278,7 +322,8 @@ impl<'s> Met<'s> {
 
     /// DEFAULT.
     pub fn default(&mut self, in_cases: bool) -> Result<(), ScopeError<'s>>
-        ensures { Judges result (default_fault in_cases (met_view self.old)) (λ _. met_view self.new ≡ record { names = (met_view self.old).names; values = (met_view self.old).values; default = true }) }
+        ensures { Judges result (default_fault in_cases (met_view self.old))
+            (λ _. met_view self.new ≡ record { names = (met_view self.old).names; values = (met_view self.old).values; default = true }) }
     {
         unless_misplaced(in_cases)?;
         if self.default {
@@ -290,7 +335,9 @@ impl<'s> Met<'s> {
 
     /// A label with a name.
     pub fn name(&mut self, name: &'s [u8]) -> Result<(), ScopeError<'s>>
-        ensures { Judges result (twice_fault (met_view self.old).names name.entry.now) (λ _. met_view self.new ≡ record { names = (met_view self.old).names ++ name.entry.now ∷ []; values = (met_view self.old).values; default = self.old.default }) }
+        ensures { Judges result (twice_fault (met_view self.old).names name.entry.now)
+            (λ _. met_view self.new ≡
+            record { names = (met_view self.old).names ++ name.entry.now ∷ []; values = (met_view self.old).values; default = self.old.default }) }
     {
         declare_once(&mut self.names, name)
     }
@@ -355,29 +402,6 @@ pub fn level_at(levels: &[u64], i: u64) -> u64
 {
     let i = i as usize;
     if i < levels.len() { levels[i] } else { 0 }
-}
-
-/// The fault that was found for this definition; none where there are not as many.
-#[tactic(auto, using(std::proofs::lemmas::List::drop_more, std::proofs::lemmas::List::drop_all))]
-pub fn fault_at<'s>(faults: &[Option<ScopeError<'s>>], i: u64) -> Option<ScopeError<'s>>
-    ensures { result ≡ first_found (drop i faults.now) }
-{
-    let i = i as usize;
-    if i < faults.len() { faults[i] } else { None }
-}
-
-/// For each definition of a LET, that no fault was found.
-pub fn no_faults<'s>(
-    alloc: Global,
-    list: &[Definition<'s>],
-) -> Result<Vec<Option<ScopeError<'s>>>, Memory>
-    ensures { IfOk result (λ fs. fs.items ≡ no_faults (definitions_view list.now)) }
-{
-    let mut faults = Vec::with_capacity(alloc, list.len())?;
-    for _each in list {
-        faults.push(None)?;
-    }
-    Ok(faults)
 }
 
 /// The width of an expression of this pair, where there is such a pair.

@@ -1,20 +1,20 @@
 -- Names that are alike: the same names in the same order, and what they mean is the same but for its number.
 use Rattle.std.proofs.Common.{◌≡◌, ◌∙◌, ℕ, ◌+◌, Bool, true, false, List, [], ◌∷◌, ◌++◌, cond, is_some, Option, Some, None, refl, sym, ap}
-use Rattle.std.specs.Prelude.{nat_lt, ◌&&◌}
+use Rattle.std.specs.Prelude.{nat_lt, ◌&&◌, ◌||◌}
 use Rattle.bc_parse_tree.specs.declared.tree.Storage.{Storage}
 use Rattle.bc_parse_tree.specs.declared.tree.Storage.TheVariants as storage
 use Rattle.bc_parse_tree.specs.declared.tree.Dyadic.TheVariants as dyadic
 use Rattle.bc_parse_tree.specs.declared.tree.Monadic.{Monadic}
 use Rattle.bc_parse_tree.specs.declared.tree.Monadic.TheVariants as monadic
 use Rattle.bc_parse_tree.specs.Tree as tree
-use Rattle.bc_scope_defs.specs.Scope.{Meant, Constant, Pending, Static, Global, Routine, Variable, OuterVariable, OuterLabel, LabelOutside, Undeclared, Env, Name, Numbers, meant_by, is_name}
+use Rattle.bc_scope_defs.specs.Scope.{Meant, Constant, Pending, Static, Global, Routine, Variable, OuterVariable, OuterLabel, StrayVariable, StrayLabel, LabelOutside, Undeclared, Env, Names, Name, Numbers, with_name, meant_among, meant_by, is_name}
 use Rattle.bc_scope_defs.specs.Scope as scope
 use Rattle.bc_scope_defs.specs.Numbering.{behind_entry, behind_declaration, behind_definition, labels_named, labels_of_item}
-use Rattle.bc_scope_defs.specs.Scoping.{operator, constant, constant_in, constant_name, constant_monadic, constant_dyadic, or_zero, pending, pending_names, names_of, meant_as, in_entry, in_entries, cells_of, cells_of_all, variables, routine_name, in_definition, in_definitions, before_let, in_let, in_declaration, in_declarations, cells_in, level_behind, in_for, in_label, in_labels, in_item, in_list, in_routine, in_valof}
+use Rattle.bc_scope_defs.specs.Scoping.{operator, constant, constant_in, constant_name, constant_monadic, constant_dyadic, or_zero, any_numbers, pending, own_names, meant_as, in_entry, in_entries, cells_of, cells_of_all, variables, routine_name, in_definition, in_definitions, before_let, in_let, in_declaration, in_declarations, cells_in, level_behind, in_for, in_label, in_labels, in_item, in_list, around_routine, around_valof, seen_through, in_routine, in_valof}
 use Rattle.bc_scope_defs.specs.Sides.{kinds_of_name, kinds_of_monadic, kinds_of_dyadic, kinds, is_operand_kind, side_levels}
 use Rattle.bc_scope_defs.specs.Found.{in_parameters}
 use Rattle.bc_scope_defs.specs.Frames.{all_held}
-use Rattle.bc_scope_defs.specs.Faults.{ANotConstant, ANotAssignable, AGlobalNumber, unless, name_fault, jump_fault, not_constant, is_cell, has_cell, address_fault, all_have_cells, Met, met_label, met_labels, entry_fault}
+use Rattle.bc_scope_defs.specs.Faults.{ANotConstant, ANotAssignable, AGlobalNumber, unless, name_fault, jump_fault, not_constant, is_cell, has_cell, is_label, names_label, address_fault, all_have_cells, Met, met_label, met_labels, entry_fault}
 use Rattle.bc_scope_laws.specs.Laws.{without_number, without_numbers}
 
 pub record Alike (E F : Env) : Type 0 where
@@ -25,13 +25,16 @@ alike_self E = record { same = refl }
 
 -- What a name means
 
-meant_without : (E : Env) (n : Name) → without_number (meant_by E n) ≡ meant_by (without_numbers E) n
-meant_without [] n = refl
-meant_without (e ∷ E) n = by (is_name e.0 n) (meant_without E n) where
-  by : (b : Bool) → without_number (meant_by E n) ≡ meant_by (without_numbers E) n
-      → without_number (elim b [ true ↦ e.1 | false ↦ meant_by E n ]) ≡ elim b [ true ↦ without_number e.1 | false ↦ meant_by (without_numbers E) n ]
+among_without : (es : Names) (n : Name) → without_number (meant_among es n) ≡ meant_among (seen_through without_number es) n
+among_without [] n = refl
+among_without (e ∷ es) n = by (is_name e.0 n) (among_without es n) where
+  by : (b : Bool) → without_number (meant_among es n) ≡ meant_among (seen_through without_number es) n
+      → without_number (elim b [ true ↦ e.1 | false ↦ meant_among es n ]) ≡ elim b [ true ↦ without_number e.1 | false ↦ meant_among (seen_through without_number es) n ]
   by true h = refl
   by false h = h
+
+meant_without : (E : Env) (n : Name) → without_number (meant_by E n) ≡ meant_by (without_numbers E) n
+meant_without E n = among_without E.names n
 
 -- so what is told of a meaning without its number is told of both
 pub same_told : {A : Type 0} {E F : Env} (told : Meant → A) → ((m : Meant) → told (without_number m) ≡ told m) → (n : Name) → Alike E F → told (meant_by E n) ≡ told (meant_by F n)
@@ -48,6 +51,8 @@ constant_blind (Variable k) = refl
 constant_blind (scope.Label l) = refl
 constant_blind OuterVariable = refl
 constant_blind OuterLabel = refl
+constant_blind StrayVariable = refl
+constant_blind StrayLabel = refl
 constant_blind LabelOutside = refl
 constant_blind Undeclared = refl
 
@@ -61,6 +66,8 @@ kinds_blind (Variable k) = refl
 kinds_blind (scope.Label l) = refl
 kinds_blind OuterVariable = refl
 kinds_blind OuterLabel = refl
+kinds_blind StrayVariable = refl
+kinds_blind StrayLabel = refl
 kinds_blind LabelOutside = refl
 kinds_blind Undeclared = refl
 
@@ -74,8 +81,25 @@ cell_blind (Variable k) = refl
 cell_blind (scope.Label l) = refl
 cell_blind OuterVariable = refl
 cell_blind OuterLabel = refl
+cell_blind StrayVariable = refl
+cell_blind StrayLabel = refl
 cell_blind LabelOutside = refl
 cell_blind Undeclared = refl
+
+label_blind : (m : Meant) → is_label (without_number m) ≡ is_label m
+label_blind (Constant w) = refl
+label_blind Pending = refl
+label_blind (Static m) = refl
+label_blind (Global g) = refl
+label_blind (Routine m) = refl
+label_blind (Variable k) = refl
+label_blind (scope.Label l) = refl
+label_blind OuterVariable = refl
+label_blind OuterLabel = refl
+label_blind StrayVariable = refl
+label_blind StrayLabel = refl
+label_blind LabelOutside = refl
+label_blind Undeclared = refl
 
 name_blind : (c : Bool) (n : Name) (m : Meant) → name_fault c n (without_number m) ≡ name_fault c n m
 name_blind c n (Constant w) = refl
@@ -87,6 +111,8 @@ name_blind c n (Variable k) = refl
 name_blind c n (scope.Label l) = refl
 name_blind c n OuterVariable = refl
 name_blind c n OuterLabel = refl
+name_blind c n StrayVariable = refl
+name_blind c n StrayLabel = refl
 name_blind c n LabelOutside = refl
 name_blind c n Undeclared = refl
 
@@ -100,6 +126,8 @@ jump_blind n (Variable k) = refl
 jump_blind n (scope.Label l) = refl
 jump_blind n OuterVariable = refl
 jump_blind n OuterLabel = refl
+jump_blind n StrayVariable = refl
+jump_blind n StrayLabel = refl
 jump_blind n LabelOutside = refl
 jump_blind n Undeclared = refl
 
@@ -157,9 +185,13 @@ pub same_have_cells : {E F : Env} (xs : tree.Exps) → Alike E F → all_have_ce
 same_have_cells tree.none h = refl
 same_have_cells (tree.more x xs) h = λ i. same_has_cell x h i && same_have_cells xs h i
 
-pub same_address_fault : {E F : Env} (m : Monadic) (e : tree.Exp) → Alike E F → address_fault E m e ≡ address_fault F m e
-same_address_fault monadic.Address e h = ap (λ b. unless b ANotAssignable) (same_has_cell e h)
-same_address_fault _ e h = refl
+same_names_label : {E F : Env} (e : tree.Exp) → Alike E F → names_label E e ≡ names_label F e
+same_names_label (tree.Name n) h = same_told is_label label_blind n h
+same_names_label _ h = refl
+
+pub same_address_fault : {E F : Env} (c : Bool) (m : Monadic) (e : tree.Exp) → Alike E F → address_fault c E m e ≡ address_fault c F m e
+same_address_fault c monadic.Address e h = λ i. unless (same_has_cell e h i || (c && same_names_label e h i)) ANotAssignable
+same_address_fault c _ e h = refl
 
 same_kinds : {E F : Env} (e : tree.Exp) → Alike E F → kinds E e ≡ kinds F e
 same_kinds (tree.Name n) h = same_told kinds_of_name kinds_blind n h
@@ -185,18 +217,18 @@ same_held (tree.more x xs) s h = λ i. cond (is_operand_kind (same_kinds x h i).
 
 -- Names that are declared
 
-pub alike_more : {E F : Env} (n : Name) (m q : Meant) → without_number m ≡ without_number q → Alike E F → Alike ((n, m) ∷ E) ((n, q) ∷ F)
-alike_more n m q e h = record { same = λ i. (n, e i) ∷ h.same i }
-
-pub alike_pending : {E F : Env} (es : tree.Entries) → Alike E F → Alike (pending es E) (pending es F)
-alike_pending tree.no_entries h = h
-alike_pending (tree.entry n k es) h = alike_pending es (alike_more n Pending Pending refl h)
+pub alike_more : {E F : Env} (n : Name) (m q : Meant) → without_number m ≡ without_number q → Alike E F → Alike (with_name n m E) (with_name n q F)
+alike_more n m q e h = record { same = λ i. with_name n (e i) (h.same i) }
 
 same_storage : (s : Storage) (at to : Numbers) (w : Option ℕ) → without_number (meant_as s at w) ≡ without_number (meant_as s to w)
 same_storage storage.Manifest at to None = refl
 same_storage storage.Manifest at to (Some w) = refl
 same_storage storage.Static at to w = refl
 same_storage storage.Global at to w = refl
+
+pub alike_pending : (s : Storage) {E F : Env} (es : tree.Entries) → Alike E F → Alike (pending s es E) (pending s es F)
+alike_pending s tree.no_entries h = h
+alike_pending s (tree.entry n k es) h = alike_pending s es (alike_more n (meant_as s any_numbers None) (meant_as s any_numbers None) refl h)
 
 pub alike_entry : {E F : Env} (s : Storage) (at to : Numbers) (n : Name) (k : tree.Exp) → Alike E F → Alike (in_entry s at n k E) (in_entry s to n k F)
 alike_entry {E} {F} s at to n k h =
@@ -211,14 +243,6 @@ pub alike_variables : {E F : Env} (ns : List Name) (k l : ℕ) → Alike E F →
 alike_variables [] k l h = h
 alike_variables (n ∷ ns) k l h = alike_variables ns (k + 1) (l + 1) (alike_more n (Variable k) (Variable l) refl h)
 
-alike_pending_names : {E F : Env} (ns : List Name) → Alike E F → Alike (pending_names ns E) (pending_names ns F)
-alike_pending_names [] h = h
-alike_pending_names (n ∷ ns) h = alike_pending_names ns (alike_more n Pending Pending refl h)
-
-pub alike_before_let : {E F : Env} (ds : tree.Definitions) → Alike E F → Alike (before_let ds E) (before_let ds F)
-alike_before_let tree.no_definitions h = h
-alike_before_let (tree.definition d ds) h = alike_before_let ds (alike_pending_names (names_of d) h)
-
 routine_without : (n : Name) (q : ℕ) (E : Env) (m : Meant) → without_numbers (routine_name m n q E) ≡ routine_name (without_number m) n 0 (without_numbers E)
 routine_without n q E (Constant w) = refl
 routine_without n q E Pending = refl
@@ -229,6 +253,8 @@ routine_without n q E (Variable k) = refl
 routine_without n q E (scope.Label l) = refl
 routine_without n q E OuterVariable = refl
 routine_without n q E OuterLabel = refl
+routine_without n q E StrayVariable = refl
+routine_without n q E StrayLabel = refl
 routine_without n q E LabelOutside = refl
 routine_without n q E Undeclared = refl
 
@@ -242,6 +268,8 @@ without_twice (Variable k) = refl
 without_twice (scope.Label l) = refl
 without_twice OuterVariable = refl
 without_twice OuterLabel = refl
+without_twice StrayVariable = refl
+without_twice StrayLabel = refl
 without_twice LabelOutside = refl
 without_twice Undeclared = refl
 
@@ -259,6 +287,13 @@ alike_definition at to k l (tree.Vector n c) b h = alike_more n (Variable k) (Va
 alike_definition at to k l (tree.Function n ps e) b h = alike_routine_name n at.place to.place b h
 alike_definition at to k l (tree.Routine n ps c) b h = alike_routine_name n at.place to.place b h
 
+alike_own : {B C : Env} (ds : tree.Definitions) {E F : Env} → Alike B C → Alike E F → Alike (own_names B ds E) (own_names C ds F)
+alike_own tree.no_definitions b h = h
+alike_own (tree.definition d ds) b h = alike_own ds b (alike_definition any_numbers any_numbers 0 0 d b h)
+
+pub alike_before_let : {E F : Env} (ds : tree.Definitions) → Alike E F → Alike (before_let ds E) (before_let ds F)
+alike_before_let ds h = alike_own ds h h
+
 alike_definitions : {B C : Env} (K L : Env) (at to : Numbers) (k l : ℕ) {E F : Env} (ds : tree.Definitions) → Alike B C → Alike E F → Alike (in_definitions B K at k ds E) (in_definitions C L to l ds F)
 alike_definitions K L at to k l tree.no_definitions b h = h
 alike_definitions K L at to k l (tree.definition d ds) b h =
@@ -268,7 +303,7 @@ pub alike_let : {E F : Env} (at to : Numbers) (s t : ℕ) (ds : tree.Definitions
 alike_let {E} {F} at to s t ds h = alike_definitions (before_let ds E) (before_let ds F) at to s t ds h h
 
 pub alike_declaration : {E F : Env} (at to : Numbers) (s t : ℕ) (d : tree.Declaration) → Alike E F → Alike (in_declaration E at s d) (in_declaration F to t d)
-alike_declaration at to s t (tree.Constants k es) h = alike_entries k at to es (alike_pending es h)
+alike_declaration at to s t (tree.Constants k es) h = alike_entries k at to es (alike_pending k es h)
 alike_declaration at to s t (tree.Let ds) h = alike_let at to s t ds h
 
 pub alike_declarations : (at to : Numbers) (s t : ℕ) {E F : Env} (ds : tree.Declarations) → Alike E F → Alike (in_declarations E at s ds) (in_declarations F to t ds)
@@ -296,39 +331,70 @@ pub alike_list : (k l : ℕ) {E F : Env} (is : tree.Items) → Alike E F → Ali
 alike_list k l tree.no_items h = h
 alike_list k l (tree.item i is) h = alike_list (k + labels_of_item i) (l + labels_of_item i) is (alike_item k l i h)
 
+around_routine_without : (i : Bool) (m : Meant) → without_number (around_routine i m) ≡ around_routine i (without_number m)
+around_routine_without true (Variable k) = refl
+around_routine_without true (scope.Label l) = refl
+around_routine_without true LabelOutside = refl
+around_routine_without false (Variable k) = refl
+around_routine_without false (scope.Label l) = refl
+around_routine_without false LabelOutside = refl
+around_routine_without true (Constant w) = refl
+around_routine_without true Pending = refl
+around_routine_without true (Static m) = refl
+around_routine_without true (Global g) = refl
+around_routine_without true (Routine m) = refl
+around_routine_without true OuterVariable = refl
+around_routine_without true OuterLabel = refl
+around_routine_without true StrayVariable = refl
+around_routine_without true StrayLabel = refl
+around_routine_without true Undeclared = refl
+around_routine_without false (Constant w) = refl
+around_routine_without false Pending = refl
+around_routine_without false (Static m) = refl
+around_routine_without false (Global g) = refl
+around_routine_without false (Routine m) = refl
+around_routine_without false OuterVariable = refl
+around_routine_without false OuterLabel = refl
+around_routine_without false StrayVariable = refl
+around_routine_without false StrayLabel = refl
+around_routine_without false Undeclared = refl
+
+around_valof_without : (m : Meant) → without_number (around_valof m) ≡ around_valof (without_number m)
+around_valof_without (Constant w) = refl
+around_valof_without Pending = refl
+around_valof_without (Static m) = refl
+around_valof_without (Global g) = refl
+around_valof_without (Routine m) = refl
+around_valof_without (Variable k) = refl
+around_valof_without (scope.Label l) = refl
+around_valof_without OuterVariable = refl
+around_valof_without OuterLabel = refl
+around_valof_without StrayVariable = refl
+around_valof_without StrayLabel = refl
+around_valof_without LabelOutside = refl
+around_valof_without Undeclared = refl
+
+-- what goes before or behind goes name by name
+through_without : (f : Meant → Meant) → ((m : Meant) → without_number (f m) ≡ f (without_number m)) → (es : Names)
+    → seen_through without_number (seen_through f es) ≡ seen_through f (seen_through without_number es)
+through_without f h [] = refl
+through_without f h (e ∷ es) = λ i. (e.0, h e.1 i) ∷ through_without f h es i
+
 valof_without : (E : Env) → without_numbers (in_valof E) ≡ in_valof (without_numbers E)
-valof_without [] = refl
-valof_without ((n, Constant w) ∷ E) = ap (λ F. (n, Constant w) ∷ F) (valof_without E)
-valof_without ((n, Pending) ∷ E) = ap (λ F. (n, Pending) ∷ F) (valof_without E)
-valof_without ((n, Static m) ∷ E) = ap (λ F. (n, Static 0) ∷ F) (valof_without E)
-valof_without ((n, Global g) ∷ E) = ap (λ F. (n, Global 0) ∷ F) (valof_without E)
-valof_without ((n, Routine m) ∷ E) = ap (λ F. (n, Routine 0) ∷ F) (valof_without E)
-valof_without ((n, Variable k) ∷ E) = ap (λ F. (n, Variable 0) ∷ F) (valof_without E)
-valof_without ((n, scope.Label l) ∷ E) = ap (λ F. (n, LabelOutside) ∷ F) (valof_without E)
-valof_without ((n, OuterVariable) ∷ E) = ap (λ F. (n, OuterVariable) ∷ F) (valof_without E)
-valof_without ((n, OuterLabel) ∷ E) = ap (λ F. (n, OuterLabel) ∷ F) (valof_without E)
-valof_without ((n, LabelOutside) ∷ E) = ap (λ F. (n, LabelOutside) ∷ F) (valof_without E)
-valof_without ((n, Undeclared) ∷ E) = ap (λ F. (n, Undeclared) ∷ F) (valof_without E)
+valof_without E = λ i. record E { names = through_without around_valof around_valof_without E.names i }
 
 routine_side_without : (E : Env) → without_numbers (in_routine E) ≡ in_routine (without_numbers E)
-routine_side_without [] = refl
-routine_side_without ((n, Constant w) ∷ E) = ap (λ F. (n, Constant w) ∷ F) (routine_side_without E)
-routine_side_without ((n, Pending) ∷ E) = ap (λ F. (n, Pending) ∷ F) (routine_side_without E)
-routine_side_without ((n, Static m) ∷ E) = ap (λ F. (n, Static 0) ∷ F) (routine_side_without E)
-routine_side_without ((n, Global g) ∷ E) = ap (λ F. (n, Global 0) ∷ F) (routine_side_without E)
-routine_side_without ((n, Routine m) ∷ E) = ap (λ F. (n, Routine 0) ∷ F) (routine_side_without E)
-routine_side_without ((n, Variable k) ∷ E) = ap (λ F. (n, OuterVariable) ∷ F) (routine_side_without E)
-routine_side_without ((n, scope.Label l) ∷ E) = ap (λ F. (n, OuterLabel) ∷ F) (routine_side_without E)
-routine_side_without ((n, OuterVariable) ∷ E) = ap (λ F. (n, OuterVariable) ∷ F) (routine_side_without E)
-routine_side_without ((n, OuterLabel) ∷ E) = ap (λ F. (n, OuterLabel) ∷ F) (routine_side_without E)
-routine_side_without ((n, LabelOutside) ∷ E) = ap (λ F. (n, OuterLabel) ∷ F) (routine_side_without E)
-routine_side_without ((n, Undeclared) ∷ E) = ap (λ F. (n, Undeclared) ∷ F) (routine_side_without E)
+routine_side_without E = λ i. record { names = through_without (around_routine E.inside) (around_routine_without E.inside) E.names i; inside = true }
 
 pub alike_valof : {E F : Env} → Alike E F → Alike (in_valof E) (in_valof F)
 alike_valof {E} {F} h = record { same = valof_without E ∙ ap in_valof h.same ∙ sym (valof_without F) }
 
 pub alike_parameters : {E F : Env} (ps : List Name) → Alike E F → Alike (in_parameters ps E) (in_parameters ps F)
 alike_parameters {E} {F} ps h = alike_variables ps 2 2 (record { same = routine_side_without E ∙ ap in_routine h.same ∙ sym (routine_side_without F) })
+
+-- both stand inside a routine, or both outside
+pub same_inside : {E F : Env} → Alike E F → E.inside ≡ F.inside
+same_inside h = ap (λ (G : Env). G.inside) h.same
 
 -- Levels
 

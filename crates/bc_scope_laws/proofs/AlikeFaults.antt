@@ -4,7 +4,7 @@ use Rattle.std.specs.Prelude.{nat_le}
 use Rattle.bc_parse_tree.specs.declared.tree.Storage.{Storage}
 use Rattle.bc_parse_tree.specs.Tree as tree
 use Rattle.bc_core.specs.Level.{operand_level, argument_level, routine_level, level_in_for, level_behind_parameters}
-use Rattle.bc_scope_defs.specs.Scope.{Env, Name, Numbers, behind_place, behind_valof, behind_labels}
+use Rattle.bc_scope_defs.specs.Scope.{Env, nothing_known, Name, Numbers, behind_place, behind_valof, behind_labels}
 use Rattle.bc_scope_defs.specs.Numbering.{behind_entry, behind, behind_all, behind_declarations, behind_declaration, behind_definition, behind_command, behind_block, labels_in}
 use Rattle.bc_scope_defs.specs.Scoping.{names_of, count, cells_of_all, before_let, cells_in, level_behind}
 use Rattle.bc_scope_defs.specs.Sides.{side_levels}
@@ -12,7 +12,7 @@ use Rattle.bc_scope_defs.specs.Found.{Thing, AValof, ARoutine, Data, section_sta
 use Rattle.bc_scope_defs.specs.Faults.{Fault, AMisplaced, ANotAssignable, AFrameTooLarge, or_else, unless, Allowed, in_a_loop, in_a_switch, allowed_in_routine, allowed_in_valof, twice_fault, all_twice_fault, Met, none_met, met_label, met_labels, case_fault, places_fault, fault, all_fault, constants_fault, entries_fault, definition_fault, definitions_fault, declaration_fault, declarations_fault, block_fault, label_fault, labels_fault, items_fault, command_fault, frames_fault, section_fault}
 use Rattle.bc_scope_defs.specs.FaultsAlong as along
 use Rattle.bc_scope_laws.specs.Laws.{FaultsAskNoNumbers}
-use Rattle.bc_scope_laws.proofs.Alike.{Alike, alike_self, alike_pending, alike_entry, alike_valof, alike_parameters, alike_before_let, alike_let, alike_declaration, alike_declarations, alike_for, alike_list, same_name_fault, same_jump_fault, same_address_fault, same_not_constant, same_entry_fault, same_constant, same_met, same_mets, same_have_cells}
+use Rattle.bc_scope_laws.proofs.Alike.{Alike, alike_self, alike_pending, alike_entry, alike_valof, alike_parameters, alike_before_let, alike_let, alike_declaration, alike_declarations, alike_for, alike_list, same_inside, same_name_fault, same_jump_fault, same_address_fault, same_not_constant, same_entry_fault, same_constant, same_met, same_mets, same_have_cells}
 use Rattle.bc_scope_laws.proofs.AlikeWidths.{same_frame}
 
 -- one name is all the names of a list of one
@@ -32,7 +32,7 @@ mutual
   same_fault c at (tree.Text bytes) s h = refl
   same_fault c at (tree.Table ks) s h = same_constants at ks h
   same_fault c at (tree.Valof b) s h = same_block allowed_in_valof (behind_valof at) b s (alike_valof h)
-  same_fault c at (tree.Monadic m e) s h = λ i. or_else (same_fault c at e s h i) (same_address_fault m e h i)
+  same_fault c at (tree.Monadic m e) s h = λ i. or_else (same_fault c at e s h i) (same_address_fault c m e h i)
   same_fault c at (tree.Dyadic o l r) s h = λ i. or_else (same_fault c at l (operand_level s) h i) (same_fault c (behind at l) r (operand_level s) h i)
   same_fault c at (tree.Condition t x y) s h =
       let bt = behind at t in λ i. or_else (same_fault c at t s h i) (or_else (same_fault c bt x s h i) (same_fault c (behind bt x) y s h i))
@@ -61,36 +61,36 @@ mutual
       let rest = same_entries s (ns ++ (n ∷ [])) (behind_entry s at) es (alike_entry s at section_start n k h) in
       λ i. or_else (twice_fault ns n) (or_else (or_else (same_fault true at k 0 h i) (same_not_constant k h i)) (or_else (same_entry_fault s n k h i) (rest i)))
 
-  same_definition : {B C E F : Env} (i : Bool) (ns : List Name) (at : Numbers) (d : tree.Definition) (s : ℕ) → Alike B C → Alike E F
-      → along.definition_fault i ns B E at d s ≡ definition_fault i ns C F d
-  same_definition i ns at (tree.Variables xs es) s b h = λ j. or_else (all_twice_fault ns xs) (or_else (same_initials at es s h j) (unless i AMisplaced))
-  same_definition i ns at (tree.Vector n k) s b h = λ j. or_else (alone ns n j) (or_else (or_else (same_fault true at k 0 b j) (same_not_constant k b j)) (unless i AMisplaced))
-  same_definition i ns at (tree.Function n ps e) s b h =
+  same_definition : {E F : Env} (ns : List Name) (at : Numbers) (d : tree.Definition) (s : ℕ) → Alike E F
+      → along.definition_fault ns E at d s ≡ definition_fault ns F d
+  same_definition ns at (tree.Variables xs es) s h = λ j. or_else (all_twice_fault ns xs) (or_else (same_initials at es s h j) (unless (same_inside h j) AMisplaced))
+  same_definition ns at (tree.Vector n k) s h = λ j. or_else (alone ns n j) (or_else (or_else (same_fault true at k 0 h j) (same_not_constant k h j)) (unless (same_inside h j) AMisplaced))
+  same_definition ns at (tree.Function n ps e) s h =
       λ j. or_else (alone ns n j) (or_else (all_twice_fault [] ps) (same_fault false (behind_place at) e (level_behind_parameters (length ps)) (alike_parameters ps h) j))
-  same_definition i ns at (tree.Routine n ps c) s b h =
+  same_definition ns at (tree.Routine n ps c) s h =
       λ j. or_else (alone ns n j) (or_else (all_twice_fault [] ps) (same_block allowed_in_routine (behind_place at) c (level_behind_parameters (length ps)) (alike_parameters ps h) j))
 
-  same_definitions : {B C E F : Env} (i : Bool) (ns : List Name) (at : Numbers) (ds : tree.Definitions) (s : ℕ) → Alike B C → Alike E F
-      → along.definitions_fault i ns B E at ds s ≡ definitions_fault i ns C F ds
-  same_definitions i ns at tree.no_definitions s b h = refl
-  same_definitions i ns at (tree.definition d ds) s b h =
-      λ j. or_else (same_definition i ns at d s b h j) (same_definitions i (ns ++ names_of d) (behind_definition at d) ds s b h j)
+  same_definitions : {E F : Env} (ns : List Name) (at : Numbers) (ds : tree.Definitions) (s : ℕ) → Alike E F
+      → along.definitions_fault ns E at ds s ≡ definitions_fault ns F ds
+  same_definitions ns at tree.no_definitions s h = refl
+  same_definitions ns at (tree.definition d ds) s h =
+      λ j. or_else (same_definition ns at d s h j) (same_definitions (ns ++ names_of d) (behind_definition at d) ds s h j)
 
-  same_declaration : {E F : Env} (i : Bool) (at : Numbers) (d : tree.Declaration) (s : ℕ) → Alike E F → along.declaration_fault i E at d s ≡ declaration_fault i F d
-  same_declaration i at (tree.Constants k es) s h = same_entries k [] at es (alike_pending es h)
-  same_declaration {E} {F} i at (tree.Let ds) s h =
-      same_definitions i [] at ds (s + cells_of_all (before_let ds E) ds) (alike_before_let ds h) (alike_let at section_start s 0 ds h)
+  same_declaration : {E F : Env} (at : Numbers) (d : tree.Declaration) (s : ℕ) → Alike E F → along.declaration_fault E at d s ≡ declaration_fault F d
+  same_declaration at (tree.Constants k es) s h = same_entries k [] at es (alike_pending k es h)
+  same_declaration {E} {F} at (tree.Let ds) s h =
+      same_definitions [] at ds (s + cells_of_all (before_let ds E) ds) (alike_let at section_start s 0 ds h)
 
-  pub same_declarations : {E F : Env} (i : Bool) (at : Numbers) (ds : tree.Declarations) (s : ℕ) → Alike E F → along.declarations_fault i E at ds s ≡ declarations_fault i F ds
-  same_declarations i at tree.no_declarations s h = refl
-  same_declarations {E} {F} i at (tree.declaration d ds) s h =
-      λ j. or_else (same_declaration i at d s h j) (same_declarations i (behind_declaration at d) ds (s + cells_in E d) (alike_declaration at section_start s 0 d h) j)
+  pub same_declarations : {E F : Env} (at : Numbers) (ds : tree.Declarations) (s : ℕ) → Alike E F → along.declarations_fault E at ds s ≡ declarations_fault F ds
+  same_declarations at tree.no_declarations s h = refl
+  same_declarations {E} {F} at (tree.declaration d ds) s h =
+      λ j. or_else (same_declaration at d s h j) (same_declarations (behind_declaration at d) ds (s + cells_in E d) (alike_declaration at section_start s 0 d h) j)
 
   same_block : {E F : Env} (W : Allowed) (at : Numbers) (b : tree.Block) (s : ℕ) → Alike E F → along.block_fault W E at b s ≡ block_fault W F b
   same_block {E} {F} W at (tree.block ds is) s h =
       let behind_it = behind_declarations at ds in
       let inside = alike_list behind_it.label 0 is (alike_declarations at section_start s 0 ds h) in
-      λ i. or_else (same_declarations true at ds s h i) (same_items false none_met W (behind_labels behind_it (labels_in is)) is (level_behind E at s ds) inside i)
+      λ i. or_else (same_declarations at ds s h i) (same_items false none_met W (behind_labels behind_it (labels_in is)) is (level_behind E at s ds) inside i)
 
   same_label : {E F : Env} (cases : Bool) (M : Met) (at : Numbers) (l : tree.Label) → Alike E F → along.label_fault cases M E at l ≡ label_fault cases M F l
   same_label cases M at (tree.Case k) h = λ i. or_else (or_else (same_fault true at k 0 h i) (same_not_constant k h i)) (case_fault cases M (same_constant k h i))
@@ -156,12 +156,12 @@ same_frames_fault (Data m d ∷ things) = same_frames_fault things
 pub same_section_fault : (ds : tree.Declarations) → along.section_fault ds ≡ section_fault ds
 same_section_fault ds =
     let things = found_in_section ds in
-    λ i. or_else (same_declarations false section_start ds 0 (alike_self []) i) (or_else (same_frames_fault things i) (places_fault things))
+    λ i. or_else (same_declarations section_start ds 0 (alike_self nothing_known) i) (or_else (same_frames_fault things i) (places_fault things))
 
 pub faults_ask_no_numbers : FaultsAskNoNumbers
 faults_ask_no_numbers = record {
   of_expressions = λ c E F h at e s. same_fault c at e s (record { same = h });
   of_commands = λ W E F h at c s. same_command W at c s (record { same = h });
-  of_declarations = λ i E F h at ds s. same_declarations i at ds s (record { same = h });
+  of_declarations = λ E F h at ds s. same_declarations at ds s (record { same = h });
   of_sections = same_section_fault;
 }

@@ -8,10 +8,10 @@ use Rattle.bc_parse_tree.specs.Tree as tree
 use Rattle.bc_core.specs.Level.{operand_level, argument_level, routine_level, level_in_for, level_behind_parameters}
 use Rattle.bc_core.specs.WellFormed.{Around, Jumps, nodes, most_nodes, stands_at, exp_fits, args_fit, root_fits, assignment_fits, variables_fit, declarations_fit, has, are_distinct, has_entries, global_fits, command_fits, block_fits, items_fit}
 use Rattle.bc_core.specs.WellFormed as fitting
-use Rattle.bc_scope_defs.specs.Scope.{Meant, Constant, Pending, Static, Global, Routine, Variable, OuterVariable, OuterLabel, LabelOutside, Undeclared, Env, Name, Numbers, meant_by, is_name, behind_valof, behind_labels, behind_place}
+use Rattle.bc_scope_defs.specs.Scope.{Meant, Constant, Pending, Static, Global, Routine, Variable, OuterVariable, OuterLabel, StrayVariable, StrayLabel, LabelOutside, Undeclared, Env, Names, Name, Numbers, meant_among, meant_by, is_name, behind_valof, behind_labels, behind_place}
 use Rattle.bc_scope_defs.specs.Scope as scope
 use Rattle.bc_scope_defs.specs.Numbering.{behind, behind_all, behind_declarations, behind_declaration, behind_definition, behind_command, behind_block, labels_of, labels_in}
-use Rattle.bc_scope_defs.specs.Scoping.{names_of, operator, constant, constant_in, or_zero, count, pending, in_entry, in_entries, variables, routine_name, in_definition, in_definitions, before_let, in_let, in_declaration, in_declarations, cells_in, level_behind, in_for, in_label, in_labels, in_item, in_list, in_valof, in_routine}
+use Rattle.bc_scope_defs.specs.Scoping.{names_of, operator, constant, constant_in, or_zero, count, pending, in_entry, in_entries, variables, routine_name, in_definition, in_definitions, before_let, in_let, in_declaration, in_declarations, cells_in, level_behind, in_for, in_label, in_labels, in_item, in_list, around_routine, around_valof, seen_through, in_valof, in_routine}
 use Rattle.bc_scope_defs.specs.Scoping as scoping
 use Rattle.bc_scope_defs.specs.Translation.{core_items}
 use Rattle.bc_scope_defs.specs.Found.{RoutineBody, Gives, Does, in_parameters, global_of, Thing, AValof, ARoutine, Data, AText, found, found_in_arguments, found_in_sides, found_in_initials, found_in_definition, found_in_definitions, found_in_entries, found_in_declaration, found_in_declarations, found_in_block, found_in_items, found_in_command}
@@ -41,44 +41,63 @@ Clean P (Data m _) = Unit {0}
 
 -- inside a routine or VALOF no label is known
 
-picked : (P : ℕ) (L : List ℕ) (m m1 x y : Meant) (b : Bool) → (MeantFits P L m → MeantFits P [] m1) → (MeantFits P L x → MeantFits P [] y)
-    → MeantFits P L (elim b [ true ↦ m | false ↦ x ]) → MeantFits P [] (elim b [ true ↦ m1 | false ↦ y ])
-picked P L m m1 x y true f g h = f h
-picked P L m m1 x y false f g h = g h
+valof_fits : (P : ℕ) (L : List ℕ) (m : Meant) → MeantFits P L m → MeantFits P [] (around_valof m)
+valof_fits P L (Constant w) h = tt
+valof_fits P L Pending h = tt
+valof_fits P L (Static m) h = h
+valof_fits P L (Global n) h = h
+valof_fits P L (Routine m) h = h
+valof_fits P L (Variable k) h = tt
+valof_fits P L (scope.Label l) h = tt
+valof_fits P L OuterVariable h = tt
+valof_fits P L OuterLabel h = tt
+valof_fits P L StrayVariable h = tt
+valof_fits P L StrayLabel h = tt
+valof_fits P L LabelOutside h = tt
+valof_fits P L Undeclared h = tt
 
-valof_fits : (P : ℕ) (L : List ℕ) (E : Env) (q : Name) → MeantFits P L (meant_by E q) → MeantFits P [] (meant_by (in_valof E) q)
-valof_fits P L [] q h = tt
-valof_fits P L ((n, Constant w) ∷ E) q h = picked P L (Constant w) (Constant w) (meant_by E q) (meant_by (in_valof E) q) (is_name n q) (λ k. k) (valof_fits P L E q) h
-valof_fits P L ((n, Pending) ∷ E) q h = picked P L Pending Pending (meant_by E q) (meant_by (in_valof E) q) (is_name n q) (λ k. k) (valof_fits P L E q) h
-valof_fits P L ((n, Static m) ∷ E) q h = picked P L (Static m) (Static m) (meant_by E q) (meant_by (in_valof E) q) (is_name n q) (λ k. k) (valof_fits P L E q) h
-valof_fits P L ((n, Global m) ∷ E) q h = picked P L (Global m) (Global m) (meant_by E q) (meant_by (in_valof E) q) (is_name n q) (λ k. k) (valof_fits P L E q) h
-valof_fits P L ((n, Routine m) ∷ E) q h = picked P L (Routine m) (Routine m) (meant_by E q) (meant_by (in_valof E) q) (is_name n q) (λ k. k) (valof_fits P L E q) h
-valof_fits P L ((n, Variable k) ∷ E) q h = picked P L (Variable k) (Variable k) (meant_by E q) (meant_by (in_valof E) q) (is_name n q) (λ k. k) (valof_fits P L E q) h
-valof_fits P L ((n, scope.Label l) ∷ E) q h = picked P L (scope.Label l) LabelOutside (meant_by E q) (meant_by (in_valof E) q) (is_name n q) (λ k. tt) (valof_fits P L E q) h
-valof_fits P L ((n, OuterVariable) ∷ E) q h = picked P L OuterVariable OuterVariable (meant_by E q) (meant_by (in_valof E) q) (is_name n q) (λ k. k) (valof_fits P L E q) h
-valof_fits P L ((n, OuterLabel) ∷ E) q h = picked P L OuterLabel OuterLabel (meant_by E q) (meant_by (in_valof E) q) (is_name n q) (λ k. k) (valof_fits P L E q) h
-valof_fits P L ((n, LabelOutside) ∷ E) q h = picked P L LabelOutside LabelOutside (meant_by E q) (meant_by (in_valof E) q) (is_name n q) (λ k. k) (valof_fits P L E q) h
-valof_fits P L ((n, Undeclared) ∷ E) q h = picked P L Undeclared Undeclared (meant_by E q) (meant_by (in_valof E) q) (is_name n q) (λ k. k) (valof_fits P L E q) h
+routine_fits : (P : ℕ) (L : List ℕ) (i : Bool) (m : Meant) → MeantFits P L m → MeantFits P [] (around_routine i m)
+routine_fits P L true (Constant w) h = tt
+routine_fits P L true Pending h = tt
+routine_fits P L true (Static m) h = h
+routine_fits P L true (Global n) h = h
+routine_fits P L true (Routine m) h = h
+routine_fits P L true (Variable k) h = tt
+routine_fits P L true (scope.Label l) h = tt
+routine_fits P L true OuterVariable h = tt
+routine_fits P L true OuterLabel h = tt
+routine_fits P L true StrayVariable h = tt
+routine_fits P L true StrayLabel h = tt
+routine_fits P L true LabelOutside h = tt
+routine_fits P L true Undeclared h = tt
+routine_fits P L false (Constant w) h = tt
+routine_fits P L false Pending h = tt
+routine_fits P L false (Static m) h = h
+routine_fits P L false (Global n) h = h
+routine_fits P L false (Routine m) h = h
+routine_fits P L false (Variable k) h = tt
+routine_fits P L false (scope.Label l) h = tt
+routine_fits P L false OuterVariable h = tt
+routine_fits P L false OuterLabel h = tt
+routine_fits P L false StrayVariable h = tt
+routine_fits P L false StrayLabel h = tt
+routine_fits P L false LabelOutside h = tt
+routine_fits P L false Undeclared h = tt
 
-routine_fits : (P : ℕ) (L : List ℕ) (E : Env) (q : Name) → MeantFits P L (meant_by E q) → MeantFits P [] (meant_by (in_routine E) q)
-routine_fits P L [] q h = tt
-routine_fits P L ((n, Constant w) ∷ E) q h = picked P L (Constant w) (Constant w) (meant_by E q) (meant_by (in_routine E) q) (is_name n q) (λ k. k) (routine_fits P L E q) h
-routine_fits P L ((n, Pending) ∷ E) q h = picked P L Pending Pending (meant_by E q) (meant_by (in_routine E) q) (is_name n q) (λ k. k) (routine_fits P L E q) h
-routine_fits P L ((n, Static m) ∷ E) q h = picked P L (Static m) (Static m) (meant_by E q) (meant_by (in_routine E) q) (is_name n q) (λ k. k) (routine_fits P L E q) h
-routine_fits P L ((n, Global m) ∷ E) q h = picked P L (Global m) (Global m) (meant_by E q) (meant_by (in_routine E) q) (is_name n q) (λ k. k) (routine_fits P L E q) h
-routine_fits P L ((n, Routine m) ∷ E) q h = picked P L (Routine m) (Routine m) (meant_by E q) (meant_by (in_routine E) q) (is_name n q) (λ k. k) (routine_fits P L E q) h
-routine_fits P L ((n, Variable k) ∷ E) q h = picked P L (Variable k) OuterVariable (meant_by E q) (meant_by (in_routine E) q) (is_name n q) (λ k. tt) (routine_fits P L E q) h
-routine_fits P L ((n, scope.Label l) ∷ E) q h = picked P L (scope.Label l) OuterLabel (meant_by E q) (meant_by (in_routine E) q) (is_name n q) (λ k. tt) (routine_fits P L E q) h
-routine_fits P L ((n, OuterVariable) ∷ E) q h = picked P L OuterVariable OuterVariable (meant_by E q) (meant_by (in_routine E) q) (is_name n q) (λ k. k) (routine_fits P L E q) h
-routine_fits P L ((n, OuterLabel) ∷ E) q h = picked P L OuterLabel OuterLabel (meant_by E q) (meant_by (in_routine E) q) (is_name n q) (λ k. k) (routine_fits P L E q) h
-routine_fits P L ((n, LabelOutside) ∷ E) q h = picked P L LabelOutside OuterLabel (meant_by E q) (meant_by (in_routine E) q) (is_name n q) (λ k. tt) (routine_fits P L E q) h
-routine_fits P L ((n, Undeclared) ∷ E) q h = picked P L Undeclared Undeclared (meant_by E q) (meant_by (in_routine E) q) (is_name n q) (λ k. k) (routine_fits P L E q) h
+through_fits : (P : ℕ) (L : List ℕ) (f : Meant → Meant) → ((m : Meant) → MeantFits P L m → MeantFits P [] (f m)) → (es : Names) (q : Name)
+    → MeantFits P L (meant_among es q) → MeantFits P [] (meant_among (seen_through f es) q)
+through_fits P L f h [] q k = tt
+through_fits P L f h (e ∷ es) q k = by (is_name e.0 q) (through_fits P L f h es q) k where
+  by : (b : Bool) → (MeantFits P L (meant_among es q) → MeantFits P [] (meant_among (seen_through f es) q))
+      → MeantFits P L (elim b [ true ↦ e.1 | false ↦ meant_among es q ]) → MeantFits P [] (elim b [ true ↦ f e.1 | false ↦ meant_among (seen_through f es) q ])
+  by true g x = h e.1 x
+  by false g x = g x
 
 sound_valof : {P : ℕ} {L : List ℕ} {E : Env} → Sound P L E → Sound P [] (in_valof E)
-sound_valof {P} {L} {E} h = record { from = λ q. valof_fits P L E q (h.from q) }
+sound_valof {P} {L} {E} h = record { from = λ q. through_fits P L around_valof (valof_fits P L) E.names q (h.from q) }
 
 sound_parameters : {P : ℕ} {L : List ℕ} (ps : List Name) (E : Env) → Sound P L E → Sound P [] (in_parameters ps E)
-sound_parameters {P} {L} ps E h = sound_variables ps 2 (in_routine E) (record { from = λ q. routine_fits P L E q (h.from q) })
+sound_parameters {P} {L} ps E h = sound_variables ps 2 (in_routine E) (record { from = λ q. through_fits P L (around_routine E.inside) (routine_fits P L E.inside) E.names q (h.from q) })
 
 pub all_joined : (Q : Thing → Type 0) (fs gs : List Thing) → AllThings Q fs → AllThings Q gs → AllThings Q (fs ++ gs)
 all_joined Q [] gs h k = k
@@ -100,6 +119,8 @@ global_is_fit P L (Variable k) h = refl
 global_is_fit P L (scope.Label l) h = refl
 global_is_fit P L OuterVariable h = refl
 global_is_fit P L OuterLabel h = refl
+global_is_fit P L StrayVariable h = refl
+global_is_fit P L StrayLabel h = refl
 global_is_fit P L LabelOutside h = refl
 global_is_fit P L Undeclared h = refl
 
@@ -180,51 +201,51 @@ mutual
       (clean A L E at e s (omega arith) so (first (Stands A) x y h) (none_left (along.fault false E at e s) (along.sides_fault E (behind at e) es ss) n))
       (clean_sides A L E (behind at e) es ss (omega arith) so (second (Stands A) x y h) (none_right (along.fault false E at e s) (along.sides_fault E (behind at e) es ss) n))
 
-  clean_definition : (i : Bool) (ns : List Name) (A : Around) (L : List ℕ) (O B E : Env) (at : Numbers) (d : tree.Definition) (s : ℕ) → definition_size d ≤ most_size → Sound A.places L O → Sound A.places L E → AllThings (Stands A) (found_in_definition O E at d s) → along.definition_fault i ns B E at d s ≡ None → AllThings (Clean A.places) (found_in_definition O E at d s)
-  clean_definition i ns A L O B E at (tree.Variables xs es) s z o so h n =
+  clean_definition : (ns : List Name) (A : Around) (L : List ℕ) (O E : Env) (at : Numbers) (d : tree.Definition) (s : ℕ) → definition_size d ≤ most_size → Sound A.places L O → Sound A.places L E → AllThings (Stands A) (found_in_definition O E at d s) → along.definition_fault ns E at d s ≡ None → AllThings (Clean A.places) (found_in_definition O E at d s)
+  clean_definition ns A L O E at (tree.Variables xs es) s z o so h n =
       let f = along.initials_fault E at es s in
-      let g = unless i faults.AMisplaced in
+      let g = unless E.inside faults.AMisplaced in
       clean_initials A L E at es s (omega arith) so h (none_left f g (none_right (faults.all_twice_fault ns xs) (or_else f g) n))
-  clean_definition i ns A L O B E at (tree.Vector x k) s z o so h n = tt
-  clean_definition i ns A L O B E at (tree.Function x ps e) s z o so h n =
+  clean_definition ns A L O E at (tree.Vector x k) s z o so h n = tt
+  clean_definition ns A L O E at (tree.Function x ps e) s z o so h n =
       let so1 = sound_parameters ps E so in
       let z1 : exp_size e ≤ most_size = omega arith in
       let f = along.fault false (in_parameters ps E) (behind_place at) e (level_behind_parameters (length ps)) in
       let n1 = none_right (faults.all_twice_fault [] ps) f (none_right (faults.all_twice_fault ns (x ∷ [])) (or_else (faults.all_twice_fault [] ps) f) n) in
       ((so1, n1, z1, global_is_fit A.places L (meant_by O x) (o.from x)), clean A [] (in_parameters ps E) (behind_place at) e (level_behind_parameters (length ps)) z1 so1 h.1 n1)
-  clean_definition i ns A L O B E at (tree.Routine x ps b) s z o so h n =
+  clean_definition ns A L O E at (tree.Routine x ps b) s z o so h n =
       let so1 = sound_parameters ps E so in
       let z1 : block_size b ≤ most_size = omega arith in
       let f = along.block_fault faults.allowed_in_routine (in_parameters ps E) (behind_place at) b (level_behind_parameters (length ps)) in
       let n1 = none_right (faults.all_twice_fault [] ps) f (none_right (faults.all_twice_fault ns (x ∷ [])) (or_else (faults.all_twice_fault [] ps) f) n) in
       ((so1, n1, z1, global_is_fit A.places L (meant_by O x) (o.from x)), clean_block A faults.allowed_in_routine [] (in_parameters ps E) (behind_place at) b (level_behind_parameters (length ps)) z1 so1 h.1 n1)
 
-  clean_definitions : (i : Bool) (ns : List Name) (A : Around) (L : List ℕ) (O B E : Env) (at : Numbers) (ds : tree.Definitions) (s : ℕ) → definitions_size ds ≤ most_size → Sound A.places L O → Sound A.places L E → AllThings (Stands A) (found_in_definitions O E at ds s) → along.definitions_fault i ns B E at ds s ≡ None → AllThings (Clean A.places) (found_in_definitions O E at ds s)
-  clean_definitions i ns A L O B E at tree.no_definitions s z o so h n = tt
-  clean_definitions i ns A L O B E at (tree.definition d ds) s z o so h n =
+  clean_definitions : (ns : List Name) (A : Around) (L : List ℕ) (O E : Env) (at : Numbers) (ds : tree.Definitions) (s : ℕ) → definitions_size ds ≤ most_size → Sound A.places L O → Sound A.places L E → AllThings (Stands A) (found_in_definitions O E at ds s) → along.definitions_fault ns E at ds s ≡ None → AllThings (Clean A.places) (found_in_definitions O E at ds s)
+  clean_definitions ns A L O E at tree.no_definitions s z o so h n = tt
+  clean_definitions ns A L O E at (tree.definition d ds) s z o so h n =
       let x = found_in_definition O E at d s in
       let y = found_in_definitions O E (behind_definition at d) ds s in
       all_joined (Clean A.places) x y
-      (clean_definition i ns A L O B E at d s (omega arith) o so (first (Stands A) x y h) (none_left (along.definition_fault i ns B E at d s) (along.definitions_fault i (ns ++ names_of d) B E (behind_definition at d) ds s) n))
-      (clean_definitions i (ns ++ names_of d) A L O B E (behind_definition at d) ds s (omega arith) o so (second (Stands A) x y h) (none_right (along.definition_fault i ns B E at d s) (along.definitions_fault i (ns ++ names_of d) B E (behind_definition at d) ds s) n))
+      (clean_definition ns A L O E at d s (omega arith) o so (first (Stands A) x y h) (none_left (along.definition_fault ns E at d s) (along.definitions_fault (ns ++ names_of d) E (behind_definition at d) ds s) n))
+      (clean_definitions (ns ++ names_of d) A L O E (behind_definition at d) ds s (omega arith) o so (second (Stands A) x y h) (none_right (along.definition_fault ns E at d s) (along.definitions_fault (ns ++ names_of d) E (behind_definition at d) ds s) n))
 
-  clean_declaration : (i : Bool) (A : Around) (L : List ℕ) (E : Env) (at : Numbers) (d : tree.Declaration) (s : ℕ) → declaration_size d ≤ most_size → Sound A.places L E → AllThings (Stands A) (found_in_declaration E at d s) → along.declaration_fault i E at d s ≡ None → AllThings (Clean A.places) (found_in_declaration E at d s)
-  clean_declaration i A L E at (tree.Constants k es) s z so h n = entries_clean A.places k at es (pending es E)
-  clean_declaration i A L E at (tree.Let ds) s z so h n =
-      clean_definitions i [] A L E (before_let ds E) (in_let E at s ds) at ds (s + scoping.cells_of_all (before_let ds E) ds) (omega arith) so (sound_declaration i A E at (tree.Let ds) s so h n) h n
+  clean_declaration : (A : Around) (L : List ℕ) (E : Env) (at : Numbers) (d : tree.Declaration) (s : ℕ) → declaration_size d ≤ most_size → Sound A.places L E → AllThings (Stands A) (found_in_declaration E at d s) → along.declaration_fault E at d s ≡ None → AllThings (Clean A.places) (found_in_declaration E at d s)
+  clean_declaration A L E at (tree.Constants k es) s z so h n = entries_clean A.places k at es (pending k es E)
+  clean_declaration A L E at (tree.Let ds) s z so h n =
+      clean_definitions [] A L E (in_let E at s ds) at ds (s + scoping.cells_of_all (before_let ds E) ds) (omega arith) so (sound_declaration A E at (tree.Let ds) s so h n) h n
 
-  pub clean_declarations : (i : Bool) (A : Around) (L : List ℕ) (E : Env) (at : Numbers) (ds : tree.Declarations) (s : ℕ) → declarations_size ds ≤ most_size → Sound A.places L E → AllThings (Stands A) (found_in_declarations E at ds s) → along.declarations_fault i E at ds s ≡ None → AllThings (Clean A.places) (found_in_declarations E at ds s)
-  clean_declarations i A L E at tree.no_declarations s z so h n = tt
-  clean_declarations i A L E at (tree.declaration d ds) s z so h n =
+  pub clean_declarations : (A : Around) (L : List ℕ) (E : Env) (at : Numbers) (ds : tree.Declarations) (s : ℕ) → declarations_size ds ≤ most_size → Sound A.places L E → AllThings (Stands A) (found_in_declarations E at ds s) → along.declarations_fault E at ds s ≡ None → AllThings (Clean A.places) (found_in_declarations E at ds s)
+  clean_declarations A L E at tree.no_declarations s z so h n = tt
+  clean_declarations A L E at (tree.declaration d ds) s z so h n =
       let E1 = in_declaration E at s d in
       let at1 = behind_declaration at d in
       let s1 = s + cells_in E d in
       let x = found_in_declaration E at d s in
       let y = found_in_declarations E1 at1 ds s1 in
-      let n0 = none_left (along.declaration_fault i E at d s) (along.declarations_fault i E1 at1 ds s1) n in
+      let n0 = none_left (along.declaration_fault E at d s) (along.declarations_fault E1 at1 ds s1) n in
       all_joined (Clean A.places) x y
-      (clean_declaration i A L E at d s (omega arith) so (first (Stands A) x y h) n0)
-      (clean_declarations i A L E1 at1 ds s1 (omega arith) (sound_declaration i A E at d s so (first (Stands A) x y h) n0) (second (Stands A) x y h) (none_right (along.declaration_fault i E at d s) (along.declarations_fault i E1 at1 ds s1) n))
+      (clean_declaration A L E at d s (omega arith) so (first (Stands A) x y h) n0)
+      (clean_declarations A L E1 at1 ds s1 (omega arith) (sound_declaration A E at d s so (first (Stands A) x y h) n0) (second (Stands A) x y h) (none_right (along.declaration_fault E at d s) (along.declarations_fault E1 at1 ds s1) n))
 
   pub clean_block : (A : Around) (W : Allowed) (L : List ℕ) (E : Env) (at : Numbers) (b : tree.Block) (s : ℕ) → block_size b ≤ most_size → Sound A.places L E → AllThings (Stands A) (found_in_block E at b s) → along.block_fault W E at b s ≡ None → AllThings (Clean A.places) (found_in_block E at b s)
   clean_block A W L E at (tree.block ds is) s z so h n =
@@ -236,10 +257,10 @@ mutual
       let s1 = level_behind E at s ds in
       let x = found_in_declarations E at ds s in
       let y = found_in_items E1 k at2 is s1 in
-      let n0 = none_left (along.declarations_fault true E at ds s) (along.items_fault false faults.none_met W E1 at2 is s1) n in
+      let n0 = none_left (along.declarations_fault E at ds s) (along.items_fault false faults.none_met W E1 at2 is s1) n in
       all_joined (Clean A.places) x y
-      (clean_declarations true A L E at ds s (omega arith) so (first (Stands A) x y h) n0)
-      (clean_items A false faults.none_met W (fitting.labels_of (core_items E1 k at2 is s1) ++ L) E1 k at2 is s1 (omega arith) (sound_in_list E1 k at2 is s1 E0 (sound_declarations true A E at ds s so (first (Stands A) x y h) n0)) (second (Stands A) x y h) (none_right (along.declarations_fault true E at ds s) (along.items_fault false faults.none_met W E1 at2 is s1) n))
+      (clean_declarations A L E at ds s (omega arith) so (first (Stands A) x y h) n0)
+      (clean_items A false faults.none_met W (fitting.labels_of (core_items E1 k at2 is s1) ++ L) E1 k at2 is s1 (omega arith) (sound_in_list E1 k at2 is s1 E0 (sound_declarations A E at ds s so (first (Stands A) x y h) n0)) (second (Stands A) x y h) (none_right (along.declarations_fault E at ds s) (along.items_fault false faults.none_met W E1 at2 is s1) n))
 
   clean_items : (A : Around) (cases : Bool) (M : faults.Met) (W : Allowed) (L : List ℕ) (E : Env) (k : ℕ) (at : Numbers) (is : tree.Items) (s : ℕ) → items_size is ≤ most_size → Sound A.places L E → AllThings (Stands A) (found_in_items E k at is s) → along.items_fault cases M W E at is s ≡ None → AllThings (Clean A.places) (found_in_items E k at is s)
   clean_items A cases M W L E k at tree.no_items s z so h n = tt

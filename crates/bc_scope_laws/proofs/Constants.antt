@@ -12,10 +12,10 @@ use Rattle.bc_parse_tree.specs.declared.tree.Monadic.{Monadic}
 use Rattle.bc_parse_tree.specs.declared.tree.Monadic.TheVariants as monadic
 use Rattle.bc_parse_tree.specs.Tree as tree
 use Rattle.bc_core.specs.Numbers.{is_word, are_words, are_bytes}
-use Rattle.bc_scope_defs.specs.Scope.{Meant, Constant, Pending, Static, Global, Routine, Variable, OuterVariable, OuterLabel, LabelOutside, Undeclared, Env, Name, Numbers, meant_by, is_name}
+use Rattle.bc_scope_defs.specs.Scope.{Meant, Constant, Pending, Static, Global, Routine, Variable, OuterVariable, OuterLabel, StrayVariable, StrayLabel, LabelOutside, Undeclared, Env, Names, Name, Numbers, meant_among, meant_by, is_name}
 use Rattle.bc_scope_defs.specs.Scope as scope
 use Rattle.bc_scope_defs.specs.Numbering.{behind_entry, behind_declaration, behind_definition, labels_of}
-use Rattle.bc_scope_defs.specs.Scoping.{operator, constant, constant_in, constant_name, constant_monadic, constant_dyadic, or_zero, pending, pending_names, names_of, meant_as, in_entry, in_entries, variables, routine_name, in_definition, in_definitions, before_let, in_let, in_declaration, in_declarations, cells_in, in_label, in_labels, in_list, in_routine, in_valof}
+use Rattle.bc_scope_defs.specs.Scoping.{operator, constant, constant_in, constant_name, constant_monadic, constant_dyadic, or_zero, any_numbers, pending, own_names, meant_as, in_entry, in_entries, variables, routine_name, in_definition, in_definitions, before_let, in_let, in_declaration, in_declarations, cells_in, in_label, in_labels, in_list, around_routine, around_valof, seen_through, in_routine, in_valof}
 use Rattle.bc_scope_defs.specs.Scoping as scoping
 use Rattle.bc_scope_defs.specs.Characters.{escaped, characters, decoded}
 use Rattle.bc_scope_defs.specs.Found.{words_of_table, in_parameters}
@@ -82,17 +82,23 @@ abbrev pub MeansWord : Meant → Type 0
 MeansWord (Constant w) = IsWord w
 MeansWord _ = Unit {0}
 
+abbrev pub WordyNames : Names → Type 0
+WordyNames [] = Unit {0}
+WordyNames (e ∷ es) = MeansWord e.1 × WordyNames es
+
 abbrev pub Wordy : Env → Type 0
-Wordy [] = Unit {0}
-Wordy (e ∷ E) = MeansWord e.1 × Wordy E
+Wordy E = WordyNames E.names
 
 picked : (b : Bool) (m x : Meant) → MeansWord m → MeansWord x → MeansWord (elim b [ true ↦ m | false ↦ x ])
 picked true m x h k = h
 picked false m x h k = k
 
+among_word : (es : Names) (n : Name) → WordyNames es → MeansWord (meant_among es n)
+among_word [] n h = tt
+among_word (e ∷ es) n h = picked (is_name e.0 n) e.1 (meant_among es n) h.0 (among_word es n h.1)
+
 pub meant_word : (E : Env) (n : Name) → Wordy E → MeansWord (meant_by E n)
-meant_word [] n h = tt
-meant_word (e ∷ E) n h = picked (is_name e.0 n) e.1 (meant_by E n) h.0 (meant_word E n h.1)
+meant_word E n h = among_word E.names n h
 
 name_word : (m : Meant) → MeansWord m → IsWordIfAny (constant_name m)
 name_word (Constant w) h = h
@@ -104,6 +110,8 @@ name_word (Variable k) h = tt
 name_word (scope.Label l) h = tt
 name_word OuterVariable h = tt
 name_word OuterLabel h = tt
+name_word StrayVariable h = tt
+name_word StrayLabel h = tt
 name_word LabelOutside h = tt
 name_word Undeclared h = tt
 
@@ -148,15 +156,15 @@ table_words E (tree.more k ks) e h = λ i. word_of_constant E k e h.0 i && table
 
 -- Declarations keep this
 
-pub wordy_pending : (es : tree.Entries) (E : Env) → Wordy E → Wordy (pending es E)
-wordy_pending tree.no_entries E e = e
-wordy_pending (tree.entry n k es) E e = wordy_pending es _ (tt, e)
-
 meant_as_word : (s : Storage) (at : Numbers) (o : Option ℕ) → IsWordIfAny o → MeansWord (meant_as s at o)
 meant_as_word storage.Manifest at None h = tt
 meant_as_word storage.Manifest at (Some w) h = h
 meant_as_word storage.Static at o h = tt
 meant_as_word storage.Global at o h = tt
+
+pub wordy_pending : (s : Storage) (es : tree.Entries) (E : Env) → Wordy E → Wordy (pending s es E)
+wordy_pending s tree.no_entries E e = e
+wordy_pending s (tree.entry n k es) E e = wordy_pending s es _ (meant_as_word s any_numbers None tt, e)
 
 pub wordy_entry : (s : Storage) (at : Numbers) (n : Name) (k : tree.Exp) (E : Env) → Wordy E → ExpHasWords k → Wordy (in_entry s at n k E)
 wordy_entry s at n k E e h = (meant_as_word s at (constant_in E k) (constant_word E k e h), e)
@@ -179,6 +187,8 @@ wordy_routine (Variable m) n q E e = (tt, e)
 wordy_routine (scope.Label m) n q E e = (tt, e)
 wordy_routine OuterVariable n q E e = (tt, e)
 wordy_routine OuterLabel n q E e = (tt, e)
+wordy_routine StrayVariable n q E e = (tt, e)
+wordy_routine StrayLabel n q E e = (tt, e)
 wordy_routine LabelOutside n q E e = (tt, e)
 wordy_routine Undeclared n q E e = (tt, e)
 
@@ -193,19 +203,18 @@ wordy_definitions B K at k tree.no_definitions E e = e
 wordy_definitions B K at k (tree.definition d ds) E e =
     wordy_definitions B K (behind_definition at d) (k + scoping.cells_of K d) ds _ (wordy_definition B at k d E e)
 
-wordy_names : (ns : List Name) (E : Env) → Wordy E → Wordy (pending_names ns E)
-wordy_names [] E e = e
-wordy_names (n ∷ ns) E e = wordy_names ns _ (tt, e)
+wordy_own : (B : Env) (ds : tree.Definitions) (E : Env) → Wordy E → Wordy (own_names B ds E)
+wordy_own B tree.no_definitions E e = e
+wordy_own B (tree.definition d ds) E e = wordy_own B ds _ (wordy_definition B any_numbers 0 d E e)
 
 pub wordy_before : (ds : tree.Definitions) (E : Env) → Wordy E → Wordy (before_let ds E)
-wordy_before tree.no_definitions E e = e
-wordy_before (tree.definition d ds) E e = wordy_before ds _ (wordy_names (names_of d) E e)
+wordy_before ds E e = wordy_own E ds E e
 
 pub wordy_let : (at : Numbers) (s : ℕ) (ds : tree.Definitions) (E : Env) → Wordy E → Wordy (in_let E at s ds)
 wordy_let at s ds E e = wordy_definitions E (before_let ds E) at s ds E e
 
 pub wordy_declaration : (at : Numbers) (s : ℕ) (d : tree.Declaration) (E : Env) → Wordy E → DeclarationHasWords d → Wordy (in_declaration E at s d)
-wordy_declaration at s (tree.Constants k es) E e h = wordy_entries k at es (pending es E) (wordy_pending es E e) h
+wordy_declaration at s (tree.Constants k es) E e h = wordy_entries k at es (pending k es E) (wordy_pending k es E e) h
 wordy_declaration at s (tree.Let ds) E e h = wordy_let at s ds E e
 
 pub wordy_declarations : (at : Numbers) (s : ℕ) (ds : tree.Declarations) (E : Env) → Wordy E → DeclarationsHaveWords ds → Wordy (in_declarations E at s ds)
@@ -224,33 +233,58 @@ wordy_list k tree.no_items E e = e
 wordy_list k (tree.item (tree.Labelled ls c) is) E e = wordy_list (k + labels_of ls) is _ (wordy_labels k ls E e)
 wordy_list k (tree.item (tree.Labels_alone ls) is) E e = wordy_list (k + labels_of ls) is _ (wordy_labels k ls E e)
 
+through_word : (f : Meant → Meant) → ((m : Meant) → MeansWord m → MeansWord (f m)) → (es : Names) → WordyNames es → WordyNames (seen_through f es)
+through_word f h [] e = tt
+through_word f h (x ∷ es) e = (h x.1 e.0, through_word f h es e.1)
+
+around_valof_word : (m : Meant) → MeansWord m → MeansWord (around_valof m)
+around_valof_word (Constant w) h = h
+around_valof_word Pending h = tt
+around_valof_word (Static m) h = tt
+around_valof_word (Global n) h = tt
+around_valof_word (Routine m) h = tt
+around_valof_word (Variable k) h = tt
+around_valof_word (scope.Label l) h = tt
+around_valof_word OuterVariable h = tt
+around_valof_word OuterLabel h = tt
+around_valof_word StrayVariable h = tt
+around_valof_word StrayLabel h = tt
+around_valof_word LabelOutside h = tt
+around_valof_word Undeclared h = tt
+
+around_routine_word : (i : Bool) (m : Meant) → MeansWord m → MeansWord (around_routine i m)
+around_routine_word true (Constant w) h = h
+around_routine_word true Pending h = tt
+around_routine_word true (Static m) h = tt
+around_routine_word true (Global n) h = tt
+around_routine_word true (Routine m) h = tt
+around_routine_word true (Variable k) h = tt
+around_routine_word true (scope.Label l) h = tt
+around_routine_word true OuterVariable h = tt
+around_routine_word true OuterLabel h = tt
+around_routine_word true StrayVariable h = tt
+around_routine_word true StrayLabel h = tt
+around_routine_word true LabelOutside h = tt
+around_routine_word true Undeclared h = tt
+around_routine_word false (Constant w) h = h
+around_routine_word false Pending h = tt
+around_routine_word false (Static m) h = tt
+around_routine_word false (Global n) h = tt
+around_routine_word false (Routine m) h = tt
+around_routine_word false (Variable k) h = tt
+around_routine_word false (scope.Label l) h = tt
+around_routine_word false OuterVariable h = tt
+around_routine_word false OuterLabel h = tt
+around_routine_word false StrayVariable h = tt
+around_routine_word false StrayLabel h = tt
+around_routine_word false LabelOutside h = tt
+around_routine_word false Undeclared h = tt
+
 pub wordy_valof : (E : Env) → Wordy E → Wordy (in_valof E)
-wordy_valof [] e = tt
-wordy_valof ((n, Constant w) ∷ E) e = (e.0, wordy_valof E e.1)
-wordy_valof ((n, Pending) ∷ E) e = (tt, wordy_valof E e.1)
-wordy_valof ((n, Static m) ∷ E) e = (tt, wordy_valof E e.1)
-wordy_valof ((n, Global m) ∷ E) e = (tt, wordy_valof E e.1)
-wordy_valof ((n, Routine m) ∷ E) e = (tt, wordy_valof E e.1)
-wordy_valof ((n, Variable k) ∷ E) e = (tt, wordy_valof E e.1)
-wordy_valof ((n, scope.Label l) ∷ E) e = (tt, wordy_valof E e.1)
-wordy_valof ((n, OuterVariable) ∷ E) e = (tt, wordy_valof E e.1)
-wordy_valof ((n, OuterLabel) ∷ E) e = (tt, wordy_valof E e.1)
-wordy_valof ((n, LabelOutside) ∷ E) e = (tt, wordy_valof E e.1)
-wordy_valof ((n, Undeclared) ∷ E) e = (tt, wordy_valof E e.1)
+wordy_valof E e = through_word around_valof around_valof_word E.names e
 
 outer : (E : Env) → Wordy E → Wordy (in_routine E)
-outer [] e = tt
-outer ((n, Constant w) ∷ E) e = (e.0, outer E e.1)
-outer ((n, Pending) ∷ E) e = (tt, outer E e.1)
-outer ((n, Static m) ∷ E) e = (tt, outer E e.1)
-outer ((n, Global m) ∷ E) e = (tt, outer E e.1)
-outer ((n, Routine m) ∷ E) e = (tt, outer E e.1)
-outer ((n, Variable k) ∷ E) e = (tt, outer E e.1)
-outer ((n, scope.Label l) ∷ E) e = (tt, outer E e.1)
-outer ((n, OuterVariable) ∷ E) e = (tt, outer E e.1)
-outer ((n, OuterLabel) ∷ E) e = (tt, outer E e.1)
-outer ((n, LabelOutside) ∷ E) e = (tt, outer E e.1)
-outer ((n, Undeclared) ∷ E) e = (tt, outer E e.1)
+outer E e = through_word (around_routine E.inside) (around_routine_word E.inside) E.names e
 
 pub wordy_parameters : (ps : List Name) (E : Env) → Wordy E → Wordy (in_parameters ps E)
 wordy_parameters ps E e = wordy_variables ps 2 (in_routine E) (outer E e)

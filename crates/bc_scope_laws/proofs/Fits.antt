@@ -1,5 +1,5 @@
 -- A translated section without fault is one that a `Core` can hold: blocks, commands and expressions.
-use Rattle.std.proofs.Common.{◌≡◌, ◌∙◌, ℕ, ◌+◌, ◌&&◌, Bool, true, false, List, [], ◌∷◌, ◌++◌, Option, Some, None, slice_get, refl}
+use Rattle.std.proofs.Common.{◌≡◌, ◌∙◌, ℕ, ◌+◌, ◌&&◌, Bool, true, false, List, [], ◌∷◌, ◌++◌, Option, Some, None, slice_get, refl, arith}
 use Rattle.std.specs.Prelude.{nat_le, nat_lt}
 use Rattle.bc_word.specs.declared.operator.Op.{Op}
 use Rattle.bc_parse_tree.specs.declared.tree.Storage.{Storage}
@@ -10,7 +10,7 @@ use Rattle.bc_parse_tree.specs.Tree as tree
 use Rattle.bc_core.specs.Tree.{Exp, Num, Frame, Glob, Place, Load, Neg, Not, Bin, Cond, Call, Valof}
 use Rattle.bc_core.specs.Level.{operand_level, argument_level, routine_level}
 use Rattle.bc_core.specs.WellFormed.{Around, stands_at, exp_fits, args_fit, has}
-use Rattle.bc_scope_defs.specs.Scope.{Meant, Constant, Pending, Static, Global, Routine, Variable, OuterVariable, OuterLabel, LabelOutside, Undeclared, Env, Name, Numbers, meant_by, is_name, behind_valof, behind_labels, behind_place}
+use Rattle.bc_scope_defs.specs.Scope.{Meant, Constant, Pending, Static, Global, Routine, Variable, OuterVariable, OuterLabel, StrayVariable, StrayLabel, LabelOutside, Undeclared, Env, Name, Numbers, with_name, meant_by, is_name, behind_valof, behind_labels, behind_place}
 use Rattle.bc_scope_defs.specs.Scope as scope
 use Rattle.bc_scope_defs.specs.Numbering.{behind, behind_definition, behind_entry}
 use Rattle.bc_scope_defs.specs.Scoping.{operator, constant, constant_in, or_zero, count, pending, in_entry, in_entries, variables, routine_name, in_definition, in_definitions, before_let, in_let, in_declaration, in_declarations, cells_in, level_behind, in_for, in_label, in_labels, in_item, in_list, in_valof}
@@ -56,7 +56,7 @@ MeantFits P L _ = Unit {0}
 pub record Sound (P : ℕ) (L : List ℕ) (E : Env) : Type 0 where
   pub from : (n : Name) → MeantFits P L (meant_by E n)
 
-pub sound_more : {P : ℕ} {L : List ℕ} {E : Env} (n : Name) (m : Meant) → MeantFits P L m → Sound P L E → Sound P L ((n, m) ∷ E)
+pub sound_more : {P : ℕ} {L : List ℕ} {E : Env} (n : Name) (m : Meant) → MeantFits P L m → Sound P L E → Sound P L (with_name n m E)
 sound_more {P} {L} {E} n m h k = record { from = λ q. by q (is_name n q) } where
   by : (q : Name) (b : Bool) → MeantFits P L (elim b [ true ↦ m | false ↦ meant_by E q ])
   by q true = h
@@ -76,6 +76,8 @@ sound_routine (Variable m) n q E h k = sound_more n (Routine q) h k
 sound_routine (scope.Label m) n q E h k = sound_more n (Routine q) h k
 sound_routine OuterVariable n q E h k = sound_more n (Routine q) h k
 sound_routine OuterLabel n q E h k = sound_more n (Routine q) h k
+sound_routine StrayVariable n q E h k = sound_more n (Routine q) h k
+sound_routine StrayLabel n q E h k = sound_more n (Routine q) h k
 sound_routine LabelOutside n q E h k = sound_more n (Routine q) h k
 sound_routine Undeclared n q E h k = sound_more n (Routine q) h k
 
@@ -107,9 +109,15 @@ pub no_fault : (b : Bool) (f : Fault) → unless b f ≡ None → b ≡ true
 no_fault true f h = refl
 no_fault false f h = cc
 
-pub sound_pending : {P : ℕ} {L : List ℕ} (es : tree.Entries) (E : Env) → Sound P L E → Sound P L (pending es E)
-sound_pending tree.no_entries E h = h
-sound_pending (tree.entry n k es) E h = sound_pending es _ (sound_more n Pending tt h)
+-- where a place has a label there is a first one
+first_label : (places m : ℕ) → IsLabel places m → IsLabel places 1
+first_label places m h = grind arith
+
+pub sound_pending : {L : List ℕ} (A : Around) (s : Storage) (at : Numbers) (es : tree.Entries) (E F : Env) → AllThings (Stands A) (found_in_entries s at es F) → Sound A.places L E → Sound A.places L (pending s es E)
+sound_pending A s at tree.no_entries E F h so = so
+sound_pending A storage.Manifest at (tree.entry n k es) E F h so = sound_pending A storage.Manifest at es _ (in_entry storage.Manifest at n k F) h (sound_more n Pending tt so)
+sound_pending A storage.Static at (tree.entry n k es) E F h so = sound_pending A storage.Static (behind_place at) es _ (in_entry storage.Static at n k F) h.1 (sound_more n (Static 1) (first_label A.places at.place h.0) so)
+sound_pending A storage.Global at (tree.entry n k es) E F h so = sound_pending A storage.Global at es _ (in_entry storage.Global at n k F) h (sound_more n (Global 0) refl so)
 
 manifest_fits : (P : ℕ) (L : List ℕ) (at : Numbers) (w : Option ℕ) → MeantFits P L (scoping.meant_as storage.Manifest at w)
 manifest_fits P L at None = tt
@@ -157,6 +165,8 @@ name_fits A L (Variable k) s h = (refl, refl)
 name_fits A L (scope.Label l) s h = (refl, refl)
 name_fits A L OuterVariable s h = (refl, refl)
 name_fits A L OuterLabel s h = (refl, refl)
+name_fits A L StrayVariable s h = (refl, refl)
+name_fits A L StrayLabel s h = (refl, refl)
 name_fits A L LabelOutside s h = (refl, refl)
 name_fits A L Undeclared s h = (refl, refl)
 

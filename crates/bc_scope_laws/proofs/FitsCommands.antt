@@ -7,7 +7,7 @@ use Rattle.bc_core.specs.Commands.{Items, no_item, command, case, default, label
 use Rattle.bc_core.specs.Level.{level_in_for, side_level}
 use Rattle.bc_core.specs.WellFormed.{Around, Jumps, nodes, most_nodes, stands_at, exp_fits, args_fit, root_fits, assignment_fits, variables_fit, declarations_fit, has, are_distinct, has_entries, command_fits, block_fits, items_fit}
 use Rattle.bc_core.specs.WellFormed as fitting
-use Rattle.bc_scope_defs.specs.Scope.{Meant, Constant, Pending, Static, Global, Routine, Variable, OuterVariable, OuterLabel, LabelOutside, Undeclared, Env, Name, Numbers, meant_by, is_name, behind_valof, behind_labels, behind_place}
+use Rattle.bc_scope_defs.specs.Scope.{Meant, Constant, Pending, Static, Global, Routine, Variable, OuterVariable, OuterLabel, StrayVariable, StrayLabel, LabelOutside, Undeclared, Env, Name, Numbers, meant_by, is_name, behind_valof, behind_labels, behind_place}
 use Rattle.bc_scope_defs.specs.Scope as scope
 use Rattle.bc_scope_defs.specs.Numbering.{behind, behind_all, behind_declarations, behind_declaration, behind_definition, behind_command, behind_block, labels_of, labels_in}
 use Rattle.bc_scope_defs.specs.Scoping.{operator, constant, constant_in, or_zero, count, pending, in_entry, in_entries, variables, routine_name, in_definition, in_definitions, before_let, in_let, in_declaration, in_declarations, cells_in, level_behind, in_for, in_label, in_labels, in_item, in_list, in_valof}
@@ -70,6 +70,8 @@ meant_still P K L (Routine m) h = h
 meant_still P K L (Variable k) h = tt
 meant_still P K L OuterVariable h = tt
 meant_still P K L OuterLabel h = tt
+meant_still P K L StrayVariable h = tt
+meant_still P K L StrayLabel h = tt
 meant_still P K L LabelOutside h = tt
 meant_still P K L Undeclared h = tt
 
@@ -259,22 +261,22 @@ definitions_fit A O E B at (tree.definition d ds) s z so h =
     (definition_fits A O E B at d s (omega arith) so (first (Stands A) of_first of_rest h))
     (definitions_fit A O E B (behind_definition at d) ds s (omega arith) so (second (Stands A) of_first of_rest h))
 
-pub sound_declaration : {L : List ℕ} (i : Bool) (A : Around) (E : Env) (at : Numbers) (d : tree.Declaration) (s : ℕ) → Sound A.places L E → AllThings (Stands A) (found_in_declaration E at d s) → along.declaration_fault i E at d s ≡ None → Sound A.places L (in_declaration E at s d)
-sound_declaration i A E at (tree.Constants k es) s so h n = sound_entries A k [] at es (pending es E) h n (sound_pending es E so)
-sound_declaration i A E at (tree.Let ds) s so h n =
+pub sound_declaration : {L : List ℕ} (A : Around) (E : Env) (at : Numbers) (d : tree.Declaration) (s : ℕ) → Sound A.places L E → AllThings (Stands A) (found_in_declaration E at d s) → along.declaration_fault E at d s ≡ None → Sound A.places L (in_declaration E at s d)
+sound_declaration A E at (tree.Constants k es) s so h n = sound_entries A k [] at es (pending k es E) h n (sound_pending A k at es E (pending k es E) h so)
+sound_declaration A E at (tree.Let ds) s so h n =
     sound_definitions A E (in_let E at s ds) E (before_let ds E) at s (s + scoping.cells_of_all (before_let ds E) ds) ds E h so
 
-pub sound_declarations : {L : List ℕ} (i : Bool) (A : Around) (E : Env) (at : Numbers) (ds : tree.Declarations) (s : ℕ) → Sound A.places L E → AllThings (Stands A) (found_in_declarations E at ds s) → along.declarations_fault i E at ds s ≡ None → Sound A.places L (in_declarations E at s ds)
-sound_declarations i A E at tree.no_declarations s so h n = so
-sound_declarations i A E at (tree.declaration d ds) s so h n =
+pub sound_declarations : {L : List ℕ} (A : Around) (E : Env) (at : Numbers) (ds : tree.Declarations) (s : ℕ) → Sound A.places L E → AllThings (Stands A) (found_in_declarations E at ds s) → along.declarations_fault E at ds s ≡ None → Sound A.places L (in_declarations E at s ds)
+sound_declarations A E at tree.no_declarations s so h n = so
+sound_declarations A E at (tree.declaration d ds) s so h n =
     let of_first = found_in_declaration E at d s in
     let of_rest = found_in_declarations (in_declaration E at s d) (behind_declaration at d) ds (s + cells_in E d) in
-    sound_declarations i A (in_declaration E at s d) (behind_declaration at d) ds (s + cells_in E d)
-    (sound_declaration i A E at d s so (first (Stands A) of_first of_rest h) (none_left _ _ n)) (second (Stands A) of_first of_rest h) (none_right _ _ n)
+    sound_declarations A (in_declaration E at s d) (behind_declaration at d) ds (s + cells_in E d)
+    (sound_declaration A E at d s so (first (Stands A) of_first of_rest h) (none_left _ _ n)) (second (Stands A) of_first of_rest h) (none_right _ _ n)
 
-declarations_stand : {L : List ℕ} (i : Bool) (A : Around) (E : Env) (at : Numbers) (ds : tree.Declarations) (s : ℕ) → declarations_size ds ≤ most_size → Sound A.places L E → AllThings (Stands A) (found_in_declarations E at ds s) → along.declarations_fault i E at ds s ≡ None → declarations_fit A (core_declarations E at s ds) s ≡ true
-declarations_stand i A E at tree.no_declarations s z so h n = refl
-declarations_stand i A E at (tree.declaration (tree.Constants k es) ds) s z so h n =
+declarations_stand : {L : List ℕ} (A : Around) (E : Env) (at : Numbers) (ds : tree.Declarations) (s : ℕ) → declarations_size ds ≤ most_size → Sound A.places L E → AllThings (Stands A) (found_in_declarations E at ds s) → along.declarations_fault E at ds s ≡ None → declarations_fit A (core_declarations E at s ds) s ≡ true
+declarations_stand A E at tree.no_declarations s z so h n = refl
+declarations_stand A E at (tree.declaration (tree.Constants k es) ds) s z so h n =
     let d : tree.Declaration = tree.Constants k es in
     let E1 = in_declaration E at s d in
     let at1 = behind_declaration at d in
@@ -282,8 +284,8 @@ declarations_stand i A E at (tree.declaration (tree.Constants k es) ds) s z so h
     let of_rest = found_in_declarations E1 at1 ds (s + 0) in
     let e : s ≡ s + 0 = omega arith in
     (λ i. declarations_fit A (core_declarations E1 at1 (s + 0) ds) (e i))
-    ∙ declarations_stand i A E1 at1 ds (s + 0) (omega arith) (sound_declaration i A E at d s so (first (Stands A) of_first of_rest h) (none_left _ _ n)) (second (Stands A) of_first of_rest h) (none_right _ _ n)
-declarations_stand i A E at (tree.declaration (tree.Let defs) ds) s z so h n =
+    ∙ declarations_stand A E1 at1 ds (s + 0) (omega arith) (sound_declaration A E at d s so (first (Stands A) of_first of_rest h) (none_left _ _ n)) (second (Stands A) of_first of_rest h) (none_right _ _ n)
+declarations_stand A E at (tree.declaration (tree.Let defs) ds) s z so h n =
     let d : tree.Declaration = tree.Let defs in
     let E1 = in_let E at s defs in
     let B = before_let defs E in
@@ -291,9 +293,9 @@ declarations_stand i A E at (tree.declaration (tree.Let defs) ds) s z so h n =
     let m = scoping.cells_of_all B defs in
     let of_first = found_in_declaration E at d s in
     let of_rest = found_in_declarations E1 at1 ds (s + m) in
-    let so1 = sound_declaration i A E at d s so (first (Stands A) of_first of_rest h) (none_left _ _ n) in
+    let so1 = sound_declaration A E at d s so (first (Stands A) of_first of_rest h) (none_left _ _ n) in
     let hd = variables_stand A (core_definitions E1 B at defs) s (s + m) (definitions_fit A E E1 B at defs (s + m) (omega arith) so1 (first (Stands A) of_first of_rest h)) in
-    let hs = declarations_stand i A E1 at1 ds (s + m) (omega arith) so1 (second (Stands A) of_first of_rest h) (none_right _ _ n) in
+    let hs = declarations_stand A E1 at1 ds (s + m) (omega arith) so1 (second (Stands A) of_first of_rest h) (none_right _ _ n) in
     (λ i. let c = s + cells_kept E1 B at defs i in variables_fit A (core_definitions E1 B at defs) s c && declarations_fit A (core_declarations E1 at1 (s + m) ds) c)
     ∙ (λ i. hd i && hs i)
 
@@ -312,6 +314,8 @@ jump_fits P L n (Routine m) h k = cc
 jump_fits P L n (Variable m) h k = cc
 jump_fits P L n OuterVariable h k = cc
 jump_fits P L n OuterLabel h k = cc
+jump_fits P L n StrayVariable h k = cc
+jump_fits P L n StrayLabel h k = cc
 jump_fits P L n LabelOutside h k = cc
 jump_fits P L n Undeclared h k = cc
 
@@ -330,8 +334,8 @@ mutual
       let of_first = found_in_declarations E at ds s in
       let of_rest = found_in_items E1 k at2 is s1 in
       let items = core_items E1 k at2 is s1 in
-      let so1 = sound_declarations true A E at ds s so (first (Stands A) of_first of_rest h) (none_left _ _ n) in
-      let hd = declarations_stand true A E at ds s (omega arith) so (first (Stands A) of_first of_rest h) (none_left _ _ n) in
+      let so1 = sound_declarations A E at ds s so (first (Stands A) of_first of_rest h) (none_left _ _ n) in
+      let hd = declarations_stand A E at ds s (omega arith) so (first (Stands A) of_first of_rest h) (none_left _ _ n) in
       let so2 = sound_in_list E1 k at2 is s1 (in_declarations E at s ds) so1 in
       let hi = items_stand A false faults.none_met W (fitting.labels_of items ++ L) E1 k at2 is s1 (omega arith) so2 (second (Stands A) of_first of_rest h) (none_right _ _ n) in
       (λ i. hd i && not (no_cases faults.none_met W E1 k at2 is s1 (none_right _ _ n) i) && distinct E1 k at2 is s1 i && items_fit A (jumps_of W (fitting.labels_of items ++ L)) items (sym (level_kept E at s ds) i))

@@ -7,7 +7,7 @@ use Rattle.bc_core.specs.Commands as core
 use Rattle.bc_core.specs.Level.{level_behind_parameters}
 use Rattle.bc_core.specs.Layout.{frame_size, cells_of_valofs}
 use Rattle.bc_core.specs.WellFormed.{Around, stands_at, body_fits, places_fit, valofs_fit}
-use Rattle.bc_scope_defs.specs.Scope.{Env}
+use Rattle.bc_scope_defs.specs.Scope.{Env, nothing_known}
 use Rattle.bc_scope_defs.specs.Found.{RoutineBody, Gives, Does, Thing, AValof, ARoutine, Data, AStatic, ATable, AText, found_in_section, section_start}
 use Rattle.bc_scope_defs.specs.FramesAlong.{frame_of}
 use Rattle.bc_scope_defs.specs.Translation.{forms, core_body, core_routine, places_of, valofs_of}
@@ -99,9 +99,9 @@ section_stands ds =
 pub section_clean : (ds : Declarations) → declarations_size ds ≤ 524288 → section_fault ds ≡ None → let fs = found_in_section ds in AllThings (Clean (length (places_of fs))) fs
 section_clean ds z n =
     let fs = found_in_section ds in
-    let empty : Sound (length (places_of fs)) [] [] = record { from = λ q. tt } in
-    clean_declarations false (among (length (places_of fs)) 0 (levels_of fs)) [] [] section_start ds 0 z empty (section_stands ds)
-    (none_left (declarations_fault false [] section_start ds 0) (or_else (frames_fault fs) (places_fault fs)) (same_section_fault ds ∙ n))
+    let empty : Sound (length (places_of fs)) [] nothing_known = record { from = λ q. tt } in
+    clean_declarations (among (length (places_of fs)) 0 (levels_of fs)) [] nothing_known section_start ds 0 z empty (section_stands ds)
+    (none_left (declarations_fault nothing_known section_start ds 0) (or_else (frames_fault fs) (places_fault fs)) (same_section_fault ds ∙ n))
 
 pub sections_fit : SectionsFit
 sections_fit ds z n =
@@ -110,7 +110,7 @@ sections_fit ds z n =
     let A : Around = among places 0 (levels_of fs) in
     let nested = all_nested ds in
     let behind = or_else (frames_fault fs) (places_fault fs) in
-    let n1 = none_left (frames_fault fs) (places_fault fs) (none_right (declarations_fault false [] section_start ds 0) behind (same_section_fault ds ∙ n)) in
+    let n1 = none_left (frames_fault fs) (places_fault fs) (none_right (declarations_fault nothing_known section_start ds 0) behind (same_section_fault ds ∙ n)) in
     let o : 1 ≤ 1 = omega arith in
     let w : 1 + length (places_of fs) ≤ places + 1 = omega arith in
     let g : (i : ℕ) → slice_get (levels_of fs) i ≡ slice_get (levels_of fs) (0 + i) = λ i. let m : i ≡ 0 + i = omega arith in ap (slice_get (levels_of fs)) m in

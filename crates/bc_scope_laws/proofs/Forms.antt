@@ -14,7 +14,7 @@ use Rattle.bc_core.specs.Value.{Context, Sense, has_call, sense, value, by_value
 use Rattle.bc_core.specs.Level.{operand_level}
 use Rattle.bc_core.specs.Meaning.{context}
 use Rattle.std.proofs.lemmas.Int.{ints}
-use Rattle.bc_scope_defs.specs.Scope.{Meant, Constant, Pending, Static, Global, Routine, Variable, OuterVariable, OuterLabel, LabelOutside, Undeclared, Env, meant_by, Numbers}
+use Rattle.bc_scope_defs.specs.Scope.{Meant, Constant, Pending, Static, Global, Routine, Variable, OuterVariable, OuterLabel, StrayVariable, StrayLabel, LabelOutside, Undeclared, Env, meant_by, Numbers}
 use Rattle.bc_scope_defs.specs.Scope as scope
 use Rattle.bc_scope_defs.specs.Numbering.{behind}
 use Rattle.bc_scope_defs.specs.Scoping.{operator, count}
@@ -41,6 +41,8 @@ calls_of_name (Variable k) = (refl, refl)
 calls_of_name (scope.Label l) = (refl, refl)
 calls_of_name OuterVariable = (refl, refl)
 calls_of_name OuterLabel = (refl, refl)
+calls_of_name StrayVariable = (refl, refl)
+calls_of_name StrayLabel = (refl, refl)
 calls_of_name LabelOutside = (refl, refl)
 calls_of_name Undeclared = (refl, refl)
 
@@ -213,6 +215,8 @@ name_means A V (Variable k) p s = refl
 name_means A V (scope.Label l) p s = refl
 name_means A V OuterVariable p s = refl
 name_means A V OuterLabel p s = refl
+name_means A V StrayVariable p s = refl
+name_means A V StrayLabel p s = refl
 name_means A V LabelOutside p s = refl
 name_means A V Undeclared p s = refl
 

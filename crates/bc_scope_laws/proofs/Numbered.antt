@@ -5,7 +5,7 @@ use Rattle.bc_parse_tree.specs.declared.tree.Storage.TheVariants as storage
 use Rattle.bc_parse_tree.specs.Tree as tree
 use Rattle.bc_parse_tree.specs.Tree.{Declarations}
 use Rattle.bc_core.specs.Level.{operand_level, argument_level, routine_level, level_in_for, level_behind_parameters}
-use Rattle.bc_scope_defs.specs.Scope.{Env, Numbers, behind_valof, behind_labels, behind_place}
+use Rattle.bc_scope_defs.specs.Scope.{Env, nothing_known, Numbers, behind_valof, behind_labels, behind_place}
 use Rattle.bc_scope_defs.specs.Numbering.{behind_entries, behind, behind_all, behind_declarations, behind_declaration, behind_definitions, behind_definition, behind_command, behind_block, behind_items, labels_of, labels_in}
 use Rattle.bc_scope_defs.specs.Scoping.{pending, in_entry, count, cells_of_all, before_let, in_let, in_declaration, in_declarations, cells_in, level_behind, in_for, in_list, in_valof}
 use Rattle.bc_scope_defs.specs.Sides.{side_levels}
@@ -93,7 +93,7 @@ mutual
       joined (nested_definition O E at d s) (nested_definitions O E (behind_definition at d) ds s)
 
   nested_declaration : (E : Env) (at : Numbers) (d : tree.Declaration) (s : ℕ) → NestedRun at (behind_declaration at d) (found_in_declaration E at d s)
-  nested_declaration E at (tree.Constants k es) s = nested_entries k at es (pending es E)
+  nested_declaration E at (tree.Constants k es) s = nested_entries k at es (pending k es E)
   nested_declaration E at (tree.Let ds) s = nested_definitions E (in_let E at s ds) at ds (s + cells_of_all (before_let ds E) ds)
 
   pub nested_declarations : (E : Env) (at : Numbers) (ds : tree.Declarations) (s : ℕ) → NestedRun at (behind_declarations at ds) (found_in_declarations E at ds s)
@@ -157,4 +157,4 @@ mutual
       joined (nested E at e s) (with_labels be _ (labels_in is) _ (nested_items (in_list k is E) k at1 is s))
 
 pub all_nested : (ds : Declarations) → Nested 0 1 (found_in_section ds)
-all_nested ds = subst (λ l. Nested 0 1 l) (append-nil (found_in_section ds)) ((nested_declarations [] section_start ds 0).before [] tt)
+all_nested ds = subst (λ l. Nested 0 1 l) (append-nil (found_in_section ds)) ((nested_declarations nothing_known section_start ds 0).before [] tt)

@@ -12,7 +12,7 @@ use Rattle.bc_core.specs.declared.operands.Operand.{Operand}
 use Rattle.bc_core.specs.Tree.{Exp, Num, Frame, Glob, Place, Load, Neg, Not, Bin, Cond, Call, Valof}
 use Rattle.bc_core.specs.Operand.{constant_of, direct, moved, first_some, sum_operand, operand_of_operator, content_of, operand_of, is_operand}
 use Rattle.bc_core.specs.Level.{side_level}
-use Rattle.bc_scope_defs.specs.Scope.{Meant, Constant, Pending, Static, Global, Routine, Variable, OuterVariable, OuterLabel, LabelOutside, Undeclared, Env, meant_by, Numbers}
+use Rattle.bc_scope_defs.specs.Scope.{Meant, Constant, Pending, Static, Global, Routine, Variable, OuterVariable, OuterLabel, StrayVariable, StrayLabel, LabelOutside, Undeclared, Env, meant_by, Numbers}
 use Rattle.bc_scope_defs.specs.Scope as scope
 use Rattle.bc_scope_defs.specs.Numbering.{behind}
 use Rattle.bc_scope_defs.specs.Scoping.{operator}
@@ -255,6 +255,8 @@ name_kinds (Variable k) = refl
 name_kinds (scope.Label l) = refl
 name_kinds OuterVariable = refl
 name_kinds OuterLabel = refl
+name_kinds StrayVariable = refl
+name_kinds StrayLabel = refl
 name_kinds LabelOutside = refl
 name_kinds Undeclared = refl
 

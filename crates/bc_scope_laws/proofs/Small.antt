@@ -8,7 +8,7 @@ use Rattle.bc_parse_tree.specs.Tree as tree
 use Rattle.bc_parse_tree.specs.Size.{exp_size, exps_size}
 use Rattle.bc_core.specs.Tree.{Exp, Num, Frame, Glob, Place, Load, Neg, Not, Bin, Cond, Call, Valof}
 use Rattle.bc_core.specs.WellFormed.{nodes, nodes_of_args, most_nodes}
-use Rattle.bc_scope_defs.specs.Scope.{Meant, Constant, Pending, Static, Global, Routine, Variable, OuterVariable, OuterLabel, LabelOutside, Undeclared, Env, Numbers, meant_by}
+use Rattle.bc_scope_defs.specs.Scope.{Meant, Constant, Pending, Static, Global, Routine, Variable, OuterVariable, OuterLabel, StrayVariable, StrayLabel, LabelOutside, Undeclared, Env, Numbers, meant_by}
 use Rattle.bc_scope_defs.specs.Scope as scope
 use Rattle.bc_scope_defs.specs.Numbering.{behind}
 use Rattle.bc_scope_defs.specs.Scoping.{operator}
@@ -30,6 +30,8 @@ name_small (Variable k) = (omega arith, omega arith)
 name_small (scope.Label l) = (omega arith, omega arith)
 name_small OuterVariable = (omega arith, omega arith)
 name_small OuterLabel = (omega arith, omega arith)
+name_small StrayVariable = (omega arith, omega arith)
+name_small StrayLabel = (omega arith, omega arith)
 name_small LabelOutside = (omega arith, omega arith)
 name_small Undeclared = (omega arith, omega arith)
 

@@ -10,7 +10,7 @@ use Rattle.bc_core.specs.Commands.{Items, no_item, command, case, default, label
 use Rattle.bc_core.specs.Level.{operand_level, argument_level, routine_level, level_in_for, level_behind_parameters}
 use Rattle.bc_core.specs.Operand.{is_operand}
 use Rattle.bc_core.specs.Layout.{Bodies, cells_of_exp, cells_of_args, cells_of_assignment, cells_of_initials, cells_of_declarations, cells_of_command, cells_of_block, cells_of_items, cells_of_valofs, cells_of_body, frame_size}
-use Rattle.bc_scope_defs.specs.Scope.{Meant, Constant, Pending, Static, Global, Routine, Variable, OuterVariable, OuterLabel, LabelOutside, Undeclared, Env, Numbers, meant_by, behind_valof, behind_labels}
+use Rattle.bc_scope_defs.specs.Scope.{Meant, Constant, Pending, Static, Global, Routine, Variable, OuterVariable, OuterLabel, StrayVariable, StrayLabel, LabelOutside, Undeclared, Env, Numbers, meant_by, behind_valof, behind_labels}
 use Rattle.bc_scope_defs.specs.Scope as scope
 use Rattle.bc_scope_defs.specs.Numbering.{behind, behind_all, behind_declarations, behind_declaration, behind_definition, behind_command, behind_block, labels_of, labels_in}
 use Rattle.bc_scope_defs.specs.Scoping.{operator, constant, count, before_let, in_let, in_declaration, in_declarations, cells_in, level_behind, in_for, in_list, in_valof}
@@ -61,6 +61,8 @@ name_wide V (Variable k) s = (refl, refl)
 name_wide V (scope.Label l) s = (refl, refl)
 name_wide V OuterVariable s = (refl, refl)
 name_wide V OuterLabel s = (refl, refl)
+name_wide V StrayVariable s = (refl, refl)
+name_wide V StrayLabel s = (refl, refl)
 name_wide V LabelOutside s = (refl, refl)
 name_wide V Undeclared s = (refl, refl)
 

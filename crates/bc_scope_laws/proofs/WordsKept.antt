@@ -10,7 +10,7 @@ use Rattle.bc_core.specs.Tree.{Exp, Num, Frame, Glob, Place, Load, Neg, Not, Bin
 use Rattle.bc_core.specs.Commands as core
 use Rattle.bc_core.specs.Level.{operand_level, argument_level, routine_level, level_in_for, level_behind_parameters}
 use Rattle.bc_core.specs.Numbers.{is_word, has_words, args_have_words, variables_have_words, declarations_have_words, command_has_words, block_has_words, items_have_words, body_has_words, places_have_words, valofs_have_words}
-use Rattle.bc_scope_defs.specs.Scope.{Meant, Constant, Pending, Static, Global, Routine, Variable, OuterVariable, OuterLabel, LabelOutside, Undeclared, Env, Numbers, meant_by, behind_valof, behind_labels, behind_place}
+use Rattle.bc_scope_defs.specs.Scope.{Meant, Constant, Pending, Static, Global, Routine, Variable, OuterVariable, OuterLabel, StrayVariable, StrayLabel, LabelOutside, Undeclared, Env, nothing_known, Numbers, meant_by, behind_valof, behind_labels, behind_place}
 use Rattle.bc_scope_defs.specs.Scope as scope
 use Rattle.bc_scope_defs.specs.Numbering.{behind, behind_all, behind_declarations, behind_declaration, behind_definition, behind_command, behind_block, labels_of, labels_in}
 use Rattle.bc_scope_defs.specs.Scoping.{operator, count, pending, in_entry, before_let, in_let, in_declaration, in_declarations, cells_in, cells_of_all, level_behind, in_for, in_list, in_valof}
@@ -38,6 +38,8 @@ of_name (Variable k) h = (refl, refl)
 of_name (scope.Label l) h = (refl, refl)
 of_name OuterVariable h = (refl, refl)
 of_name OuterLabel h = (refl, refl)
+of_name StrayVariable h = (refl, refl)
+of_name StrayLabel h = (refl, refl)
 of_name LabelOutside h = (refl, refl)
 of_name Undeclared h = (refl, refl)
 
@@ -293,7 +295,7 @@ mutual
       (definition_wordy O E at d s w h.0) (definitions_wordy O E (behind_definition at d) ds s w h.1)
 
   declaration_wordy : (E : Env) (at : Numbers) (d : tree.Declaration) (s : ℕ) → Wordy E → DeclarationHasWords d → AllWordy (found_in_declaration E at d s)
-  declaration_wordy E at (tree.Constants k es) s w h = entries_wordy k at es (pending es E) (wordy_pending es E w) h
+  declaration_wordy E at (tree.Constants k es) s w h = entries_wordy k at es (pending k es E) (wordy_pending k es E w) h
   declaration_wordy E at (tree.Let ds) s w h =
       definitions_wordy E (in_let E at s ds) at ds (s + cells_of_all (before_let ds E) ds) (wordy_let at s ds E w) h
 
@@ -395,5 +397,5 @@ valofs_words (Data label d ∷ things) h = valofs_words things h.1
 pub words_are_kept : WordsAreKept
 words_are_kept ds h =
     let things = found_in_section ds in
-    let all = declarations_wordy [] section_start ds 0 tt h in
+    let all = declarations_wordy nothing_known section_start ds 0 tt h in
     λ i. places_words things all i && valofs_words things all i

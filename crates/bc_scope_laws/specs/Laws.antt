@@ -15,7 +15,7 @@ use Rattle.bc_core.specs.Command.{perform}
 use Rattle.bc_core.specs.Meaning.{context, valofs_from, meaning}
 use Rattle.bc_scope_defs.specs.Scope.{Meant, Static, Global, Routine, Variable, Env, Numbers}
 use Rattle.bc_scope_defs.specs.Scope as scope
-use Rattle.bc_scope_defs.specs.Scoping.{count, level_behind}
+use Rattle.bc_scope_defs.specs.Scoping.{count, level_behind, seen_through}
 use Rattle.bc_scope_defs.specs.Sides.{side_levels}
 use Rattle.bc_scope_defs.specs.Source.{Around, worth, run_command}
 use Rattle.bc_scope_defs.specs.Translation.{Forms, forms, forms_of_all, core_arguments, core_declarations, core_command, valofs_of, core_of}
@@ -106,10 +106,9 @@ without_number (scope.Label l) = scope.Label 0
 without_number m = m
 
 abbrev pub without_numbers : Env → Env
-without_numbers [] = []
-without_numbers (e ∷ E) = (e.0, without_number e.1) ∷ without_numbers E
+without_numbers E = record E { names = seen_through without_number E.names }
 
--- the same names in the same order, which mean the same but for its number
+-- the same names in the same order, which mean the same but for its number, both inside a routine or both outside
 abbrev pub AreAlike : Env → Env → Type 0
 AreAlike E F = without_numbers E ≡ without_numbers F
 
@@ -124,8 +123,7 @@ pub record FaultsAskNoNumbers : Type 0 where
   pub of_expressions : (c : Bool) (E F : Env) → AreAlike E F → (at : Numbers) (e : Exp) (s : ℕ) → faults_along.fault c E at e s ≡ fault c F e
   pub of_commands : (W : Allowed) (E F : Env) → AreAlike E F → (at : Numbers) (c : Command) (s : ℕ) → faults_along.command_fault W E at c s ≡ command_fault W F c
   pub of_declarations :
-      (inside : Bool) (E F : Env) → AreAlike E F → (at : Numbers) (ds : Declarations) (s : ℕ)
-      → faults_along.declarations_fault inside E at ds s ≡ declarations_fault inside F ds
+      (E F : Env) → AreAlike E F → (at : Numbers) (ds : Declarations) (s : ℕ) → faults_along.declarations_fault E at ds s ≡ declarations_fault F ds
   pub of_sections : (ds : Declarations) → faults_along.section_fault ds ≡ section_fault ds
 
 -- a section without fault, with at most 524,288 definitions, commands and expressions, gives a `Core`

@@ -16,10 +16,10 @@ use Rattle.bc_scope_names.specs.declared.scope.Bound.{Bound}
 use Rattle.bc_scope_names.specs.declared.scope.Named.{Named}
 use Rattle.bc_scope_names.specs.declared.scope.Entry.{Entry}
 use Rattle.bc_scope_names.specs.declared.scope.Entry.TheVariants as entry
-use Rattle.bc_scope_names.specs.Index.{newest, borders_of, no_borders, is_key, names, spelled, Keeps, CanUndo, HasPosition}
+use Rattle.bc_scope_names.specs.Index.{newest, borders_of, behind_routine, no_borders, is_key, names, spelled, Keeps, CanUndo, HasPosition}
 use Rattle.bc_scope_names.specs.View.{scope_view, behind_one, Extends, Declares}
 use Rattle.bc_scope_names.proofs.Names.{newest_last, borders_last, behind_push}
-use Rattle.bc_scope_defs.specs.Scope.{Name, is_name}
+use Rattle.bc_scope_defs.specs.Scope.{Name, nothing_known, is_name}
 use Rattle.indexmap.specs.IndexMap.{IndexMap, keys, index_map_len, get, insert_entry, insert_index, with_value_at, IsUnique}
 use Rattle.indexmap.proofs.CallerLemmas.{keys-with_value_at, updates-with_value_at}
 
@@ -32,7 +32,7 @@ is_name-bytes_eq (x ∷ a) (y ∷ b) = ap (λ t. (x == y) && t) (is_name-bytes_e
 -- what is declared is known, and nothing else changes
 pub declares_push : (es : List Entry) (e : Entry) → Declares es (es ++ e ∷ []) (behind_one e (scope_view es))
 unfolding scope_view Extends
-declares_push es e = (behind_push es e [], take-append_seam es (e ∷ []))
+declares_push es e = (behind_push es e nothing_known, take-append_seam es (e ∷ []))
 
 pub finds_name : (es : List Entry) (n : Named) (p : ℕ) (h : Option Bound) (q : Name) (r s : Option (Option Bound)) → s ≡ cond (bytes_eq n.name.now q) (Some (Some (record { meant = n.meant; place = length es }))) r → option_flatten r ≡ newest 0 es q None
     → option_flatten s ≡ newest 0 (es ++ entry.Name n p h ∷ []) q None
@@ -85,11 +85,11 @@ finds_back es n p h q r s e f k = ap option_flatten e ∙ by (bytes_eq n.name.no
     by false true p same g = absurd (true≢false p)
     by false false p same g = g
 
-pub routine_border : (es : List Entry) (b o : Borders) (n : ℕ) → b ≡ borders_of 0 es no_borders → n ≡ length (es ++ entry.Routine o ∷ []) → record { routine = n; valof = b.valof } ≡ borders_of 0 (es ++ entry.Routine o ∷ []) no_borders
-routine_border es b o n e l = ap (λ k. record { routine = k; valof = b.valof }) (l ∙ length_push es (entry.Routine o)) ∙ ap (λ x. record { routine = length es + 1; valof = x.valof }) e ∙ sym (borders_last es (entry.Routine o) no_borders)
+pub routine_border : (es : List Entry) (b o : Borders) (n : ℕ) → b ≡ borders_of 0 es no_borders → n ≡ length (es ++ entry.Routine o ∷ []) → behind_routine n b ≡ borders_of 0 (es ++ entry.Routine o ∷ []) no_borders
+routine_border es b o n e l = ap (λ k. behind_routine k b) (l ∙ length_push es (entry.Routine o)) ∙ ap (λ x. behind_routine (length es + 1) x) e ∙ sym (borders_last es (entry.Routine o) no_borders)
 
-pub valof_border : (es : List Entry) (b o : Borders) (n : ℕ) → b ≡ borders_of 0 es no_borders → n ≡ length (es ++ entry.Valof o ∷ []) → record { routine = b.routine; valof = n } ≡ borders_of 0 (es ++ entry.Valof o ∷ []) no_borders
-valof_border es b o n e l = ap (λ k. record { routine = b.routine; valof = k }) (l ∙ length_push es (entry.Valof o)) ∙ ap (λ x. record { routine = x.routine; valof = length es + 1 }) e ∙ sym (borders_last es (entry.Valof o) no_borders)
+pub valof_border : (es : List Entry) (b o : Borders) (n : ℕ) → b ≡ borders_of 0 es no_borders → n ≡ length (es ++ entry.Valof o ∷ []) → record b { valof = n } ≡ borders_of 0 (es ++ entry.Valof o ∷ []) no_borders
+valof_border es b o n e l = ap (λ k. record b { valof = k }) (l ∙ length_push es (entry.Valof o)) ∙ ap (λ (x : Borders). record x { valof = length es + 1 }) e ∙ sym (borders_last es (entry.Valof o) no_borders)
 
 -- what an entry that is taken off kept
 pub back_name : (es before : List Entry) (n : Named) (p : ℕ) (h : Option Bound) (b : Borders) → es ≡ before ++ entry.Name n p h ∷ [] → b ≡ borders_of 0 es no_borders → CanUndo es → (b ≡ borders_of 0 before no_borders) × CanUndo before × (h ≡ newest 0 before n.name.now None)

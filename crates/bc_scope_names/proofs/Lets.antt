@@ -1,14 +1,14 @@
 -- What the names before a LET say of its definitions gives what they take and make known.
-use Rattle.std.proofs.Common.{◌≡◌, ℕ, ◌+◌, ◌<◌, ◌≤◌, refl, ap, ◌∙◌, sym, true≢false, false, List, ◌∷◌, length, drop, get_or, Option}
+use Rattle.std.proofs.Common.{◌≡◌, ℕ, ◌+◌, ◌<◌, ◌≤◌, refl, ap, ◌∙◌, sym, true≢false, false, List, [], ◌∷◌, length, drop, get_or, Option}
 use Rattle.std.proofs.lemmas.List.{at_drop_more, drop-drop, drop_all}
 use Rattle.bc_parse_tree.specs.declared.tree.Definition as code
 use Rattle.bc_parse_tree.specs.View.{definition_view, definitions_view}
 use Rattle.bc_scope_names.specs.declared.declaring.Prior.{Prior}
 use Rattle.bc_parse_tree.specs.Tree.{Definition, Definitions, no_definitions, definition}
 use Rattle.bc_parse_tree.specs.Tree as tree
-use Rattle.bc_scope_names.specs.Priors.{prior_at, global_before, globals_before, greatest_of, all_greatest_of, has_vector, cells_by, all_cells_by, routine_by, declared_by, all_declared_by}
-use Rattle.bc_scope_defs.specs.Scope.{Env, Name, Numbers, Meant, Constant, Pending, Static, Global, Routine, Variable, Label, OuterVariable, OuterLabel, LabelOutside, Undeclared, meant_by}
-use Rattle.bc_scope_defs.specs.Scoping.{cells_of, cells_of_all, routine_name, in_definition, in_definitions}
+use Rattle.bc_scope_names.specs.Priors.{first_global, prior_at, global_before, globals_before, greatest_of, all_greatest_of, has_vector, cells_by, all_cells_by, routine_by, declared_by, all_declared_by, own_by}
+use Rattle.bc_scope_defs.specs.Scope.{Env, Name, Numbers, Meant, Constant, Pending, Static, Global, Routine, Variable, Label, OuterVariable, OuterLabel, StrayVariable, StrayLabel, LabelOutside, Undeclared, meant_by}
+use Rattle.bc_scope_defs.specs.Scoping.{any_numbers, cells_of, cells_of_all, routine_name, in_definition, in_definitions, own_names}
 use Rattle.bc_scope_defs.specs.Found.{global_of}
 use Rattle.bc_scope_defs.specs.Numbering.{behind_definition}
 
@@ -21,6 +21,8 @@ routine_is (Routine w) n l E = refl
 routine_is (Variable w) n l E = refl
 routine_is (Label w) n l E = refl
 routine_is OuterVariable n l E = refl
+routine_is StrayVariable n l E = refl
+routine_is StrayLabel n l E = refl
 routine_is OuterLabel n l E = refl
 routine_is LabelOutside n l E = refl
 routine_is Undeclared n l E = refl
@@ -47,6 +49,19 @@ all_declared_is B K at k (definition d ds) E =
     ap (λ j. all_declared_by (globals_before B ds) (all_greatest_of K ds) (behind_definition at d) (k + j) ds (declared_by (record { global = global_before B d; greatest = greatest_of K d }) at k d E)) (cells_are B K d)
     ∙ ap (λ F. all_declared_by (globals_before B ds) (all_greatest_of K ds) (behind_definition at d) (k + cells_of K d) ds F) (declared_is B K at k d E)
     ∙ all_declared_is B K (behind_definition at d) (k + cells_of K d) ds (in_definition B at k d E)
+
+one_own_is : (B : Env) (d : Definition) (E : Env) → declared_by (record { global = global_before B d; greatest = 0 }) any_numbers 0 d E ≡ in_definition B any_numbers 0 d E
+one_own_is B (tree.Variables ns es) E = refl
+one_own_is B (tree.Vector n c) E = refl
+one_own_is B (tree.Function n ps e) E = routine_is (meant_by B n) n any_numbers.place E
+one_own_is B (tree.Routine n ps b) E = routine_is (meant_by B n) n any_numbers.place E
+
+all_own_is : (B : Env) (ds : Definitions) (E : Env) → own_by (globals_before B ds) ds E ≡ own_names B ds E
+all_own_is B no_definitions E = refl
+all_own_is B (definition d ds) E = ap (λ F. own_by (globals_before B ds) ds F) (one_own_is B d E) ∙ all_own_is B ds (in_definition B any_numbers 0 d E)
+
+pub own_is : (gs : List (Option ℕ)) (B : Env) (ds : Definitions) → gs ≡ globals_before B ds → own_by gs ds B ≡ own_names B ds B
+own_is gs B ds e = ap (λ x. own_by x ds B) e ∙ all_own_is B ds B
 
 -- without a vector nobody asks what the names of a LET mean
 pub greatest_anywhere : (K L : Env) (ds : Definitions) → has_vector ds ≡ false → all_greatest_of K ds ≡ all_greatest_of L ds
@@ -84,6 +99,16 @@ declared_on gs ws at k ds n j i d E h q e =
     ap (λ x. all_declared_by (drop n gs) (drop n ws) at k x E) (definitions_on ds i d h q)
     ∙ ap (λ x. all_declared_by x (drop 1 (drop n ws)) behind level rest known) (drop-drop 1 n gs ∙ ap (λ m. drop m gs) (sym e))
     ∙ ap (λ x. all_declared_by (drop j gs) x behind level rest known) (drop-drop 1 n ws ∙ ap (λ m. drop m ws) (sym e))
+
+-- an own name, before the rest
+pub own_on : (gs : List (Option ℕ)) (ds : List code.Definition) (n j i : ℕ) (d : code.Definition) (E : Env) → i < length ds → d ≡ get_or ds i d → j ≡ n + 1
+    → own_by (drop n gs) (definitions_view (drop i ds)) E ≡ own_by (drop j gs) (definitions_view (drop (i + 1) ds)) (declared_by (prior_at (drop n gs) []) any_numbers 0 (definition_view d) E)
+own_on gs ds n j i d E h q e =
+    ap (λ x. own_by (drop n gs) x E) (definitions_on ds i d h q)
+    ∙ ap (λ x. own_by x (definitions_view (drop (i + 1) ds)) (declared_by (prior_at (drop n gs) []) any_numbers 0 (definition_view d) E)) (drop-drop 1 n gs ∙ ap (λ k. drop k gs) (sym e))
+
+pub own_behind : (gs : List (Option ℕ)) (ds : List code.Definition) (i : ℕ) (E : Env) → length ds ≤ i → own_by gs (definitions_view (drop i ds)) E ≡ E
+own_behind gs ds i E h = ap (λ x. own_by gs (definitions_view x) E) (drop_all i ds h)
 
 -- where nothing is left, nobody asks for the numbers
 pub declared_last : (gs : List (Option ℕ)) (ws : List ℕ) (at at1 : Numbers) (k : ℕ) (ds : List code.Definition) (i : ℕ) (E : Env) → length ds ≤ i

@@ -1,14 +1,14 @@
 -- What a name means by the entries of a scope, and by what a scope keeps beside them.
-use Rattle.std.proofs.Common.{◌≡◌, ℕ, ◌+◌, ◌<◌, ◌≤◌, refl, ap, ◌∙◌, sym, List, [], ◌∷◌, ◌++◌, length, Bool, true, false, cond, ltb, Option, Some, None, arith, rules}
+use Rattle.std.proofs.Common.{◌≡◌, ℕ, ◌+◌, ◌<◌, ◌≤◌, refl, ap, ◌∙◌, sym, List, [], ◌∷◌, ◌++◌, length, Bool, true, false, not, ◌==◌, true≢false, cond, ltb, Option, Some, None, arith, rules}
 use Rattle.bc_scope_names.specs.declared.scope.Borders.{Borders}
 use Rattle.bc_scope_names.specs.declared.scope.Bound.{Bound}
 use Rattle.bc_scope_names.specs.declared.scope.Entry.{Entry}
 use Rattle.bc_scope_names.specs.declared.scope.Entry.TheVariants as entry
-use Rattle.bc_scope_names.specs.Crossing.{outer, outside, seen}
-use Rattle.bc_scope_names.specs.Index.{newest, newest_one, borders_of, behind_border, no_borders}
+use Rattle.bc_scope_names.specs.Crossing.{seen}
+use Rattle.bc_scope_names.specs.Index.{newest, newest_one, borders_of, behind_border, behind_routine, no_borders}
 use Rattle.bc_scope_names.specs.View.{meant_view, behind_one, behind_entries}
-use Rattle.bc_scope_defs.specs.Scope.{Env, Name, is_name, meant_by, Meant, Constant, Pending, Static, Global, Routine, Variable, Label, OuterVariable, OuterLabel, LabelOutside, Undeclared}
-use Rattle.bc_scope_defs.specs.Scoping.{in_routine, in_valof}
+use Rattle.bc_scope_defs.specs.Scope.{Env, Names, Name, nothing_known, with_name, is_name, meant_among, meant_by, Meant, Constant, Pending, Static, Global, Routine, Variable, Label, OuterVariable, OuterLabel, StrayVariable, StrayLabel, LabelOutside, Undeclared}
+use Rattle.bc_scope_defs.specs.Scoping.{around_routine, around_valof, seen_through, in_routine, in_valof}
 
 -- one entry more
 
@@ -32,99 +32,150 @@ borders_last es e b = borders_push 0 es e b ∙ ap (λ j. behind_border j e (bor
 
 -- the meanings of a routine's and a VALOF's surroundings, twice over
 
-outer_outer : (m : Meant) → outer (outer m) ≡ outer m
-outer_outer (Constant w) = refl
-outer_outer Pending = refl
-outer_outer (Static w) = refl
-outer_outer (Global w) = refl
-outer_outer (Routine w) = refl
-outer_outer (Variable w) = refl
-outer_outer (Label w) = refl
-outer_outer OuterVariable = refl
-outer_outer OuterLabel = refl
-outer_outer LabelOutside = refl
-outer_outer Undeclared = refl
+-- what is another routine's, or stands outside routines, stays so
+routed_again : (i j : Bool) (m : Meant) → around_routine i (around_routine j m) ≡ around_routine j m
+routed_again true true (Constant w) = refl
+routed_again true true Pending = refl
+routed_again true true (Static w) = refl
+routed_again true true (Global w) = refl
+routed_again true true (Routine w) = refl
+routed_again true true (Variable w) = refl
+routed_again true true (Label w) = refl
+routed_again true true OuterVariable = refl
+routed_again true true OuterLabel = refl
+routed_again true true StrayVariable = refl
+routed_again true true StrayLabel = refl
+routed_again true true LabelOutside = refl
+routed_again true true Undeclared = refl
+routed_again true false (Constant w) = refl
+routed_again true false Pending = refl
+routed_again true false (Static w) = refl
+routed_again true false (Global w) = refl
+routed_again true false (Routine w) = refl
+routed_again true false (Variable w) = refl
+routed_again true false (Label w) = refl
+routed_again true false OuterVariable = refl
+routed_again true false OuterLabel = refl
+routed_again true false StrayVariable = refl
+routed_again true false StrayLabel = refl
+routed_again true false LabelOutside = refl
+routed_again true false Undeclared = refl
+routed_again false true (Constant w) = refl
+routed_again false true Pending = refl
+routed_again false true (Static w) = refl
+routed_again false true (Global w) = refl
+routed_again false true (Routine w) = refl
+routed_again false true (Variable w) = refl
+routed_again false true (Label w) = refl
+routed_again false true OuterVariable = refl
+routed_again false true OuterLabel = refl
+routed_again false true StrayVariable = refl
+routed_again false true StrayLabel = refl
+routed_again false true LabelOutside = refl
+routed_again false true Undeclared = refl
+routed_again false false (Constant w) = refl
+routed_again false false Pending = refl
+routed_again false false (Static w) = refl
+routed_again false false (Global w) = refl
+routed_again false false (Routine w) = refl
+routed_again false false (Variable w) = refl
+routed_again false false (Label w) = refl
+routed_again false false OuterVariable = refl
+routed_again false false OuterLabel = refl
+routed_again false false StrayVariable = refl
+routed_again false false StrayLabel = refl
+routed_again false false LabelOutside = refl
+routed_again false false Undeclared = refl
 
-outer_outside : (m : Meant) → outer (outside m) ≡ outer m
-outer_outside (Constant w) = refl
-outer_outside Pending = refl
-outer_outside (Static w) = refl
-outer_outside (Global w) = refl
-outer_outside (Routine w) = refl
-outer_outside (Variable w) = refl
-outer_outside (Label w) = refl
-outer_outside OuterVariable = refl
-outer_outside OuterLabel = refl
-outer_outside LabelOutside = refl
-outer_outside Undeclared = refl
+routed_behind_valof : (i : Bool) (m : Meant) → around_routine i (around_valof m) ≡ around_routine i m
+routed_behind_valof true (Constant w) = refl
+routed_behind_valof true Pending = refl
+routed_behind_valof true (Static w) = refl
+routed_behind_valof true (Global w) = refl
+routed_behind_valof true (Routine w) = refl
+routed_behind_valof true (Variable w) = refl
+routed_behind_valof true (Label w) = refl
+routed_behind_valof true OuterVariable = refl
+routed_behind_valof true OuterLabel = refl
+routed_behind_valof true StrayVariable = refl
+routed_behind_valof true StrayLabel = refl
+routed_behind_valof true LabelOutside = refl
+routed_behind_valof true Undeclared = refl
+routed_behind_valof false (Constant w) = refl
+routed_behind_valof false Pending = refl
+routed_behind_valof false (Static w) = refl
+routed_behind_valof false (Global w) = refl
+routed_behind_valof false (Routine w) = refl
+routed_behind_valof false (Variable w) = refl
+routed_behind_valof false (Label w) = refl
+routed_behind_valof false OuterVariable = refl
+routed_behind_valof false OuterLabel = refl
+routed_behind_valof false StrayVariable = refl
+routed_behind_valof false StrayLabel = refl
+routed_behind_valof false LabelOutside = refl
+routed_behind_valof false Undeclared = refl
 
-outside_outer : (m : Meant) → outside (outer m) ≡ outer m
-outside_outer (Constant w) = refl
-outside_outer Pending = refl
-outside_outer (Static w) = refl
-outside_outer (Global w) = refl
-outside_outer (Routine w) = refl
-outside_outer (Variable w) = refl
-outside_outer (Label w) = refl
-outside_outer OuterVariable = refl
-outside_outer OuterLabel = refl
-outside_outer LabelOutside = refl
-outside_outer Undeclared = refl
+valof_behind_routed : (i : Bool) (m : Meant) → around_valof (around_routine i m) ≡ around_routine i m
+valof_behind_routed true (Constant w) = refl
+valof_behind_routed true Pending = refl
+valof_behind_routed true (Static w) = refl
+valof_behind_routed true (Global w) = refl
+valof_behind_routed true (Routine w) = refl
+valof_behind_routed true (Variable w) = refl
+valof_behind_routed true (Label w) = refl
+valof_behind_routed true OuterVariable = refl
+valof_behind_routed true OuterLabel = refl
+valof_behind_routed true StrayVariable = refl
+valof_behind_routed true StrayLabel = refl
+valof_behind_routed true LabelOutside = refl
+valof_behind_routed true Undeclared = refl
+valof_behind_routed false (Constant w) = refl
+valof_behind_routed false Pending = refl
+valof_behind_routed false (Static w) = refl
+valof_behind_routed false (Global w) = refl
+valof_behind_routed false (Routine w) = refl
+valof_behind_routed false (Variable w) = refl
+valof_behind_routed false (Label w) = refl
+valof_behind_routed false OuterVariable = refl
+valof_behind_routed false OuterLabel = refl
+valof_behind_routed false StrayVariable = refl
+valof_behind_routed false StrayLabel = refl
+valof_behind_routed false LabelOutside = refl
+valof_behind_routed false Undeclared = refl
 
-outside_outside : (m : Meant) → outside (outside m) ≡ outside m
-outside_outside (Constant w) = refl
-outside_outside Pending = refl
-outside_outside (Static w) = refl
-outside_outside (Global w) = refl
-outside_outside (Routine w) = refl
-outside_outside (Variable w) = refl
-outside_outside (Label w) = refl
-outside_outside OuterVariable = refl
-outside_outside OuterLabel = refl
-outside_outside LabelOutside = refl
-outside_outside Undeclared = refl
+valof_again : (m : Meant) → around_valof (around_valof m) ≡ around_valof m
+valof_again (Constant w) = refl
+valof_again Pending = refl
+valof_again (Static w) = refl
+valof_again (Global w) = refl
+valof_again (Routine w) = refl
+valof_again (Variable w) = refl
+valof_again (Label w) = refl
+valof_again OuterVariable = refl
+valof_again OuterLabel = refl
+valof_again StrayVariable = refl
+valof_again StrayLabel = refl
+valof_again LabelOutside = refl
+valof_again Undeclared = refl
 
-routine_entry : (n : Name) (m : Meant) (E : Env) → in_routine ((n, m) ∷ E) ≡ (n, outer m) ∷ in_routine E
-routine_entry n (Constant w) E = refl
-routine_entry n Pending E = refl
-routine_entry n (Static w) E = refl
-routine_entry n (Global w) E = refl
-routine_entry n (Routine w) E = refl
-routine_entry n (Variable w) E = refl
-routine_entry n (Label w) E = refl
-routine_entry n OuterVariable E = refl
-routine_entry n OuterLabel E = refl
-routine_entry n LabelOutside E = refl
-routine_entry n Undeclared E = refl
+nothing_routed : (i : Bool) → around_routine i Undeclared ≡ Undeclared
+nothing_routed true = refl
+nothing_routed false = refl
 
-valof_entry : (n : Name) (m : Meant) (E : Env) → in_valof ((n, m) ∷ E) ≡ (n, outside m) ∷ in_valof E
-valof_entry n (Constant w) E = refl
-valof_entry n Pending E = refl
-valof_entry n (Static w) E = refl
-valof_entry n (Global w) E = refl
-valof_entry n (Routine w) E = refl
-valof_entry n (Variable w) E = refl
-valof_entry n (Label w) E = refl
-valof_entry n OuterVariable E = refl
-valof_entry n OuterLabel E = refl
-valof_entry n LabelOutside E = refl
-valof_entry n Undeclared E = refl
-
-meant_in_routine : (E : Env) (q : Name) → meant_by (in_routine E) q ≡ outer (meant_by E q)
-meant_in_routine [] q = refl
-meant_in_routine (e ∷ E) q = ap (λ F. meant_by F q) (routine_entry e.0 e.1 E) ∙ by (is_name e.0 q) (meant_in_routine E q)
+-- what is undeclared stays so, and all else goes name by name
+meant_through : (f : Meant → Meant) → f Undeclared ≡ Undeclared → (es : Names) (q : Name) → meant_among (seen_through f es) q ≡ f (meant_among es q)
+meant_through f u [] q = sym u
+meant_through f u (e ∷ es) q = by (is_name e.0 q) (meant_through f u es q)
   where
-    by : (t : Bool) → meant_by (in_routine E) q ≡ outer (meant_by E q) → elim t [ true ↦ outer e.1 | false ↦ meant_by (in_routine E) q ] ≡ outer (elim t [ true ↦ e.1 | false ↦ meant_by E q ])
+    by : (t : Bool) → meant_among (seen_through f es) q ≡ f (meant_among es q) → elim t [ true ↦ f e.1 | false ↦ meant_among (seen_through f es) q ] ≡ f (elim t [ true ↦ e.1 | false ↦ meant_among es q ])
     by true h = refl
     by false h = h
 
-meant_in_valof : (E : Env) (q : Name) → meant_by (in_valof E) q ≡ outside (meant_by E q)
-meant_in_valof [] q = refl
-meant_in_valof (e ∷ E) q = ap (λ F. meant_by F q) (valof_entry e.0 e.1 E) ∙ by (is_name e.0 q) (meant_in_valof E q)
-  where
-    by : (t : Bool) → meant_by (in_valof E) q ≡ outside (meant_by E q) → elim t [ true ↦ outside e.1 | false ↦ meant_by (in_valof E) q ] ≡ outside (elim t [ true ↦ e.1 | false ↦ meant_by E q ])
-    by true h = refl
-    by false h = h
+meant_in_routine : (E : Env) (q : Name) → meant_by (in_routine E) q ≡ around_routine E.inside (meant_by E q)
+meant_in_routine E q = meant_through (around_routine E.inside) (nothing_routed E.inside) E.names q
+
+meant_in_valof : (E : Env) (q : Name) → meant_by (in_valof E) q ≡ around_valof (meant_by E q)
+meant_in_valof E q = meant_through around_valof refl E.names q
 
 -- what a scope answers where this was found
 abbrev pub answered : Borders → Option Bound → Meant
@@ -147,51 +198,108 @@ not_below : (a b : ℕ) → b ≤ a → ltb a b ≡ false
 not_below a b h = search rules
 
 -- a name that is declared now is seen as it was declared
-seen_now : (b : Borders) (k : Bound) → b.routine ≤ k.place → b.valof ≤ k.place → seen b k ≡ meant_view k.meant
-seen_now b k r v = rw (not_below k.place b.routine r) (rw (not_below k.place b.valof v) refl)
+seen_now : (b : Borders) (k : Bound) → b.outermost ≤ k.place → b.routine ≤ k.place → b.valof ≤ k.place → seen b k ≡ meant_view k.meant
+seen_now b k o r v = rw (not_below k.place b.outermost o) (rw (not_below k.place b.routine r) (rw (not_below k.place b.valof v) refl))
 
--- behind a border all that was found stands before it
-routine_now : (i : ℕ) (b : Borders) (k : Option Bound) → Stands i k → answered (record { routine = i + 1; valof = b.valof }) k ≡ outer (answered b k)
-routine_now i b None s = refl
-routine_now i b (Some k) s = rw (below k.place (i + 1) (omega arith)) (by (ltb k.place b.routine) (ltb k.place b.valof))
+-- whether a place with these borders is inside a routine
+abbrev is_within : Borders → Bool
+is_within b = not (b.outermost == 0)
+
+-- no border, no routine
+abbrev IsFirst : Borders → Type 0
+IsFirst b = b.outermost ≡ 0 → b.routine ≡ 0
+
+none_below : (a b : ℕ) → b ≡ 0 → ltb a b ≡ false
+none_below a b e = not_below a b (omega (arith, e))
+
+zero_is : (n : ℕ) → (n == 0) ≡ true → n ≡ 0
+zero_is n h = grind arith
+
+not_zero : (n : ℕ) → 1 ≤ n → (n == 0) ≡ false
+not_zero n h = grind arith
+
+-- behind a routine's beginning all that was found stands before it
+routine_now : (i : ℕ) (b : Borders) (k : Option Bound) → Stands i k → IsFirst b → answered (behind_routine (i + 1) b) k ≡ around_routine (is_within b) (answered b k)
+routine_now i b None s f = sym (nothing_routed (is_within b))
+routine_now i b (Some k) s f = by (b.outermost == 0) refl
   where
     m : Meant
     m = meant_view k.meant
 
-    by : (t u : Bool) → outer m ≡ outer (cond t (outer m) (cond u (outside m) m))
-    by true u = sym (outer_outer m)
-    by false true = sym (outer_outside m)
-    by false false = refl
+    before : ltb k.place (i + 1) ≡ true
+    before = below k.place (i + 1) (omega arith)
 
-valof_now : (i : ℕ) (b : Borders) (k : Option Bound) → Stands i k → answered (record { routine = b.routine; valof = i + 1 }) k ≡ outside (answered b k)
+    inner : (t u v : Bool) → cond t (around_routine false m) (around_routine true m) ≡ around_routine true (cond t (around_routine false m) (cond u (around_routine true m) (cond v (around_valof m) m)))
+    inner true u v = sym (routed_again true false m)
+    inner false true v = sym (routed_again true true m)
+    inner false false true = sym (routed_behind_valof true m)
+    inner false false false = refl
+
+    first : (v : Bool) → around_routine false m ≡ around_routine false (cond v (around_valof m) m)
+    first true = sym (routed_behind_valof false m)
+    first false = refl
+
+    by : (z : Bool) → (b.outermost == 0) ≡ z
+        → cond (ltb k.place (cond z (i + 1) b.outermost)) (around_routine false m) (cond (ltb k.place (i + 1)) (around_routine true m) (cond (ltb k.place b.valof) (around_valof m) m))
+        ≡ around_routine (not z) (seen b k)
+    by true e =
+        let o = zero_is b.outermost e in
+        rw before (rw (none_below k.place b.outermost o, none_below k.place b.routine (f o)) (first (ltb k.place b.valof)))
+    by false e = rw before (inner (ltb k.place b.outermost) (ltb k.place b.routine) (ltb k.place b.valof))
+
+valof_now : (i : ℕ) (b : Borders) (k : Option Bound) → Stands i k → answered (record b { valof = i + 1 }) k ≡ around_valof (answered b k)
 valof_now i b None s = refl
-valof_now i b (Some k) s = rw (below k.place (i + 1) (omega arith)) (by (ltb k.place b.routine) (ltb k.place b.valof))
+valof_now i b (Some k) s = rw (below k.place (i + 1) (omega arith)) (by (ltb k.place b.outermost) (ltb k.place b.routine) (ltb k.place b.valof))
   where
     m : Meant
     m = meant_view k.meant
 
-    by : (t u : Bool) → cond t (outer m) (outside m) ≡ outside (cond t (outer m) (cond u (outside m) m))
-    by true u = sym (outside_outer m)
-    by false true = sym (outside_outside m)
-    by false false = refl
+    by : (t u v : Bool) → cond t (around_routine false m) (cond u (around_routine true m) (around_valof m)) ≡ around_valof (cond t (around_routine false m) (cond u (around_routine true m) (cond v (around_valof m) m)))
+    by true u v = sym (valof_behind_routed false m)
+    by false true v = sym (valof_behind_routed true m)
+    by false false true = sym (valof_again m)
+    by false false false = refl
+
+-- behind a routine's beginning there is a border
+first_stays : (i : ℕ) (b : Borders) → b.outermost ≤ i → (not (cond (b.outermost == 0) (i + 1) b.outermost == 0) ≡ true) × (cond (b.outermost == 0) (i + 1) b.outermost ≤ i + 1) × IsFirst (behind_routine (i + 1) b)
+first_stays i b h = by (b.outermost == 0) refl
+  where
+    zero_not : b.outermost ≡ 0 → (b.outermost == 0) ≡ true
+    zero_not n = ap (λ x. x == 0) n
+
+    by : (z : Bool) → (b.outermost == 0) ≡ z → (not (cond z (i + 1) b.outermost == 0) ≡ true) × (cond z (i + 1) b.outermost ≤ i + 1) × (cond z (i + 1) b.outermost ≡ 0 → i + 1 ≡ 0)
+    by true e = (ap not (not_zero (i + 1) (omega arith)), omega arith, λ n. n)
+    by false e = (ap not e, omega arith, λ n. absurd (true≢false (sym (zero_not n) ∙ e)))
 
 -- what is found and what the borders are give what a name means behind more entries
-means : (es : List Entry) (i : ℕ) (E : Env) (q : Name) (b : Borders) (k : Option Bound) → meant_by E q ≡ answered b k → Stands i k → b.routine ≤ i → b.valof ≤ i
+means : (es : List Entry) (i : ℕ) (E : Env) (q : Name) (b : Borders) (k : Option Bound) → E.inside ≡ is_within b → IsFirst b → meant_by E q ≡ answered b k → Stands i k → b.outermost ≤ i → b.routine ≤ i → b.valof ≤ i
     → meant_by (behind_entries es E) q ≡ answered (borders_of i es b) (newest i es q k)
-means [] i E q b k h s r v = h
-means (entry.Name n p o ∷ es) i E q b k h s r v = means es (i + 1) ((n.name.now, meant_view n.meant) ∷ E) q b (cond (is_name n.name.now q) (Some (record { meant = n.meant; place = i })) k) (by (is_name n.name.now q)) (on (is_name n.name.now q)) (omega arith) (omega arith)
+means [] i E q b k n f h s o r v = h
+means (entry.Name x p y ∷ es) i E q b k n f h s o r v = means es (i + 1) (with_name x.name.now (meant_view x.meant) E) q b (cond (is_name x.name.now q) (Some (record { meant = x.meant; place = i })) k) n f (by (is_name x.name.now q)) (on (is_name x.name.now q)) (omega arith) (omega arith) (omega arith)
   where
-    by : (t : Bool) → elim t [ true ↦ meant_view n.meant | false ↦ meant_by E q ] ≡ answered b (cond t (Some (record { meant = n.meant; place = i })) k)
-    by true = sym (seen_now b (record { meant = n.meant; place = i }) r v)
+    by : (t : Bool) → elim t [ true ↦ meant_view x.meant | false ↦ meant_by E q ] ≡ answered b (cond t (Some (record { meant = x.meant; place = i })) k)
+    by true = sym (seen_now b (record { meant = x.meant; place = i }) o r v)
     by false = h
 
-    on : (t : Bool) → Stands (i + 1) (cond t (Some (record { meant = n.meant; place = i })) k)
+    on : (t : Bool) → Stands (i + 1) (cond t (Some (record { meant = x.meant; place = i })) k)
     on true = omega arith
     on false = stands_on i (i + 1) k (omega arith) s
-means (entry.Routine o ∷ es) i E q b k h s r v =
-    means es (i + 1) (in_routine E) q (record { routine = i + 1; valof = b.valof }) k (meant_in_routine E q ∙ ap outer h ∙ sym (routine_now i b k s)) (stands_on i (i + 1) k (omega arith) s) (omega arith) (omega arith)
-means (entry.Valof o ∷ es) i E q b k h s r v =
-    means es (i + 1) (in_valof E) q (record { routine = b.routine; valof = i + 1 }) k (meant_in_valof E q ∙ ap outside h ∙ sym (valof_now i b k s)) (stands_on i (i + 1) k (omega arith) s) (omega arith) (omega arith)
+means (entry.Routine x ∷ es) i E q b k n f h s o r v =
+    let g = first_stays i b o in
+    means es (i + 1) (in_routine E) q (behind_routine (i + 1) b) k (sym g.0) g.2
+    (meant_in_routine E q ∙ (λ j. around_routine (n j) (h j)) ∙ sym (routine_now i b k s f)) (stands_on i (i + 1) k (omega arith) s) g.1 (omega arith) (omega arith)
+means (entry.Valof x ∷ es) i E q b k n f h s o r v =
+    means es (i + 1) (in_valof E) q (record b { valof = i + 1 }) k n f (meant_in_valof E q ∙ ap around_valof h ∙ sym (valof_now i b k s)) (stands_on i (i + 1) k (omega arith) s) (omega arith) (omega arith) (omega arith)
 
-pub meant_is : (es : List Entry) (q : Name) → meant_by (behind_entries es []) q ≡ answered (borders_of 0 es no_borders) (newest 0 es q None)
-meant_is es q = means es 0 [] q no_borders None refl tt (omega arith) (omega arith)
+pub meant_is : (es : List Entry) (q : Name) → meant_by (behind_entries es nothing_known) q ≡ answered (borders_of 0 es no_borders) (newest 0 es q None)
+meant_is es q = means es 0 nothing_known q no_borders None refl (λ n. refl) refl tt (omega arith) (omega arith) (omega arith)
+
+within : (es : List Entry) (i : ℕ) (E : Env) (b : Borders) → E.inside ≡ is_within b → b.outermost ≤ i → (behind_entries es E).inside ≡ is_within (borders_of i es b)
+within [] i E b n o = n
+within (entry.Name x p y ∷ es) i E b n o = within es (i + 1) (with_name x.name.now (meant_view x.meant) E) b n (omega arith)
+within (entry.Routine x ∷ es) i E b n o = let g = first_stays i b o in within es (i + 1) (in_routine E) (behind_routine (i + 1) b) (sym g.0) g.1
+within (entry.Valof x ∷ es) i E b n o = within es (i + 1) (in_valof E) (record b { valof = i + 1 }) n (omega arith)
+
+-- and whether the place is inside a routine
+pub inside_is : (es : List Entry) → (behind_entries es nothing_known).inside ≡ is_within (borders_of 0 es no_borders)
+inside_is es = within es 0 nothing_known no_borders refl (omega arith)

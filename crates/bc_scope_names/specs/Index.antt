@@ -1,5 +1,5 @@
 -- For proofs: what a scope keeps beside its entries, and what its entries keep to be undone.
-use Rattle.std.specs.Prelude.{◌≡◌, ◌<◌, ◌+◌, ℕ, Bool, cond, List, [], ◌∷◌, length, take, Option, Some, None, map, slice_get}
+use Rattle.std.specs.Prelude.{◌≡◌, ◌<◌, ◌+◌, ◌==◌, ℕ, Bool, cond, List, [], ◌∷◌, length, take, Option, Some, None, map, slice_get}
 use Rattle.std.proofs.Common.{get_or}
 use Rattle.std.specs.Borrow.{Bor}
 use Rattle.std.specs.Map.{keys_of}
@@ -26,12 +26,16 @@ newest i [] q k = k
 newest i (e ∷ es) q k = newest (i + 1) es q (newest_one i e q k)
 
 abbrev pub no_borders : Borders
-no_borders = record { routine = 0; valof = 0 }
+no_borders = record { outermost = 0; routine = 0; valof = 0 }
+
+-- where a routine begins with the last of these entries
+abbrev pub behind_routine : (entries : ℕ) → Borders → Borders
+behind_routine n b = record { outermost = cond (b.outermost == 0) n b.outermost; routine = n; valof = b.valof }
 
 abbrev pub behind_border : (i : ℕ) → Entry → Borders → Borders
 behind_border i (entry.Name n position hidden) b = b
-behind_border i (entry.Routine o) b = record { routine = i + 1; valof = b.valof }
-behind_border i (entry.Valof o) b = record { routine = b.routine; valof = i + 1 }
+behind_border i (entry.Routine o) b = behind_routine (i + 1) b
+behind_border i (entry.Valof o) b = record b { valof = i + 1 }
 
 abbrev pub borders_of : (i : ℕ) → List Entry → Borders → Borders
 borders_of i [] b = b

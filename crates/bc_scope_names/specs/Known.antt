@@ -13,5 +13,7 @@ meant_view (code.Variable k) = scoping.Variable k
 meant_view (code.Label l) = scoping.Label l
 meant_view code.OuterVariable = scoping.OuterVariable
 meant_view code.OuterLabel = scoping.OuterLabel
+meant_view code.StrayVariable = scoping.StrayVariable
+meant_view code.StrayLabel = scoping.StrayLabel
 meant_view code.LabelOutside = scoping.LabelOutside
 meant_view code.Undeclared = scoping.Undeclared

@@ -4,8 +4,8 @@ use Rattle.bc_parse_tree.specs.Tree.{Definition, Definitions, no_definitions, de
 use Rattle.bc_parse_tree.specs.Tree as tree
 use Rattle.bc_scope_names.specs.declared.declaring.Prior.{Prior}
 use Rattle.bc_scope_names.specs.declared.declaring.Priors.{Priors}
-use Rattle.bc_scope_defs.specs.Scope.{Env, Name, Variable, Routine, Numbers, meant_by}
-use Rattle.bc_scope_defs.specs.Scoping.{constant, count, variables, before_let}
+use Rattle.bc_scope_defs.specs.Scope.{Env, Name, Variable, Routine, Numbers, with_name, meant_by}
+use Rattle.bc_scope_defs.specs.Scoping.{constant, count, variables, any_numbers, before_let}
 use Rattle.bc_scope_defs.specs.Found.{global_of}
 use Rattle.bc_scope_defs.specs.Numbering.{behind_definition}
 
@@ -67,12 +67,12 @@ all_cells_by gs ws no_definitions = 0
 all_cells_by gs ws (definition d ds) = cells_by (prior_at gs ws) d + all_cells_by (drop 1 gs) (drop 1 ws) ds
 
 abbrev pub routine_by : Option ℕ → Name → ℕ → Env → Env
-routine_by None n m E = (n, Routine m) ∷ E
+routine_by None n m E = with_name n (Routine m) E
 routine_by (Some g) n m E = E
 
 abbrev pub declared_by : Prior → Numbers → (k : ℕ) → Definition → Env → Env
 declared_by p at k (tree.Variables ns es) E = variables ns k E
-declared_by p at k (tree.Vector n c) E = (n, Variable k) ∷ E
+declared_by p at k (tree.Vector n c) E = with_name n (Variable k) E
 declared_by p at k (tree.Function n ps e) E = routine_by p.global n at.place E
 declared_by p at k (tree.Routine n ps b) E = routine_by p.global n at.place E
 
@@ -80,3 +80,8 @@ abbrev pub all_declared_by : List (Option ℕ) → List ℕ → Numbers → (k :
 all_declared_by gs ws at k no_definitions E = E
 all_declared_by gs ws at k (definition d ds) E =
     all_declared_by (drop 1 gs) (drop 1 ws) (behind_definition at d) (k + cells_by (prior_at gs ws) d) ds (declared_by (prior_at gs ws) at k d E)
+
+-- the own names of a LET, by the globals that its routines set
+abbrev pub own_by : List (Option ℕ) → Definitions → Env → Env
+own_by gs no_definitions E = E
+own_by gs (definition d ds) E = own_by (drop 1 gs) ds (declared_by (prior_at gs []) any_numbers 0 d E)

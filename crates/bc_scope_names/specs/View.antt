@@ -5,12 +5,12 @@ use Rattle.bc_scope_names.specs.declared.scope.Entry.{Entry}
 use Rattle.bc_scope_names.specs.declared.scope.Entry.TheVariants as entry
 use Rattle.bc_scope_names.specs.declared.numbers.Numbers.{Numbers}
 use Rattle.bc_scope_defs.specs.Scope as scoping
-use Rattle.bc_scope_defs.specs.Scope.{Env}
+use Rattle.bc_scope_defs.specs.Scope.{Env, nothing_known, with_name}
 use Rattle.bc_scope_defs.specs.Scoping.{in_routine, in_valof}
 
 -- what is known behind an entry
 abbrev pub behind_one : Entry → Env → Env
-behind_one (entry.Name n position hidden) E = (n.name.now, meant_view n.meant) ∷ E
+behind_one (entry.Name n position hidden) E = with_name n.name.now (meant_view n.meant) E
 behind_one (entry.Routine borders) E = in_routine E
 behind_one (entry.Valof borders) E = in_valof E
 
@@ -20,7 +20,7 @@ behind_entries [] E = E
 behind_entries (e ∷ es) E = behind_entries es (behind_one e E)
 
 unfoldable pub scope_view : List Entry → Env
-scope_view es = behind_entries es []
+scope_view es = behind_entries es nothing_known
 
 -- the entries of one scope are the first ones of another
 unfoldable pub Extends : (before after : List Entry) → Type 0

@@ -1,12 +1,12 @@
 //! What declarations make known.
-ghost use Rattle.std.specs.Prelude.{◌≡◌, ◌+◌, ◌∷◌, drop, map, IfOk};
-ghost use Rattle.bc_scope_defs.specs.Scope.{Pending};
+ghost use Rattle.std.specs.Prelude.{◌≡◌, ◌+◌, [], drop, map, None, IfOk};
+ghost use Rattle.bc_scope_defs.specs.Scope.{with_name};
 ghost use Rattle.bc_parse_tree.specs.View.{exps_view, definition_view, definitions_view, label_view, labels_view, item_view, items_view, constant_view, entries_view};
 ghost use Rattle.bc_scope_defs.specs.Numbering.{labels_of, labels_of_item};
-ghost use Rattle.bc_scope_defs.specs.Scoping.{pending, meant_as, in_entry, count, pending_names, names_of, before_let, cells_of_all, variables, in_let, in_label, in_labels, in_item, in_list};
+ghost use Rattle.bc_scope_defs.specs.Scoping.{any_numbers, pending, meant_as, in_entry, count, before_let, cells_of_all, variables, in_let, in_label, in_labels, in_item, in_list};
 ghost use Rattle.bc_scope_defs.specs.Found.{global_of, in_parameters};
 ghost use Rattle.bc_scope_names.specs.View.{meant_view, scope_view, numbers_view, Declares, Extends};
-ghost use Rattle.bc_scope_names.specs.Priors.{global_before, globals_before, greatest_of, all_greatest_of, is_vector, has_vector, ArePriors, prior_at, cells_by, routine_by, declared_by};
+ghost use Rattle.bc_scope_names.specs.Priors.{global_before, globals_before, greatest_of, all_greatest_of, is_vector, has_vector, ArePriors, first_global, prior_at, cells_by, routine_by, declared_by, own_by};
 
 use crate::constants::{constant, constant_in};
 use crate::numbering::{behind_definition, labels_named};
@@ -15,19 +15,28 @@ use crate::scope::{Meant, Scope};
 use bc_parse_tree::{Constant, Definition, Exp, Item, Label, Storage};
 use bc_word::{Memory, Word};
 
-fn declare_pending_entry<'s>(scope: &mut Scope<'s>, entry: &Constant<'s>) -> Result<(), Memory>
-    ensures { IfOk result (λ _. Declares scope.old scope.new (((constant_view entry.now).0, Pending) ∷ scope_view scope.old)) }
+fn declare_pending_entry<'s>(
+    scope: &mut Scope<'s>,
+    storage: Storage,
+    entry: &Constant<'s>,
+) -> Result<(), Memory>
+    ensures { IfOk result (λ _. Declares scope.old scope.new
+        (with_name (constant_view entry.now).0 (meant_as storage any_numbers None) (scope_view scope.old))) }
 {
-    scope.declare(entry.name, Meant::Pending)
+    scope.declare(entry.name, meant_as(storage, Numbers::start(), None))
 }
 
-/// The names of a declaration of constants, none of which is a constant yet.
+/// The names of a declaration of constants, as what they will be; none of them is a constant yet.
 #[tactic(auto, using(crate::proofs::Extends::extends_on, crate::proofs::Extends::extends_self))]
-pub fn declare_pending<'s>(scope: &mut Scope<'s>, entries: &[Constant<'s>]) -> Result<(), Memory>
-    ensures { IfOk result (λ _. Declares scope.old scope.new (pending (entries_view entries.now) (scope_view scope.old))) }
+pub fn declare_pending<'s>(
+    scope: &mut Scope<'s>,
+    storage: Storage,
+    entries: &[Constant<'s>],
+) -> Result<(), Memory>
+    ensures { IfOk result (λ _. Declares scope.old scope.new (pending storage (entries_view entries.now) (scope_view scope.old))) }
 {
     for entry in entries {
-        declare_pending_entry(scope, entry)?;
+        declare_pending_entry(scope, storage, entry)?;
     }
     Ok(())
 }
@@ -61,44 +70,6 @@ pub fn declare_entry<'s>(
 {
     let value = constant_in(scope, &entry.value);
     scope.declare(entry.name, meant_as(storage, at, value))
-}
-
-#[tactic(auto, using(crate::proofs::Extends::extends_on, crate::proofs::Extends::extends_self))]
-fn declare_pending_names<'s>(scope: &mut Scope<'s>, names: &[&'s [u8]]) -> Result<(), Memory>
-    ensures { IfOk result (λ _. Declares scope.old scope.new (pending_names (map (λ n. n.now) names.now) (scope_view scope.old))) }
-{
-    for name in names {
-        scope.declare(name, Meant::Pending)?;
-    }
-    Ok(())
-}
-
-fn declare_pending_definition<'s>(
-    scope: &mut Scope<'s>,
-    definition: &Definition<'s>,
-) -> Result<(), Memory>
-    ensures { IfOk result (λ _. Declares scope.old scope.new (pending_names (names_of (definition_view definition.now)) (scope_view scope.old))) }
-{
-    match definition {
-        Definition::Variables(names, _) => declare_pending_names(scope, names),
-        Definition::Vector(name, _)
-        | Definition::Function(name, _, _)
-        | Definition::Routine(name, _, _) => scope.declare(name, Meant::Pending),
-    }
-}
-
-/// The names of a LET, as its constants see them: they are known, and none of them is a constant.
-#[tactic(auto, using(crate::proofs::Extends::extends_on, crate::proofs::Extends::extends_self))]
-pub fn declare_let_pending<'s>(
-    scope: &mut Scope<'s>,
-    definitions: &[Definition<'s>],
-) -> Result<(), Memory>
-    ensures { IfOk result (λ _. Declares scope.old scope.new (before_let (definitions_view definitions.now) (scope_view scope.old))) }
-{
-    for definition in definitions {
-        declare_pending_definition(scope, definition)?;
-    }
-    Ok(())
 }
 
 /// How many expressions there are.
@@ -216,7 +187,7 @@ fn is_vector(definition: &Definition<'_>) -> bool
     }
 }
 
-/// Whether a LET declares a vector. Nothing else has constants that see its names as pending.
+/// Whether a LET declares a vector. Nothing else has constants that see its names.
 pub fn has_vector(definitions: &[Definition<'_>]) -> bool
     ensures { result ≡ has_vector (definitions_view definitions.now) }
 {
@@ -226,6 +197,59 @@ pub fn has_vector(definitions: &[Definition<'_>]) -> bool
         }
     }
     false
+}
+
+/// The global that a definition sets; none where there are not as many.
+#[tactic(auto, using(std::proofs::lemmas::List::drop_more, std::proofs::lemmas::List::drop_all))]
+fn global_at(globals: &[Option<u16>], i: u64) -> Option<u16>
+    ensures { result ≡ first_global (drop i globals.now) }
+{
+    let i = i as usize;
+    if i < globals.len() { globals[i] } else { None }
+}
+
+/// The names of this definition of a LET, as its constants see them.
+fn declare_own_definition<'s>(
+    scope: &mut Scope<'s>,
+    globals: &[Option<u16>],
+    i: u64,
+    definition: &Definition<'s>,
+) -> Result<(), Memory>
+    ensures { IfOk result (λ _. Declares scope.old scope.new
+        (declared_by (prior_at (drop i globals.now) []) any_numbers 0 (definition_view definition.now) (scope_view scope.old))) }
+{
+    let prior = Prior {
+        global: global_at(globals, i),
+        greatest: 0,
+    };
+    declare_definition(scope, prior, Numbers::start(), 0, definition)
+}
+
+fn declare_own<'s>(
+    scope: &mut Scope<'s>,
+    globals: &[Option<u16>],
+    definitions: &[Definition<'s>],
+) -> Result<(), Memory>
+    ensures { IfOk result (λ _. Declares scope.old scope.new (own_by globals.now (definitions_view definitions.now) (scope_view scope.old))) }
+{
+    let mut i = 0u64;
+    for definition in definitions {
+        declare_own_definition(scope, globals, i, definition)?;
+        i = sum(i, 1)?;
+    }
+    Ok(())
+}
+
+/// The names of a LET, as its constants see them: what they will be, and none of them is a constant.
+#[tactic(auto, using(crate::proofs::Lets::own_is))]
+pub fn declare_let_pending<'s>(
+    scope: &mut Scope<'s>,
+    definitions: &[Definition<'s>],
+) -> Result<(), Memory>
+    ensures { IfOk result (λ _. Declares scope.old scope.new (before_let (definitions_view definitions.now) (scope_view scope.old))) }
+{
+    let globals = globals_before(scope, definitions)?;
+    declare_own(scope, &globals, definitions)
 }
 
 /// For each definition of a LET the constant of a vector, else 0. The scope is then as it was.

@@ -1,9 +1,9 @@
-ghost use Rattle.std.specs.Prelude.{◌≡◌, ◌-◌, ◌≤◌, [], ◌∷◌, None, IfOk, take, length};
-ghost use Rattle.bc_scope_defs.specs.Scope.{meant_by};
-ghost use Rattle.bc_scope_defs.specs.Scoping.{in_routine, in_valof};
+ghost use Rattle.std.specs.Prelude.{◌≡◌, ◌-◌, ◌≤◌, [], None, IfOk, take, length};
+ghost use Rattle.bc_scope_defs.specs.Scope.{meant_by, with_name};
+ghost use Rattle.bc_scope_defs.specs.Scoping.{around_routine, around_valof, in_routine, in_valof};
 ghost use Rattle.bc_scope_names.specs.View.{meant_view, scope_view, Declares};
-ghost use Rattle.bc_scope_names.specs.Crossing.{outer, outside, seen};
-ghost use Rattle.bc_scope_names.specs.Index.{newest};
+ghost use Rattle.bc_scope_names.specs.Crossing.{seen};
+ghost use Rattle.bc_scope_names.specs.Index.{newest, behind_routine};
 
 use bc_word::Memory;
 use indexmap::IndexMap;
@@ -14,7 +14,7 @@ use std::marker::Model;
 #[derive(Clone, Copy, Debug, PartialEq, Eq)]
 pub enum Meant {
     Constant(u16),
-    /// A name of the declaration at work, whose constant isn't known yet.
+    /// A manifest of the declaration at work, whose constant isn't known yet.
     Pending,
     /// A static, by its label.
     Static(u64),
@@ -30,6 +30,10 @@ pub enum Meant {
     OuterVariable,
     /// A label of an enclosing routine.
     OuterLabel,
+    /// In a routine, a variable that stands outside routines.
+    StrayVariable,
+    /// In a routine, a label that stands outside routines.
+    StrayLabel,
     /// A label outside of the VALOF at work.
     LabelOutside,
     Undeclared,
@@ -49,9 +53,11 @@ struct Bound {
     place: usize,
 }
 
-/// How many entries stand outside of the innermost routine, and outside of the innermost VALOF.
+/// How many entries stand outside of all routines, none where there is no routine; outside of the innermost routine, and
+/// outside of the innermost VALOF.
 #[derive(Clone, Copy, Debug, PartialEq, Eq)]
 struct Borders {
+    outermost: usize,
     routine: usize,
     valof: usize,
 }
@@ -117,6 +123,7 @@ impl<'s> Scope<'s> {
             entries: Vec::new(alloc),
             index: IndexMap::new(alloc),
             borders: Borders {
+                outermost: 0,
                 routine: 0,
                 valof: 0,
             },
@@ -149,11 +156,19 @@ impl<'s> Scope<'s> {
         }
     }
 
+    /// Whether the place is inside a routine.
+    #[tactic(auto, unfolding(crate::specs::View::scope_view), using(crate::proofs::Names::inside_is))]
+    pub fn is_inside(&self) -> bool
+        ensures { result ≡ (scope_view self.now).inside }
+    {
+        self.borders.outermost != 0
+    }
+
     /// One name more.
     ///
     /// `Memory` comes where a vector could not grow.
     pub fn declare(&mut self, name: &'s [u8], meant: Meant) -> Result<(), Memory>
-        ensures { IfOk result (λ _. Declares self.old self.new ((name.entry.now, meant_view meant) ∷ scope_view self.old)) }
+        ensures { IfOk result (λ _. Declares self.old self.new (with_name name.entry.now (meant_view meant) (scope_view self.old))) }
     {
         // Behind this an entry more can't be refused, when the index has changed already.
         self.entries.reserve(1)?;
@@ -170,14 +185,14 @@ impl<'s> Scope<'s> {
         }
     }
 
-    /// A routine begins: the variables and labels that are known are another's in it.
+    /// A routine begins: the variables and labels that are known are another's in it, or stand outside routines.
     ///
     /// `Memory` comes where a vector could not grow.
     pub fn enter_routine(&mut self) -> Result<(), Memory>
         ensures { IfOk result (λ _. Declares self.old self.new (in_routine (scope_view self.old))) }
     {
         self.entries.push(Entry::Routine(self.borders))?;
-        self.borders.routine = self.entries.len();
+        self.borders = behind_routine(self.entries.len(), self.borders);
         Ok(())
     }
 
@@ -232,12 +247,29 @@ impl<'s> Scope<'s> {
     }
 }
 
+/// The borders behind the beginning of a routine, which is the last of this many entries.
+fn behind_routine(entries: usize, borders: Borders) -> Borders
+    ensures { result ≡ behind_routine entries borders }
+{
+    Borders {
+        outermost: if borders.outermost == 0 {
+            entries
+        } else {
+            borders.outermost
+        },
+        routine: entries,
+        valof: borders.valof,
+    }
+}
+
 /// What a name means inside of these borders.
 fn seen(borders: Borders, bound: Bound) -> Meant
     ensures { meant_view result ≡ seen borders bound }
 {
-    if bound.place < borders.routine {
-        meant_in_routine(bound.meant)
+    if bound.place < borders.outermost {
+        meant_in_routine(false, bound.meant)
+    } else if bound.place < borders.routine {
+        meant_in_routine(true, bound.meant)
     } else if bound.place < borders.valof {
         meant_in_valof(bound.meant)
     } else {
@@ -245,13 +277,25 @@ fn seen(borders: Borders, bound: Bound) -> Meant
     }
 }
 
-/// The variables and labels of a routine are another's to the routines in it.
-fn meant_in_routine(meant: Meant) -> Meant
-    ensures { meant_view result ≡ outer (meant_view meant) }
+/// What stands around a routine is another routine's in it, or stands outside routines.
+fn meant_in_routine(inside: bool, meant: Meant) -> Meant
+    ensures { meant_view result ≡ around_routine inside (meant_view meant) }
 {
     match meant {
-        Meant::Variable(_) => Meant::OuterVariable,
-        Meant::Label(_) | Meant::LabelOutside => Meant::OuterLabel,
+        Meant::Variable(_) => {
+            if inside {
+                Meant::OuterVariable
+            } else {
+                Meant::StrayVariable
+            }
+        }
+        Meant::Label(_) | Meant::LabelOutside => {
+            if inside {
+                Meant::OuterLabel
+            } else {
+                Meant::StrayLabel
+            }
+        }
         Meant::Constant(_)
         | Meant::Pending
         | Meant::Static(_)
@@ -259,12 +303,14 @@ fn meant_in_routine(meant: Meant) -> Meant
         | Meant::Routine(_)
         | Meant::OuterVariable
         | Meant::OuterLabel
+        | Meant::StrayVariable
+        | Meant::StrayLabel
         | Meant::Undeclared => meant,
     }
 }
 
 fn meant_in_valof(meant: Meant) -> Meant
-    ensures { meant_view result ≡ outside (meant_view meant) }
+    ensures { meant_view result ≡ around_valof (meant_view meant) }
 {
     match meant {
         Meant::Label(_) => Meant::LabelOutside,

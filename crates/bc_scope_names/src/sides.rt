@@ -79,6 +79,8 @@ fn kinds_of_name(meant: Meant) -> Kinds
         | Meant::Pending
         | Meant::Label(_)
         | Meant::OuterVariable
+        | Meant::StrayVariable
+        | Meant::StrayLabel
         | Meant::OuterLabel
         | Meant::LabelOutside
         | Meant::Undeclared => kinds_of_plain(Kind::Number),

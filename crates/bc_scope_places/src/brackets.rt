@@ -50,7 +50,7 @@ fn behind_signs(tokens: &[Token<'_>], first: usize, signs: u64) -> usize
 }
 
 /// How many brackets are closed between two tokens and not opened there, and how many are open behind them.
-#[derive(Clone, Copy, Debug, PartialEq, Eq)]
+#[derive(Clone, Copy)]
 struct Unmatched {
     closed: usize,
     open: usize,

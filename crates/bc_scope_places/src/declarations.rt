@@ -4,17 +4,15 @@ use crate::walk::{Beside, End, Walk};
 use bc_parse_tree::{Block, Constant, Declaration, Definition, Exp, Storage};
 use bc_scope_faults::{Allowed, Extent, entry_fault};
 use bc_scope_names::{
-    Meant, Numbers, ScopeError, constant, declare_entry, declare_let, declare_let_pending,
-    declare_parameters, declare_pending, priors_of_let,
+    Meant, Numbers, ScopeError, constant, declare_entry, declare_let, declare_parameters,
+    declare_pending, priors_of_let,
 };
 use indexmap::IndexMap;
 
-/// A LET at work: whether it stands in a block, its definitions, the names before the definition at work with their
-/// leaves, and the place of its next variable among what is known.
+/// A LET at work: the names before the definition at work with their leaves, and the place of its next variable among
+/// what is known.
 #[derive(Drop)]
-struct OfLet<'a, 's> {
-    inside: bool,
-    definitions: &'a [Definition<'s>],
+struct OfLet<'s> {
     before: IndexMap<&'s [u8], u64>,
     next: usize,
 }
@@ -25,13 +23,12 @@ impl<'s> Walk<'s> {
     #[cycle(places)]
     pub fn declarations(
         &mut self,
-        inside: bool,
         list: &[Declaration<'s>],
         level: u64,
     ) -> Result<Extent, End<'s>> {
         let mut all = Extent { level, width: 0 };
         for tree in list {
-            let own = self.declaration(inside, tree, all.level)?;
+            let own = self.declaration(tree, all.level)?;
             all = Extent {
                 level: own.level,
                 width: all.width.max(own.width),
@@ -40,27 +37,22 @@ impl<'s> Walk<'s> {
         Ok(all)
     }
 
-    /// A declaration; inside says whether it stands in a block, where variables may stand.
+    /// A declaration.
     #[cycle(places)]
-    fn declaration(
-        &mut self,
-        inside: bool,
-        tree: &Declaration<'s>,
-        level: u64,
-    ) -> Result<Extent, End<'s>> {
+    fn declaration(&mut self, tree: &Declaration<'s>, level: u64) -> Result<Extent, End<'s>> {
         match tree {
             Declaration::Constants(storage, list) => {
                 self.entries(*storage, list)?;
                 Ok(Extent { level, width: 0 })
             }
-            Declaration::Let(list) => self.definitions(inside, list, level),
+            Declaration::Let(list) => self.definitions(list, level),
         }
     }
 
     /// Declarations of constants.
     #[cycle(places)]
     fn entries(&mut self, storage: Storage, list: &[Constant<'s>]) -> Result<(), End<'s>> {
-        declare_pending(&mut self.scope, list)?;
+        declare_pending(&mut self.scope, storage, list)?;
         let mut before = IndexMap::new(self.alloc);
         for entry in list {
             let leaf = self.leaf();
@@ -88,17 +80,10 @@ impl<'s> Walk<'s> {
 
     /// The definitions of a LET.
     #[cycle(places)]
-    fn definitions(
-        &mut self,
-        inside: bool,
-        list: &[Definition<'s>],
-        level: u64,
-    ) -> Result<Extent, End<'s>> {
+    fn definitions(&mut self, list: &[Definition<'s>], level: u64) -> Result<Extent, End<'s>> {
         let priors = priors_of_let(&mut self.scope, list)?;
         let level = declare_let(&mut self.scope, &priors, Numbers::start(), level, list)?;
         let mut of_let = OfLet {
-            inside,
-            definitions: list,
             before: IndexMap::new(self.alloc),
             next: self.known(),
         };
@@ -127,7 +112,7 @@ impl<'s> Walk<'s> {
     }
 
     /// A variable of a LET.
-    fn variable(&mut self, of_let: &mut OfLet<'_, 's>, name: &'s [u8]) -> Result<u64, End<'s>> {
+    fn variable(&mut self, of_let: &mut OfLet<'s>, name: &'s [u8]) -> Result<u64, End<'s>> {
         let leaf = self.leaf();
         self.once(&mut of_let.before, name, leaf)?;
         self.declared_at(of_let.next, leaf)?;
@@ -144,7 +129,7 @@ impl<'s> Walk<'s> {
     }
 
     /// The name of a routine of a LET.
-    fn routine_name(&mut self, of_let: &mut OfLet<'_, 's>, name: &'s [u8]) -> Result<u64, End<'s>> {
+    fn routine_name(&mut self, of_let: &mut OfLet<'s>, name: &'s [u8]) -> Result<u64, End<'s>> {
         let leaf = self.leaf();
         self.once(&mut of_let.before, name, leaf)?;
         self.place(leaf)?;
@@ -152,8 +137,8 @@ impl<'s> Walk<'s> {
     }
 
     /// Variables may not stand outside of routines.
-    fn inside(&self, inside: bool, at: Leaves) -> Result<(), End<'s>> {
-        if inside {
+    fn inside(&self, at: Leaves) -> Result<(), End<'s>> {
+        if self.scope.is_inside() {
             Ok(())
         } else {
             self.stop(ScopeError::Misplaced, at, Beside::Nothing)
@@ -164,7 +149,7 @@ impl<'s> Walk<'s> {
     #[cycle(places)]
     fn definition(
         &mut self,
-        of_let: &mut OfLet<'_, 's>,
+        of_let: &mut OfLet<'s>,
         tree: &Definition<'s>,
         level: u64,
     ) -> Result<u64, End<'s>> {
@@ -177,16 +162,16 @@ impl<'s> Walk<'s> {
                 }
                 let at = Leaves::words(first, self.last(first));
                 let width = self.initials(values, level)?;
-                self.inside(of_let.inside, at)?;
+                self.inside(at)?;
                 Ok(width)
             }
             Definition::Vector(name, greatest) => {
                 let leaf = self.variable(of_let, name)?;
                 let _word = self.leaf();
-                self.vector(of_let.definitions, greatest)?;
+                let _at = self.constant(greatest)?;
                 let cells = u64::from(constant(&self.scope, greatest).get()).saturating_add(2);
                 self.note(name, cells, leaf)?;
-                self.inside(of_let.inside, Leaves::one(leaf))?;
+                self.inside(Leaves::one(leaf))?;
                 Ok(0)
             }
             Definition::Function(name, parameters, value) => {
@@ -200,38 +185,6 @@ impl<'s> Walk<'s> {
                 Ok(0)
             }
         }
-    }
-
-    /// The constant of a vector, to which no name of its LET is a constant or has a cell. One in which a fault is found
-    /// among the names as they are then is judged once more.
-    #[cycle(places)]
-    fn vector(
-        &mut self,
-        definitions: &[Definition<'s>],
-        greatest: &Exp<'s>,
-    ) -> Result<(), End<'s>> {
-        if self.is_waiting() {
-            let _at = self.constant(greatest)?;
-            return Ok(());
-        }
-        let mark = self.mark();
-        let leaves = self.leaves;
-        match self.constant(greatest) {
-            Ok(_at) => {
-                if !self.is_waiting() {
-                    return Ok(());
-                }
-            }
-            Err(End::Memory) => return Err(End::Memory),
-            Err(End::Found(_)) => {}
-        }
-        self.wait_no_more();
-        self.leave(mark);
-        self.leaves = leaves;
-        declare_let_pending(&mut self.scope, definitions)?;
-        let _at = self.constant(greatest)?;
-        self.leave(mark);
-        Ok(())
     }
 
     /// The parameters of a routine, behind which is this level.

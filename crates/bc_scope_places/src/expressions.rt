@@ -80,7 +80,7 @@ impl<'s> Walk<'s> {
     ) -> Result<u64, End<'s>> {
         let first = self.leaves;
         let width = self.expression(in_constant, operand, level)?;
-        match address_fault(&self.scope, sign, operand) {
+        match address_fault(&self.scope, in_constant, sign, operand) {
             Ok(()) => {}
             Err(fault) => {
                 let at = Leaves::expression(first, self.last(first), operand);
@@ -175,7 +175,7 @@ impl<'s> Walk<'s> {
 }
 
 /// The widths and the leaves of the expressions on one side of an assignment.
-#[derive(Debug, Drop)]
+#[derive(Drop)]
 pub struct Side {
     pub widths: Vec<u64>,
     pub leaves: Vec<Leaves>,

@@ -5,7 +5,7 @@ use bc_lex_tokens::{Symbol, Token, TokenKind};
 use bc_parse_tree::Exp;
 
 /// The leaves of a construct, from the first to the last. They are counted in text order, from 0 on.
-#[derive(Clone, Copy, Debug, PartialEq, Eq)]
+#[derive(Clone, Copy)]
 pub struct Leaves {
     pub first: u64,
     pub last: u64,

@@ -40,7 +40,7 @@ impl<'s> Walk<'s> {
         level: u64,
     ) -> Result<u64, End<'s>> {
         let mark = self.mark();
-        let extent = self.declarations(true, &tree.declarations, level)?;
+        let extent = self.declarations(&tree.declarations, level)?;
         let width = self.list(false, allowed, &tree.items, extent.level)?;
         self.leave(mark);
         Ok(extent.width.max(width))

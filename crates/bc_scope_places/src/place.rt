@@ -14,7 +14,7 @@ use bc_word::Memory;
 use std::alloc::Global;
 
 /// What belongs to a fault beside the construct that has it.
-#[derive(Clone, Copy, Debug, PartialEq, Eq)]
+#[derive(Clone, Copy)]
 pub enum Also {
     /// Nothing more.
     Nothing,
@@ -31,7 +31,7 @@ pub enum Also {
 }
 
 /// Where the fault of a section stands, and what belongs to it.
-#[derive(Clone, Copy, Debug, PartialEq, Eq)]
+#[derive(Clone, Copy)]
 pub struct FaultPlace {
     pub at: Span,
     pub also: Also,
@@ -125,7 +125,7 @@ fn also_of(tokens: &[Token<'_>], name: Option<&[u8]>, beside: Beside) -> Option<
 /// The first fault of a section, by its leaves.
 fn found<'s>(alloc: Global, section: &Section<'s>) -> Result<Option<Found<'s>>, Memory> {
     let mut walk = Walk::new(alloc);
-    match walk.declarations(false, &section.declarations, 0) {
+    match walk.declarations(&section.declarations, 0) {
         Ok(_extent) => Ok(walk.of_whole()),
         Err(End::Found(found)) => Ok(Some(found)),
         Err(End::Memory) => Err(Memory),
@@ -138,7 +138,7 @@ fn found<'s>(alloc: Global, section: &Section<'s>) -> Result<Option<Found<'s>>, 
 /// None is given of a section that has a fault. `Memory` comes where an allocation was refused.
 pub fn sites_of(alloc: Global, section: &Section<'_>) -> Result<Option<Sites>, Memory> {
     let mut walk = Walk::new(alloc);
-    match walk.declarations(false, &section.declarations, 0) {
+    match walk.declarations(&section.declarations, 0) {
         Ok(_extent) => Ok(Some(walk.into_sites())),
         Err(End::Found(_)) => Ok(None),
         Err(End::Memory) => Err(Memory),

@@ -4,7 +4,7 @@ use bc_word::Memory;
 use std::alloc::Global;
 
 /// A body that has code of its own.
-#[derive(Clone, Copy, Debug, PartialEq, Eq)]
+#[derive(Clone, Copy, PartialEq, Eq)]
 pub enum BodyOf {
     /// That of the routine with this label.
     Routine(u64),
@@ -13,7 +13,7 @@ pub enum BodyOf {
 }
 
 /// Where an expression, test or assignment begins, and the body in which it stands.
-#[derive(Clone, Copy, Debug, PartialEq, Eq)]
+#[derive(Clone, Copy)]
 pub struct RootSite {
     pub body: BodyOf,
     pub leaf: u64,
@@ -21,7 +21,7 @@ pub struct RootSite {
 
 /// A variable: the routine, by its label, in whose frame it stands; its offset and its cells; the leaf of its name; and in
 /// which of the section's expressions, tests and assignments it is there.
-#[derive(Clone, Copy, Debug, PartialEq, Eq)]
+#[derive(Clone, Copy)]
 pub struct VariableSite {
     pub routine: u64,
     pub offset: u64,
@@ -32,14 +32,14 @@ pub struct VariableSite {
 }
 
 /// A name of a global cell.
-#[derive(Clone, Copy, Debug, PartialEq, Eq)]
+#[derive(Clone, Copy)]
 pub struct GlobalSite {
     pub number: u16,
     pub leaf: u64,
 }
 
 /// Where the parts of a section stand, by leaves.
-#[derive(Debug, Drop)]
+#[derive(Drop)]
 pub struct Sites {
     /// Every expression, test and assignment, in text order. Those of one body stand as in its code.
     pub roots: Vec<RootSite>,

@@ -1,5 +1,5 @@
 /// Tokens of a section, from the first to the last, by their indexes.
-#[derive(Clone, Copy, Debug, PartialEq, Eq)]
+#[derive(Clone, Copy, PartialEq, Eq)]
 pub struct Span {
     pub first: usize,
     pub last: usize,

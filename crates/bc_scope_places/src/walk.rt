@@ -10,7 +10,7 @@ use indexmap::IndexMap;
 use std::alloc::{AllocError, AllocFailed, Global};
 
 /// What belongs to a fault beside the construct that has it.
-#[derive(Clone, Copy, Debug, PartialEq, Eq)]
+#[derive(Clone, Copy)]
 pub enum Beside {
     Nothing,
     /// The first one of two.
@@ -26,7 +26,7 @@ pub enum Beside {
 }
 
 /// A fault, the leaves of the construct that has it, and what belongs to it.
-#[derive(Clone, Copy, Debug, PartialEq, Eq)]
+#[derive(Clone, Copy)]
 pub struct Found<'s> {
     pub fault: ScopeError<'s>,
     pub at: Leaves,
@@ -34,7 +34,7 @@ pub struct Found<'s> {
 }
 
 /// Why a walk ends before the section does.
-#[derive(Clone, Copy, Debug, PartialEq, Eq)]
+#[derive(Clone, Copy)]
 pub enum End<'s> {
     Found(Found<'s>),
     Memory,
@@ -59,7 +59,7 @@ impl<'s, T: Drop> From<AllocFailed<T>> for End<'s> {
 }
 
 /// A variable or label that is known, and its leaf, once that was met.
-#[derive(Clone, Copy, Debug, PartialEq, Eq)]
+#[derive(Clone, Copy)]
 struct Known<'s> {
     name: &'s [u8],
     leaf: Option<u64>,
@@ -67,7 +67,7 @@ struct Known<'s> {
 
 /// A name of an enclosing routine that was met before its declaration: its leaf, and the place of its declaration among
 /// what is known.
-#[derive(Clone, Copy, Debug, PartialEq, Eq)]
+#[derive(Clone, Copy)]
 struct Awaited<'s> {
     name: &'s [u8],
     leaf: u64,
@@ -75,14 +75,14 @@ struct Awaited<'s> {
 }
 
 /// A routine whose frame is too large: the leaf of its name, and its cells.
-#[derive(Clone, Copy, Debug, PartialEq, Eq)]
+#[derive(Clone, Copy)]
 struct Large {
     leaf: u64,
     cells: u64,
 }
 
 /// How much is known at a place, to which a walk may be taken back.
-#[derive(Clone, Copy, Debug, PartialEq, Eq)]
+#[derive(Clone, Copy)]
 pub struct Back {
     scope: Mark,
     known: usize,
@@ -197,16 +197,6 @@ impl<'s> Walk<'s> {
                 Ok(())
             }
         }
-    }
-
-    /// Whether a fault was met that waits for its variable's declaration.
-    pub fn is_waiting(&self) -> bool {
-        self.awaited.is_some()
-    }
-
-    /// No fault waits any more.
-    pub fn wait_no_more(&mut self) {
-        self.awaited = None;
     }
 
     /// The place among what is known of the newest variable or label of this name.

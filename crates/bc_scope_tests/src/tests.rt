@@ -42,7 +42,7 @@ fn of_let(alloc: Global) -> Result<Vec<Definition<'static>>, Memory> {
     Ok(list)
 }
 
-/// A LET behind a global: what its names mean for its constants, behind it, in a routine in it, and behind that routine.
+/// A LET behind a global, outside routines: what its names mean for its constants, behind it, in a routine in it, in a routine in that, and behind both.
 #[test]
 fn a_let_is_declared(rt: HostRuntime) -> Result<(), Fail> {
     let alloc = rt.alloc();
@@ -51,8 +51,9 @@ fn a_let_is_declared(rt: HostRuntime) -> Result<(), Fail> {
     scope.declare(b"G", Meant::Global(7))?;
     let before = scope.mark();
     declare_let_pending(&mut scope, list.as_slice())?;
-    assert_eq!(rt; scope.meant_by(b"V"), Meant::Pending);
-    assert_eq!(rt; scope.meant_by(b"G"), Meant::Pending);
+    assert_eq!(rt; scope.meant_by(b"V"), Meant::Variable(0));
+    assert_eq!(rt; scope.meant_by(b"F"), Meant::Routine(1));
+    assert_eq!(rt; scope.meant_by(b"G"), Meant::Global(7));
     scope.leave(before);
     let priors = priors_of_let(&mut scope, list.as_slice())?;
     assert_eq!(rt; scope.meant_by(b"V"), Meant::Undeclared);
@@ -72,8 +73,11 @@ fn a_let_is_declared(rt: HostRuntime) -> Result<(), Fail> {
     let outside = scope.mark();
     declare_parameters(&mut scope, &[b"A"])?;
     assert_eq!(rt; scope.meant_by(b"A"), Meant::Variable(2));
-    assert_eq!(rt; scope.meant_by(b"B"), Meant::OuterVariable);
+    assert_eq!(rt; scope.meant_by(b"B"), Meant::StrayVariable);
     assert_eq!(rt; scope.meant_by(b"F"), Meant::Routine(1));
+    declare_parameters(&mut scope, &[b"C"])?;
+    assert_eq!(rt; scope.meant_by(b"A"), Meant::OuterVariable);
+    assert_eq!(rt; scope.meant_by(b"B"), Meant::StrayVariable);
     scope.leave(outside);
     for (name, meant) in wanted {
         assert_eq!(rt; scope.meant_by(name), meant);
@@ -147,6 +151,7 @@ fn declare_all(scope: &mut Scope<'_>, meant: Meant) -> Result<(), Memory> {
 /// a constant behind the VALOFs, and a variable behind the routine.
 fn many_known(alloc: Global) -> Result<[u64; 5], Memory> {
     let mut scope = Scope::new(alloc);
+    scope.enter_routine()?;
     declare_all(&mut scope, Meant::Variable(3))?;
     let outside = scope.mark();
     scope.enter_routine()?;

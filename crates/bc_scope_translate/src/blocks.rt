@@ -133,7 +133,7 @@ fn declaration<'t, 's>(
 {
     match tree {
         Declaration::Constants(storage, list) => {
-            declare_pending(scope, list)?;
+            declare_pending(scope, *storage, list)?;
             entries(scope, at, *storage, list)?;
             Ok(level)
         }

@@ -55,6 +55,8 @@ pub fn of_name(meant: Meant) -> Result<Formed, Memory>
         Meant::Pending
         | Meant::Label(_)
         | Meant::OuterVariable
+        | Meant::StrayVariable
+        | Meant::StrayLabel
         | Meant::OuterLabel
         | Meant::LabelOutside
         | Meant::Undeclared => Ok(Formed::Plain(CoreExp::Num(Word::new(0)))),

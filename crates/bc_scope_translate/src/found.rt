@@ -313,7 +313,7 @@ fn declaration<'s>(
 {
     match tree {
         Declaration::Constants(storage, list) => {
-            declare_pending(scope, list)?;
+            declare_pending(scope, *storage, list)?;
             entries(scope, found, *storage, list)?;
             Ok(level)
         }

@@ -32,7 +32,7 @@ fn told_of_certificate<F: Files>(
 }
 
 /// What the certificate of these words says.
-fn verdict_of<F: Files>(
+pub fn verdict_of<F: Files>(
     rt: &F,
     alloc: Global,
     path: &str,

@@ -9,16 +9,23 @@ use crate::checking::check_certificate;
 use crate::compiling::compile;
 use crate::devices::{Sink, Source};
 use crate::interpreting::{Standards, interpret_files};
+use crate::listing::list;
 use crate::loading::{LinkedProgram, all_contents, explained, linked, standard_text, texts_of};
 use crate::output::print_words;
+use crate::reporting::explain;
 use crate::showing::show;
+use crate::sparing::spare_files;
+use crate::watching::{Notes, is_watched, spare_texts, window_of};
 use bc_machine::{FileStreams, Machine, Named, StreamsError};
 use bc_machine_defs::End;
 use bc_word::{Memory, Word};
 use bcpl_convert::convert_file;
 use bcpl_faults::{Cause, Failure};
 use bcpl_reports::{Stop, Text, ended_lines, stream_lines};
-use bcpl_words::{AssembleOrder, BadWords, Binding, BuildOrder, Order, Places, RunOrder, wanted};
+use bcpl_trace::{Nowhere, Watch, profile, run_watched};
+use bcpl_words::{
+    AssembleOrder, BadWords, Binding, BuildOrder, Order, Places, RunOrder, WatchOrder, wanted,
+};
 use std::alloc::Global;
 use std::io::{BufReader, BufWriter, Read, Write};
 use std::rt::Files;
@@ -113,22 +120,34 @@ fn stop_of(machine: &Machine, end: End, steps: u64) -> Stop {
     }
 }
 
-/// How a run is done: its texts, the most instructions, and whether it is told where it ended.
-#[derive(Clone, Copy)]
-struct Manner<'a> {
-    texts: &'a [Text<'a>],
+/// How a run is done: its texts, what they were linked to, the most instructions, and whether it is told where it ended.
+#[derive(Drop)]
+struct Manner<'t, 'p> {
+    texts: &'t [Text<'t>],
+    program: &'p LinkedProgram,
     steps: u64,
     shows: bool,
 }
 
-/// Runs a program that was linked over these streams, which it closes.
+/// The failure of a run that stopped so, with what is told of it.
+fn told_of_stop(alloc: Global, manner: &Manner<'_, '_>, stop: &Stop, failure: Failure) -> Failure {
+    let lines = ended_lines(
+        alloc,
+        manner.texts,
+        manner.program.segments.as_slice(),
+        &manner.program.image,
+        stop,
+    );
+    explained(failure, lines)
+}
+
+/// Runs a program over these streams, which it closes.
 fn run_linked<R: Read, W: Write>(
     alloc: Global,
-    manner: Manner<'_>,
-    program: &LinkedProgram,
+    manner: &Manner<'_, '_>,
     streams: &mut FileStreams<R, W>,
 ) -> Result<(), Failure> {
-    let mut machine = Machine::new(alloc, &program.image)?;
+    let mut machine = Machine::new(alloc, &manner.program.image)?;
     let end = machine.run(streams, manner.steps);
     let is_finished = end == End::Finished;
     let Err(failure) = closed(streams, end) else {
@@ -138,14 +157,47 @@ fn run_linked<R: Read, W: Write>(
         return Err(failure);
     }
     let stop = stop_of(&machine, end, manner.steps);
-    let lines = ended_lines(
-        alloc,
-        manner.texts,
-        program.segments.as_slice(),
-        &program.image,
-        &stop,
-    );
-    Err(explained(failure, lines))
+    Err(told_of_stop(alloc, manner, &stop, failure))
+}
+
+/// Runs a program as `run_linked`, and notes what it does.
+fn watch_linked<F: Files, R: Read, W: Write>(
+    rt: &F,
+    alloc: Global,
+    manner: &Manner<'_, '_>,
+    order: &WatchOrder<'_>,
+    streams: &mut FileStreams<R, W>,
+) -> Result<(), Failure> {
+    let image = &manner.program.image;
+    let mut watch = Watch::new(alloc, window_of(order))?;
+    let mut machine = Machine::new(alloc, image)?;
+    let mut nowhere = Nowhere;
+    let mut notes: Notes<F::File> = Notes::begin(rt, alloc, order)?;
+    let end = match &mut notes.trace {
+        Some(trace) => run_watched(&mut machine, streams, manner.steps, &mut watch, trace.out()),
+        None => run_watched(
+            &mut machine,
+            streams,
+            manner.steps,
+            &mut watch,
+            &mut nowhere,
+        ),
+    };
+    let is_finished = end == End::Finished;
+    let closed = closed(streams, end);
+    let text = match order.profile {
+        Some(_) => profile(alloc, &watch, &machine, image)?,
+        None => String::new(alloc),
+    };
+    let noted = notes.finish(rt, alloc, order, watch.is_whole(), text.as_str());
+    let Err(failure) = closed else {
+        return noted;
+    };
+    if !manner.shows || is_finished {
+        return Err(failure);
+    }
+    let stop = stop_of(&machine, end, manner.steps);
+    Err(told_of_stop(alloc, manner, &stop, failure))
 }
 
 /// What a run reads from and writes to at first, whether that is a terminal, and whether places are told.
@@ -180,10 +232,11 @@ fn run_input<F: Files, R: Read + Drop, O: Write + Drop>(
     let mut streams = FileStreams::new(alloc, inputs, outputs)?;
     let manner = Manner {
         texts: &texts,
+        program: &program,
         steps: DEFAULT_STEPS,
         shows,
     };
-    run_linked(alloc, manner, &program, &mut streams)
+    run_linked(alloc, &manner, &mut streams)
 }
 
 /// The names of streams: this one, and those of the words.
@@ -233,10 +286,13 @@ fn run<F: Files, R: Read + Drop, O: Write + Drop>(
         is_terminal,
         shows,
     } = ends;
+    spare_texts(rt, alloc, order)?;
     let contents = all_contents(rt, alloc, order.texts.as_slice())?;
     let texts = texts_of(alloc, order.texts.as_slice(), contents.as_slice())?;
     let program = linked(alloc, texts.as_slice(), shows)?;
-    let inputs = inputs(rt, alloc, Source::Standard(input), order.inputs.as_slice())?;
+    let (files, bindings) = (order.texts.as_slice(), order.inputs.as_slice());
+    spare_files(rt, alloc, files, bindings, order.outputs.as_slice())?;
+    let inputs = inputs(rt, alloc, Source::Standard(input), bindings)?;
     let outputs = outputs(rt, alloc, out, is_terminal, order.outputs.as_slice())?;
     let mut streams = match FileStreams::new(alloc, inputs, outputs) {
         Ok(streams) => streams,
@@ -244,10 +300,15 @@ fn run<F: Files, R: Read + Drop, O: Write + Drop>(
     };
     let manner = Manner {
         texts: texts.as_slice(),
+        program: &program,
         steps: order.steps,
         shows,
     };
-    run_linked(alloc, manner, &program, &mut streams)
+    if is_watched(&order.watch) {
+        watch_linked(rt, alloc, &manner, &order.watch, &mut streams)
+    } else {
+        run_linked(alloc, &manner, &mut streams)
+    }
 }
 
 /// Prints the words that texts become.
@@ -324,7 +385,7 @@ fn refused<O: Write + Drop, E: Write + Drop>(
 }
 
 /// Which of the standard streams are terminals.
-#[derive(Clone, Copy, Debug, PartialEq, Eq)]
+#[derive(Clone, Copy)]
 pub struct Terminals {
     pub input: bool,
     pub out: bool,
@@ -441,6 +502,14 @@ pub fn command_on<'a, F: Files, R: Read + Drop, O: Write + Drop, E: Write + Drop
         Ok(Order::Show(order)) => {
             let shows = are_told(order.places, shows);
             status(show(rt, alloc, &order, shows, &mut out), shows, &mut err)
+        }
+        Ok(Order::List(order)) => {
+            let shows = are_told(order.places, shows);
+            status(list(rt, alloc, &order, shows, &mut out), shows, &mut err)
+        }
+        Ok(Order::Explain(order)) => {
+            let shows = are_told(order.places, shows);
+            status(explain(rt, alloc, &order, shows, &mut out), shows, &mut err)
         }
         Ok(Order::Check(order)) => {
             let shows = are_told(order.places, shows);

@@ -170,7 +170,7 @@ fn built<F: Files>(
             let mut warnings = String::new(alloc);
             if order.warns && shows {
                 warnings = ignored_gets(alloc, given)?;
-                warnings.push_str(warnings_of(alloc, &program)?.as_str())?;
+                warnings.push_str(warnings_of(alloc, library, &program)?.as_str())?;
             }
             Ok((built, warnings))
         }
@@ -242,19 +242,26 @@ fn spare_sources<F: Files>(rt: &F, alloc: Global, order: &BuildOrder<'_>) -> Res
         }
     }
     match order.certificate {
-        Some(path) if is_one_file(rt, path, order.out) => {
-            Err(Failure::file_since(
-                alloc,
-                path,
-                "the text and the certificate can't be one file",
-            ))
-        }
-        _ => Ok(()),
+        Some(path) => spare_text(rt, alloc, path, order.out),
+        None => Ok(()),
+    }
+}
+
+/// Refuses a certificate whose file is the text's.
+fn spare_text<F: Files>(rt: &F, alloc: Global, path: &str, text: &str) -> Result<(), Failure> {
+    if is_one_file(rt, path, text) {
+        Err(Failure::file_since(
+            alloc,
+            path,
+            "the text and the certificate can't be one file",
+        ))
+    } else {
+        Ok(())
     }
 }
 
 /// Refuses a file to be written that is this source.
-fn spare<F: Files>(rt: &F, alloc: Global, path: &str, source: &str) -> Result<(), Failure> {
+pub fn spare<F: Files>(rt: &F, alloc: Global, path: &str, source: &str) -> Result<(), Failure> {
     if is_one_file(rt, path, source) {
         Err(Failure::file_since(alloc, path, "this is one of the sources, and would be lost"))
     } else {
@@ -271,7 +278,11 @@ fn write_files<F: Files>(
 ) -> Result<(), Failure> {
     write_segments(rt, alloc, order.out, built.segments.as_slice())?;
     match order.certificate {
-        Some(path) => write_certificate(rt, alloc, path, built),
+        Some(path) => {
+            // two names of a file that wasn't there before
+            spare_text(rt, alloc, path, order.out)?;
+            write_certificate(rt, alloc, path, built)
+        }
         None => Ok(()),
     }
 }

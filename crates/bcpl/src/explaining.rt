@@ -84,17 +84,21 @@ pub fn explained(
     Ok(told)
 }
 
-/// The lines of warnings on a program that was built. Memory is answered where a growth was refused.
-pub fn warnings_of(alloc: Global, program: &Program<'_, '_>) -> Result<String, Memory> {
+/// The lines of warnings on a program that was built, of which so many sources in front are the library's. Memory is answered where a growth was refused.
+pub fn warnings_of(
+    alloc: Global,
+    library: usize,
+    program: &Program<'_, '_>,
+) -> Result<String, Memory> {
     let mut told = String::new(alloc);
     if !is_set(alloc, program.named.sources, program.mains, START)? {
         told.push_str(
             "bcpl: warning: no routine sets global 1, so a run calls nothing; LET START() BE .. behind GET \"LIBHDR\" does\n",
         )?;
-        let starts = likely_starts(alloc, program.named, program.mains)?;
+        let starts = likely_starts(alloc, program.named, library, program.mains)?;
         told.push_str(starts.as_str())?;
     }
-    let warnings = warnings(alloc, program.named, program.mains)?;
+    let warnings = warnings(alloc, program.named, library, program.mains)?;
     told.push_str(warnings.as_str())?;
     Ok(told)
 }

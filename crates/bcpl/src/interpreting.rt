@@ -6,15 +6,17 @@ use crate::commands::{inputs, outputs};
 use crate::compiling::{given_to_compiler, library_sources, mains_of, paths_of, sources_of};
 use crate::devices::{Sink as Output, Source as Input};
 use crate::explaining::{Program, explained};
+use crate::sparing::spare_files;
 use bc_build::{Built, build};
 use bc_interpret_sources::{
     Cause as Access, Ending, Interpreted, Outcome, Program as Sections, interpret,
 };
 use bc_machine::FileStreams;
 use bc_machine_defs::End;
+use bc_word::Memory;
 use bcpl_faults::{Cause, Failure, Wild};
-use bcpl_messages::{Named, told_lines};
-use bcpl_wild::{Met, wild_message};
+use bcpl_messages::{Message, Named, told_lines};
+use bcpl_wild::{Met, placed_message, wild_message};
 use bcpl_words::InterpretOrder;
 use std::alloc::Global;
 use std::io::{BufReader, BufWriter, Read, Write};
@@ -126,24 +128,52 @@ fn streams_of<F: Files, R: Read + Drop, O: Write + Drop>(
         out,
         is_terminal,
     } = standards;
-    let inputs = inputs(rt, alloc, Input::Standard(input), order.inputs.as_slice())?;
+    let (files, bindings) = (order.sources.files.as_slice(), order.inputs.as_slice());
+    spare_files(rt, alloc, files, bindings, order.outputs.as_slice())?;
+    spare_files(
+        rt,
+        alloc,
+        &[],
+        order.sources.gets.as_slice(),
+        order.outputs.as_slice(),
+    )?;
+    let inputs = inputs(rt, alloc, Input::Standard(input), bindings)?;
     let outputs = outputs(rt, alloc, out, is_terminal, order.outputs.as_slice())?;
     Ok(FileStreams::new(alloc, inputs, outputs)?)
 }
 
 /// What a run came to.
 fn came_to(alloc: Global, program: &Program<'_, '_>, run: &Interpretation) -> Result<(), Failure> {
-    let cause = match run.interpreted.outcome {
+    let (cause, message) = match run.interpreted.outcome {
         Outcome::Ended(Ending::Finished) if run.is_closed => return Ok(()),
-        Outcome::Ended(Ending::Finished) | Outcome::Device => Cause::Ended(End::Device),
-        Outcome::Ended(Ending::ZeroDivide) => Cause::Ended(End::ZeroDivide),
-        Outcome::Going => Cause::TurnsSpent,
-        Outcome::Wild(access) => {
-            let told = wild_lines(alloc, program, run, access)?;
-            return Err(Failure::new(Cause::Wild(wild_of(access))).with(told));
-        }
+        Outcome::Ended(Ending::Finished) => return Err(Failure::new(Cause::Ended(End::Device))),
+        Outcome::Device => (
+            Cause::Ended(End::Device),
+            ended(alloc, program, run, "a stream failed here")?,
+        ),
+        Outcome::Ended(Ending::ZeroDivide) => (
+            Cause::Ended(End::ZeroDivide),
+            ended(alloc, program, run, "a number is divided by 0 here")?,
+        ),
+        Outcome::Going => (
+            Cause::TurnsSpent,
+            ended(
+                alloc,
+                program,
+                run,
+                "the run was here when its turns were spent",
+            )?
+            .helped(
+                alloc,
+                Some("--turns N gives more; does the loop or the recursion end?"),
+            )?,
+        ),
+        Outcome::Wild(access) => (
+            Cause::Wild(wild_of(access)),
+            wild(alloc, program, run, access)?,
+        ),
     };
-    Err(Failure::new(cause))
+    Err(Failure::new(cause).with(told_lines(alloc, program.named, &message)?))
 }
 
 /// The wild access as it is told.
@@ -153,27 +183,46 @@ fn wild_of(access: Access) -> Wild {
         Access::Dead(address) => Wild::Dead(address),
         Access::NoCell(address) => Wild::NoCell(address),
         Access::NotRoutine(value) => Wild::NotRoutine(value),
-        Access::FrameTooLarge(_) | Access::Malformed => Wild::FrameTooLarge,
+        Access::FrameTooLarge(cell) => Wild::FrameTooLarge(cell as u64),
+        Access::Malformed => Wild::FrameTooLarge(0),
     }
 }
 
-/// The lines on a wild access: where it stands, whose cell it met, and the calls that led there.
-fn wild_lines(
+/// A program that was built, as what is said of a run takes it.
+fn program_of<'p, 's>(
+    program: &Program<'p, 's>,
+    run: &'p Interpretation,
+) -> bcpl_wild::Program<'p, 's> {
+    bcpl_wild::Program {
+        sources: program.named.sources,
+        mains: program.mains,
+        image: &run.built.image,
+    }
+}
+
+/// What is said of a wild access: where it stands, whose cell it met, and the calls that led there.
+fn wild(
     alloc: Global,
     program: &Program<'_, '_>,
     run: &Interpretation,
     access: Access,
-) -> Result<String, Failure> {
-    let of = bcpl_wild::Program {
-        sources: program.named.sources,
-        mains: program.mains,
-        image: &run.built.image,
-    };
+) -> Result<Message, Memory> {
     let met = Met {
         cause: access,
         standings: run.interpreted.trail.standings.as_slice(),
         calls: run.interpreted.trail.calls,
     };
-    let message = wild_message(alloc, &of, &met)?;
-    Ok(told_lines(alloc, program.named, &message)?)
+    wild_message(alloc, &program_of(program, run), &met)
+}
+
+/// What is said of another end of a run: this sentence, where the run stood, and the calls that led there.
+fn ended(
+    alloc: Global,
+    program: &Program<'_, '_>,
+    run: &Interpretation,
+    sentence: &str,
+) -> Result<Message, Memory> {
+    let standings = run.interpreted.trail.standings.as_slice();
+    let sentence = String::from_str(alloc, sentence)?;
+    placed_message(alloc, &program_of(program, run), standings, sentence)
 }

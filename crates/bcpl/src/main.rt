@@ -8,9 +8,13 @@ mod devices;
 mod explaining;
 mod ignored;
 mod interpreting;
+mod listing;
 mod loading;
 mod output;
+mod reporting;
 mod showing;
+mod sparing;
+mod watching;
 
 use crate::commands::{Standard, Terminals, command_on};
 use std::io::{BufWriter, IsTerminal};

@@ -18,7 +18,7 @@ use std::alloc::{AllocError, AllocFailed, Global};
 use std::{fmt, io};
 
 /// A wild access, with the address of the cell or the value that was called.
-#[derive(Clone, Copy, Debug, PartialEq, Eq)]
+#[derive(Clone, Copy)]
 pub enum Wild {
     /// A cell was read that was never set.
     Unset(u16),
@@ -29,11 +29,11 @@ pub enum Wild {
     /// What was called is no routine.
     NotRoutine(u16),
     /// A frame has no room.
-    FrameTooLarge,
+    FrameTooLarge(u64),
 }
 
 /// Why a command was not done. Its text is what stands behind `bcpl: `.
-#[derive(Debug, Drop)]
+#[derive(Drop)]
 pub struct Failure {
     pub cause: Cause,
     /// Further lines for people, each ended by a line break.
@@ -41,7 +41,7 @@ pub struct Failure {
 }
 
 /// What kept a command from being done.
-#[derive(Debug, Drop)]
+#[derive(Drop)]
 pub enum Cause {
     /// A text was refused.
     Text(TextError),
@@ -208,7 +208,7 @@ fn write_wild<W: fmt::Write>(f: &mut fmt::Formatter<W>, wild: Wild) -> fmt::Resu
         Wild::Dead(address) => write!(f, "wild 2 Dead {address}"),
         Wild::NoCell(address) => write!(f, "wild 3 NoCell {address}"),
         Wild::NotRoutine(value) => write!(f, "wild 4 NotRoutine {value}"),
-        Wild::FrameTooLarge => write!(f, "wild 5 FrameTooLarge"),
+        Wild::FrameTooLarge(cell) => write!(f, "wild 5 FrameTooLarge {cell}"),
     }
 }
 

@@ -5,4 +5,4 @@ mod reading;
 mod writing;
 
 pub use reading::{FILE_LIMIT, contents};
-pub use writing::{Written, is_one_file};
+pub use writing::{Written, is_one_file, would_lose};

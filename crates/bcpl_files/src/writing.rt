@@ -2,16 +2,20 @@
 
 use bcpl_faults::Failure;
 use std::alloc::Global;
-use std::fs;
+use std::fs::{File, Metadata, OpenOptions};
 use std::io::{BufWriter, Write};
 use std::os::unix::fs::MetadataExt;
 use std::rt::Files;
+use std::{fs, io};
 
-/// What stands behind the name of a file while it is written.
+/// What stands behind the name of a file while it is written; a number follows where files of such names are there.
 const UNFINISHED: &str = ".unfinished";
 
+/// How many such names are tried.
+const NAMES: usize = 100;
+
 /// A file that is being written. Where it takes the place of a plain file, or of none, the bytes go to a new file beside it,
-/// which takes its name at the end; a device or a pipe is written to as it is.
+/// which takes its name at the end; a device, a pipe or what a link leads to is written to as it is.
 #[derive(Drop)]
 pub struct Written<W: Write + Drop> {
     out: BufWriter<W>,
@@ -19,33 +23,72 @@ pub struct Written<W: Write + Drop> {
     beside: Option<String>,
 }
 
-/// Whether the file of this path is written by a new one beside it.
-fn is_replaced<F: Files>(rt: &F, path: &str) -> bool {
-    match fs::metadata(rt, path) {
-        Ok(found) => found.is_file(),
-        Err(_) => true,
+/// What stands at this path now.
+enum Standing {
+    /// Nothing.
+    Nothing,
+    /// A plain file.
+    Plain(Metadata),
+    /// A device, a pipe, a folder or a link.
+    Other,
+}
+
+/// What stands at this path now; links are not followed.
+fn what_stands<F: Files>(rt: &F, path: &str) -> Standing {
+    match fs::symlink_metadata(rt, path) {
+        Ok(found) if found.is_file() => Standing::Plain(found),
+        Ok(_) => Standing::Other,
+        Err(_) => Standing::Nothing,
+    }
+}
+
+/// A new file beside that of this path, with its own path.
+fn new_beside<F: Files>(rt: &F, alloc: Global, path: &str) -> Result<(String, F::File), Failure> {
+    for number in 0..NAMES {
+        let beside = if number == 0 {
+            format!(in alloc; "{path}{UNFINISHED}")?
+        } else {
+            format!(in alloc; "{path}{UNFINISHED}{number}")?
+        };
+        match File::create_new(rt, beside.as_str()) {
+            Ok(file) => return Ok((beside, file)),
+            Err(error) if error.kind() == io::ErrorKind::AlreadyExists => {}
+            Err(error) => return Err(Failure::io(alloc, &error, path)),
+        }
+    }
+    Err(Failure::file_since(alloc, path, "too many unfinished files stand beside it"))
+}
+
+/// Refuses a plain file that can't be written to.
+fn is_open_to_writing<F: Files>(rt: &F, alloc: Global, path: &str) -> Result<(), Failure> {
+    match OpenOptions::new().write(true).open(rt, path) {
+        Ok(_) => Ok(()),
+        Err(error) => Err(Failure::io(alloc, &error, path)),
     }
 }
 
 impl<W: Write + Drop> Written<W> {
-    /// Begins to write the file of this path.
+    /// Begins to write the file of this path. A plain file keeps its permissions.
     pub fn begin<F: Files<File = W>>(
         rt: &F,
         alloc: Global,
         path: &str,
     ) -> Result<Written<W>, Failure> {
-        let beside = if is_replaced(rt, path) {
-            Some(format!(in alloc; "{path}{UNFINISHED}")?)
-        } else {
-            None
-        };
-        let target = match &beside {
-            Some(beside) => beside.as_str(),
-            None => path,
-        };
-        let file = match fs::create(rt, target) {
-            Ok(file) => file,
-            Err(error) => return Err(Failure::io(alloc, &error, path)),
+        let (file, beside) = match what_stands(rt, path) {
+            Standing::Other => match fs::create(rt, path) {
+                Ok(file) => (file, None),
+                Err(error) => return Err(Failure::io(alloc, &error, path)),
+            },
+            Standing::Nothing => {
+                let (beside, file) = new_beside(rt, alloc, path)?;
+                (file, Some(beside))
+            }
+            Standing::Plain(found) => {
+                is_open_to_writing(rt, alloc, path)?;
+                let (beside, file) = new_beside(rt, alloc, path)?;
+                let _ = fs::set_permissions(rt, beside.as_str(), found.permissions());
+                (file, Some(beside))
+            }
         };
         match BufWriter::new(alloc, file) {
             Ok(out) => Ok(Written { out, beside }),
@@ -77,7 +120,10 @@ impl<W: Write + Drop> Written<W> {
         match &beside {
             Some(beside) => match fs::rename(rt, beside.as_str(), path) {
                 Ok(()) => Ok(()),
-                Err(error) => Err(Failure::io(alloc, &error, path)),
+                Err(error) => {
+                    let _ = fs::remove_file(rt, beside.as_str());
+                    Err(Failure::io(alloc, &error, path))
+                }
             },
             None => Ok(()),
         }
@@ -90,4 +136,14 @@ pub fn is_one_file<F: Files>(rt: &F, one: &str, other: &str) -> bool {
         (Ok(one), Ok(other)) => one.dev() == other.dev() && one.ino() == other.ino(),
         _ => one == other,
     }
+}
+
+/// Whether writing to `path` would lose what the file `other` has, or what is written to it: both lead to one file, links followed, which is
+/// no device.
+pub fn would_lose<F: Files>(rt: &F, path: &str, other: &str) -> bool {
+    let is_device = match fs::metadata(rt, path) {
+        Ok(found) => !found.is_file(),
+        Err(_) => false,
+    };
+    !is_device && is_one_file(rt, path, other)
 }

@@ -10,17 +10,28 @@ fn help_for_byte(text: &[u8], at: usize) -> Option<&'static str> {
     if rest.starts_with(b"\xEF\xBB\xBF") {
         return Some("the file begins with a byte order mark; save it as plain text without one");
     }
+    if rest.starts_with(b"#include") {
+        return Some("a file is got by GET, as in GET \"LIBHDR\"");
+    }
     match rest.first().copied().unwrap_or(0) {
-        b'{' => Some("a block is opened by $( and closed by $)"),
+        b'{' => Some(
+            "a block is opened by $( and closed by $); bcpl convert brings old sources across",
+        ),
         b'}' => Some("a block is closed by $)"),
-        b'_' => Some("a name has letters, digits and dots; a dot can stand for the underscore"),
-        b'%' => Some("the byte I of the string S is GETBYTE(S, I), and PUTBYTE(S, I, C) sets it"),
+        b'_' => Some(
+            "a name has letters, digits and dots; in a name, a dot can stand for the underscore",
+        ),
+        b'%' => Some(
+            "the byte I of the string S is GETBYTE(S, I), and PUTBYTE(S, I, C) sets it; the remainder is REM",
+        ),
         b'#' => Some(
             "octal digits stand behind #, as in #17, and hexadecimal ones behind #X, as in #XFF",
         ),
         b'[' | b']' => Some("an element of a vector is written V!I, and brackets are ( and )"),
         b'\\' => Some("NOT is written ~ or NOT, and a line goes on without a sign for it"),
-        b'?' => Some("there is no sign for any value; write a number"),
+        b'?' => Some(
+            "there is no sign for any value; write a number. A choice of two values is B -> X, Y",
+        ),
         b'^' => Some("exclusive or is written NEQV"),
         b'.' => Some("a name begins with a letter, and there are no numbers with a point"),
         byte if byte >= 128 => Some(
@@ -83,6 +94,15 @@ fn span(file: usize, at: usize, size: usize) -> Option<Span> {
     })
 }
 
+/// Whether this name is meant for the header of the library: LIBHDR in any letters, and perhaps with an ending.
+fn is_libhdr(name: &[u8]) -> bool {
+    let bare = match name.iter().position(|byte| *byte == b'.') {
+        Some(dot) => name.get(..dot).unwrap_or(name),
+        None => name,
+    };
+    bare.eq_ignore_ascii_case(b"LIBHDR")
+}
+
 /// What is said where GET names no source.
 fn get_missing(
     alloc: Global,
@@ -95,8 +115,13 @@ fn get_missing(
         if get.start == at {
             let name = crate::words::shown(alloc, get.name)?;
             let sentence = format!(in alloc; "no source has the name {name}")?;
-            let help = if get.name.eq_ignore_ascii_case(b"LIBHDR") {
+            let help = if is_libhdr(get.name) {
                 String::from_str(alloc, "the header of the library is LIBHDR, in capitals")?
+            } else if get.name == b"EXTHDR".as_slice() {
+                String::from_str(
+                    alloc,
+                    "it is the header of a further library: --library ext",
+                )?
             } else {
                 format!(in alloc; "say which file it is, by --get {name}=PATH")?
             };

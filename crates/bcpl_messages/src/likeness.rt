@@ -1,7 +1,7 @@
 use bc_lex_tokens::{Symbol, Token, TokenKind};
 use bc_word::Memory;
 use std::alloc::Global;
-use strsim::levenshtein;
+use strsim::osa_distance;
 
 /// The names that LIBHDR declares.
 const LIBRARY: [&[u8]; 15] = [
@@ -21,6 +21,42 @@ const LIBRARY: [&[u8]; 15] = [
     b"NEWLINE",
     b"WRITEF",
 ];
+
+/// The names that EXTHDR declares beside them.
+const FURTHER: [&[u8]; 27] = [
+    b"WRITED",
+    b"WRITEU",
+    b"WRITEOCT",
+    b"WRITEHEX",
+    b"WRITET",
+    b"NEWPAGE",
+    b"READN",
+    b"TERMINATOR",
+    b"UNRDCH",
+    b"INPUT",
+    b"OUTPUT",
+    b"PACKSTRING",
+    b"UNPACKSTRING",
+    b"CAPITALCH",
+    b"COMPSTRING",
+    b"INITVEC",
+    b"GETVEC",
+    b"FREEVEC",
+    b"MULDIV",
+    b"RESULT2",
+    b"RANDOM",
+    b"RANDOMISE",
+    b"STOP",
+    b"FIRSTFREEGLOBAL",
+    b"BYTESPERWORD",
+    b"MAXINT",
+    b"MININT",
+];
+
+/// Whether EXTHDR declares this name, and LIBHDR doesn't.
+pub fn is_of_further_library(name: &[u8]) -> bool {
+    FURTHER.iter().any(|known| *known == name)
+}
 
 /// The longest names that are compared letter by letter.
 const LONGEST: usize = 32;
@@ -42,7 +78,8 @@ pub fn reserved_word(alloc: Global, name: &[u8]) -> Result<Option<String>, Memor
     })
 }
 
-/// How unlike two names are: 0 where they differ in the case of letters alone, else how many letters must be changed.
+/// How unlike two names are: 0 where they differ in the case of letters alone, else how many letters must be changed, or
+/// exchanged with the next one.
 fn unlikeness(alloc: Global, one: &[u8], other: &[u8]) -> Result<usize, Memory> {
     if one.eq_ignore_ascii_case(other) {
         return Ok(0);
@@ -51,7 +88,7 @@ fn unlikeness(alloc: Global, one: &[u8], other: &[u8]) -> Result<usize, Memory> 
         return Ok(usize::MAX);
     }
     match (std::str::from_utf8(one), std::str::from_utf8(other)) {
-        (Ok(one), Ok(other)) => Ok(levenshtein(alloc, one, other)?),
+        (Ok(one), Ok(other)) => Ok(osa_distance(alloc, one, other)?),
         _ => Ok(usize::MAX),
     }
 }

@@ -14,7 +14,7 @@ use bcpl_reports::{SegmentSize, segment_words, too_large};
 use std::alloc::Global;
 
 /// A routine that sets a global.
-#[derive(Clone, Copy, Debug)]
+#[derive(Clone, Copy)]
 struct Setter<'s> {
     name: &'s [u8],
     span: Span,

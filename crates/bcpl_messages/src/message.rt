@@ -9,7 +9,7 @@ use bcpl_places::Span;
 use std::alloc::Global;
 
 /// A further place that belongs to a refusal.
-#[derive(Debug, Drop)]
+#[derive(Drop)]
 pub struct Note {
     /// Where it is.
     pub span: Span,
@@ -18,7 +18,7 @@ pub struct Note {
 }
 
 /// What is said of a refusal.
-#[derive(Debug, Drop)]
+#[derive(Drop)]
 pub struct Message {
     /// Where it is; none where it is at no one place.
     pub span: Option<Span>,

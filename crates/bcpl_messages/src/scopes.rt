@@ -1,4 +1,4 @@
-use crate::likeness::{is_of_library, nearest};
+use crate::likeness::{is_of_further_library, is_of_library, nearest};
 use crate::message::Message;
 use crate::syntax::span_of;
 use crate::words::{is_symbol, shown};
@@ -11,6 +11,25 @@ use bc_scope_places::{Also, Span as TokenSpan, fault_place};
 use bc_word::Memory;
 use bcpl_places::{Span, gets_of};
 use std::alloc::Global;
+
+/// Whether this token is a word behind which a name is declared.
+fn declares(word: &Token<'_>) -> bool {
+    is_symbol(word, Symbol::Let) || is_symbol(word, Symbol::And) || is_symbol(word, Symbol::For)
+}
+
+/// Whether some LET, AND or FOR declares this name, as the first name behind that word.
+fn is_declared(tokens: &[Token<'_>], name: &[u8]) -> bool {
+    let mut is_next = false;
+    for token in tokens {
+        if let TokenKind::Name(known) = token.kind {
+            if is_next && known == name {
+                return true;
+            }
+        }
+        is_next = declares(token);
+    }
+    false
+}
 
 /// What is said of a name that means nothing.
 fn undeclared_help(
@@ -31,6 +50,15 @@ fn undeclared_help(
             let help = "the library declares it: write GET \"LIBHDR\" at the head of the file";
             return Ok(Some(String::from_str(alloc, help)?));
         }
+    }
+    if is_declared(tokens, name) {
+        let help =
+            "a name is known in the block, routine or FOR that declares it, from its declaration on";
+        return Ok(Some(String::from_str(alloc, help)?));
+    }
+    if is_of_further_library(name) {
+        let help = "the further library has it: GET \"EXTHDR\", and build with --library ext";
+        return Ok(Some(String::from_str(alloc, help)?));
     }
     Ok(match nearest(alloc, tokens, name)? {
         Some(near) => {

@@ -43,7 +43,7 @@ const REMEDIES: [Remedy; 4] = [
     Remedy {
         found: Symbol::Comma,
         meant: Symbol::Semicolon,
-        help: "commands stand apart by ; or a line break",
+        help: "commands stand apart by ; or a line break, and LET A, B = 1, 2 declares two variables",
     },
 ];
 
@@ -143,6 +143,12 @@ fn help_for_pair(before: Option<&Token<'_>>, at: Option<&Token<'_>>) -> Option<&
     }
     match (text_of(before), text_of(at)) {
         (b"=", b"=") => Some("equality is written with one ="),
+        (b"=", b"<") => Some("at most is written <="),
+        (b"=", b">") => Some("at least is written >="),
+        (b"FOR", b"LET") => Some("FOR declares its variable itself, as in FOR I = 1 TO 9 DO .."),
+        (b"RETURN", _) => Some(
+            "RETURN gives no value; a function gives that of the expression behind its =, as in LET F(X) = VALOF $( .. RESULTIS X $)",
+        ),
         (b"~", b"=") | (b"!", b"=") => Some("unequal is written ~= or NE"),
         (b"<" | b">", b">" | b"=") => Some("unequal is written ~= or NE, and shifts << and >>"),
         (b"+", b"+") | (b"+", b"=") => Some("to add to X, write X := X + 1"),
@@ -175,12 +181,14 @@ fn help_for_token(token: Option<&Token<'_>>) -> Option<&'static str> {
     };
     match symbol {
         Symbol::Else => Some(
-            "ELSE and OR belong to TEST .. THEN .. ELSE; an IF has no second command",
+            "ELSE and OR belong to TEST .. THEN .. ELSE; an IF has no second command, and the operator or is written |",
         ),
-        Symbol::And => Some("AND goes on with a declaration that LET begins"),
+        Symbol::And => Some(
+            "AND goes on with a declaration that LET begins; the operator and is written &",
+        ),
         Symbol::Let | Symbol::Manifest | Symbol::Static | Symbol::Global => {
             Some(
-                "the declarations of a block stand in front of its commands; open a block by $( for further ones",
+                "the declarations of a block stand in front of its commands, apart by ; or line breaks; open a block by $( for further ones",
             )
         }
         Symbol::If
@@ -217,6 +225,9 @@ fn help_for_place(
         && is_symbol_at(index.saturating_add(1), Symbol::Else)
     {
         return Ok(Some("no ; stands in front of ELSE"));
+    }
+    if could_stand(alloc, tokens, index, TokenKind::Symbol(Symbol::Into))? {
+        return Ok(Some("a SWITCHON is written SWITCHON E INTO $( CASE 1: .. DEFAULT: .. $)"));
     }
     if could_stand(alloc, tokens, index, TokenKind::Symbol(Symbol::Else))? {
         return Ok(Some(
@@ -256,6 +267,17 @@ fn help_for_place(
     Ok(None)
 }
 
+/// What is said of a name that is an operator or a bracket in other languages.
+fn help_for_name(name: &[u8]) -> Option<&'static str> {
+    match name {
+        b"MOD" | b"mod" => Some("the remainder is written REM"),
+        b"XOR" | b"xor" => Some("exclusive or is written NEQV"),
+        b"BEGIN" | b"begin" => Some("a block is opened by $( and closed by $)"),
+        b"END" | b"end" => Some("a block is closed by $)"),
+        _ => None,
+    }
+}
+
 /// What may have been meant, where tokens can't be read on at this index.
 fn help_for(alloc: Global, tokens: &[Token<'_>], index: usize) -> Result<Option<String>, Memory> {
     let at = tokens.get(index);
@@ -274,9 +296,17 @@ fn help_for(alloc: Global, tokens: &[Token<'_>], index: usize) -> Result<Option<
         {
             if let Some(word) = reserved_word(alloc, name)? {
                 let name = shown(alloc, name)?;
+                let old = if index == 0 {
+                    "; bcpl convert brings old sources across"
+                } else {
+                    ""
+                };
                 return Ok(Some(format!(in alloc;
-                    "{name} is a name; the reserved word is {word}"
+                    "{name} is a name; the reserved word is {word}{old}"
                 )?));
+            }
+            if let Some(help) = help_for_name(name) {
+                return Ok(Some(String::from_str(alloc, help)?));
             }
         }
     }

@@ -4,7 +4,7 @@ use bc_word::Memory;
 use std::alloc::Global;
 
 /// A change of the tokens at a place.
-#[derive(Clone, Copy, Debug)]
+#[derive(Clone, Copy)]
 pub enum Change {
     /// This token stands in front of the one at the place.
     Insert(TokenKind<'static>),
@@ -100,7 +100,7 @@ pub fn read_with(
 }
 
 /// How far changed tokens are read.
-#[derive(Clone, Copy, Debug, PartialEq, Eq)]
+#[derive(Clone, Copy, PartialEq, Eq)]
 pub enum Reach {
     /// The change is refused.
     Before,

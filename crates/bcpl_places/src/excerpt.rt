@@ -12,7 +12,7 @@ const IN_FRONT: usize = 40;
 
 /// A line of a source with a mark below a stretch of it, as two lines of text. A line that is too long is cut round the
 /// stretch.
-#[derive(Debug, Drop)]
+#[derive(Drop)]
 pub struct Excerpt {
     number: usize,
     /// What is shown of the line.

@@ -6,7 +6,7 @@ use bc_word::Memory;
 use std::alloc::Global;
 
 /// A GET of a source, and the name behind it.
-#[derive(Clone, Copy, Debug)]
+#[derive(Clone, Copy)]
 pub struct Get<'s> {
     /// The offset of the word GET.
     pub start: usize,

@@ -13,7 +13,7 @@ pub use line::{Line, line_at};
 pub use signs::column_at;
 
 /// A stretch of a source: the bytes from `start` up to `end`, `end` not among them.
-#[derive(Clone, Copy, Debug, PartialEq, Eq)]
+#[derive(Clone, Copy, PartialEq, Eq)]
 pub struct Span {
     /// The index of the source.
     pub file: usize,

@@ -2,7 +2,7 @@ ghost use Rattle.std.specs.Prelude.{◌≡◌, ◌+◌, ◌≤◌, length, take}
 ghost use Rattle.bcpl_places.specs.Lines.{breaks};
 
 /// A line of a text, without the line feed that ends it and a carriage return in front of that.
-#[derive(Clone, Copy, Debug, PartialEq, Eq)]
+#[derive(Clone, Copy)]
 pub struct Line {
     /// Its number, counted from 1.
     pub number: usize,

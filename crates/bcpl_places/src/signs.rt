@@ -9,7 +9,7 @@ use unicode_width::UnicodeWidthChar;
 const TAB: usize = 8;
 
 /// What a terminal shows for some bytes of a line.
-#[derive(Clone, Copy, Debug, PartialEq, Eq)]
+#[derive(Clone, Copy)]
 pub struct Sign {
     /// The offset of its first byte in the line.
     pub at: usize,

@@ -10,7 +10,7 @@ use bc_word::Memory;
 use std::alloc::Global;
 
 /// Where a run stood when it ended.
-#[derive(Clone, Copy, Debug)]
+#[derive(Clone, Copy)]
 pub struct Stop {
     /// How it ended.
     pub end: End,
@@ -23,7 +23,7 @@ pub struct Stop {
 }
 
 /// What stands at an address: the segment, the item, and how far the nearest label and routine are in front of it.
-#[derive(Clone, Copy, Debug)]
+#[derive(Clone, Copy)]
 struct Spot {
     segment: usize,
     item: usize,

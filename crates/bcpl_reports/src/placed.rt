@@ -3,7 +3,7 @@ use bcpl_places::{Excerpt, column_at, line_at};
 use std::alloc::Global;
 
 /// A file that a report speaks of.
-#[derive(Clone, Copy, Debug)]
+#[derive(Clone, Copy)]
 pub struct Text<'a> {
     /// The path under which it is told.
     pub path: &'a str,
@@ -12,14 +12,14 @@ pub struct Text<'a> {
 }
 
 /// A stretch of a text: the bytes from `start` up to `end`, `end` not among them.
-#[derive(Clone, Copy, Debug, PartialEq, Eq)]
+#[derive(Clone, Copy)]
 pub struct Stretch {
     pub start: usize,
     pub end: usize,
 }
 
 /// A stretch of one of several texts.
-#[derive(Clone, Copy, Debug)]
+#[derive(Clone, Copy)]
 pub struct Placed<'a> {
     pub text: Text<'a>,
     pub stretch: Stretch,

@@ -57,7 +57,7 @@ pub fn segment_words(alloc: Global, items: &[Item]) -> Result<usize, Memory> {
 }
 
 /// A segment's name and its size.
-#[derive(Debug, Drop)]
+#[derive(Drop)]
 pub struct SegmentSize {
     /// What it is called.
     pub name: String,

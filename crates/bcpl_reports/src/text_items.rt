@@ -3,7 +3,7 @@ use bc_word::Memory;
 use std::alloc::Global;
 
 /// An item of a text: where it stands.
-#[derive(Clone, Copy, Debug, PartialEq, Eq)]
+#[derive(Clone, Copy)]
 struct Found {
     /// The segment within the text, counted from 0.
     segment: usize,

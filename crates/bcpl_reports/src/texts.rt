@@ -16,7 +16,7 @@ const RANGES: &str =
     "labels and words go up to 65535, globals to 511, bytes to 255; a word may be as small as -32768";
 
 /// What is said of a fault.
-#[derive(Debug, Drop)]
+#[derive(Drop)]
 struct Said {
     /// What is wrong.
     sentence: String,

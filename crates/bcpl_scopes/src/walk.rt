@@ -15,7 +15,7 @@ use std::alloc::Global;
 const OUTSIDE: usize = usize::MAX;
 
 /// What cells of a frame are.
-#[derive(Clone, Copy, Debug, PartialEq, Eq)]
+#[derive(Clone, Copy)]
 pub enum Cells {
     Parameter,
     Variable,
@@ -26,7 +26,7 @@ pub enum Cells {
 }
 
 /// A name of a frame.
-#[derive(Clone, Copy, Debug, PartialEq, Eq)]
+#[derive(Clone, Copy)]
 pub struct Row<'s> {
     /// The frame by its index.
     pub frame: usize,
@@ -39,7 +39,7 @@ pub struct Row<'s> {
 }
 
 /// A routine.
-#[derive(Clone, Copy, Debug, PartialEq, Eq)]
+#[derive(Clone, Copy)]
 pub struct Frame<'s> {
     pub name: &'s [u8],
     /// Its label.
@@ -50,14 +50,14 @@ pub struct Frame<'s> {
 }
 
 /// A static, a table or a string.
-#[derive(Clone, Copy, Debug, PartialEq, Eq)]
+#[derive(Clone, Copy)]
 pub struct Datum {
     pub label: u64,
     pub leaf: usize,
 }
 
 /// A global that is declared.
-#[derive(Clone, Copy, Debug, PartialEq, Eq)]
+#[derive(Clone, Copy)]
 pub struct Known<'s> {
     pub name: &'s [u8],
     pub number: u16,
@@ -230,7 +230,7 @@ impl<'p, 's> Walk<'p, 's> {
 
     #[cycle(scoping)]
     fn constants(&mut self, storage: Storage, list: &[Constant<'s>]) -> Result<(), Memory> {
-        declare_pending(&mut self.scope, list)?;
+        declare_pending(&mut self.scope, storage, list)?;
         for tree in list {
             declare_entry(&mut self.scope, storage, self.at, tree)?;
             self.constant(storage, tree.name)?;

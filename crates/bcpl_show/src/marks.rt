@@ -7,7 +7,7 @@ use bc_word::Memory;
 use std::alloc::Global;
 
 /// Whose an item is.
-#[derive(Clone, Copy, Debug, PartialEq, Eq)]
+#[derive(Clone, Copy, PartialEq, Eq)]
 pub enum Owner {
     /// The root of the entry with this index.
     Root(usize),
@@ -18,7 +18,7 @@ pub enum Owner {
 }
 
 /// Items of a command's own: how many, what they do, and at which leaf.
-#[derive(Clone, Copy, Debug, PartialEq, Eq)]
+#[derive(Clone, Copy)]
 pub struct Own {
     pub leaf: usize,
     pub count: usize,

@@ -8,7 +8,7 @@ use bc_word::Memory;
 use std::alloc::Global;
 
 /// What is generated at once.
-#[derive(Clone, Copy, Debug, PartialEq, Eq)]
+#[derive(Clone, Copy)]
 pub struct Step {
     /// The leaf at which it stands.
     pub leaf: usize,
@@ -16,7 +16,7 @@ pub struct Step {
 }
 
 /// A root, or items of a command's own.
-#[derive(Clone, Copy, Debug, PartialEq, Eq)]
+#[derive(Clone, Copy)]
 pub enum Work {
     Root,
     /// So many items, and what they are for.
@@ -24,7 +24,7 @@ pub enum Work {
 }
 
 /// What items of a command's own are for.
-#[derive(Clone, Copy, Debug, PartialEq, Eq)]
+#[derive(Clone, Copy)]
 pub enum Purpose {
     /// The label of a routine.
     Routine,

@@ -18,7 +18,7 @@ const LIBRARY: [&[u8]; 10] = [
 ];
 
 /// The names of a section that mean routines without a value.
-#[derive(Debug, Drop)]
+#[derive(Drop)]
 pub struct Routines<'s> {
     /// Those that BE defines.
     commands: Vec<&'s [u8]>,

@@ -4,7 +4,7 @@ use bc_lex_tokens::{Symbol, Token};
 use bcpl_places::line_at;
 
 /// How a line looks otherwise than it is read.
-#[derive(Clone, Copy, Debug, PartialEq, Eq)]
+#[derive(Clone, Copy)]
 pub enum Looks {
     /// It looks like a command of its own, and goes on with the line before.
     Apart,

@@ -3,7 +3,7 @@ use crate::tokens::{is_at, name_at};
 use bc_lex_tokens::{Symbol, Token};
 
 /// What a routine is likely meant to be, at which a run should begin.
-#[derive(Clone, Copy, Debug)]
+#[derive(Clone, Copy)]
 pub enum Likeness {
     /// It has START's name, which means no global here.
     Undeclared,

@@ -15,11 +15,8 @@ use std::alloc::Global;
 /// The most warnings that are told.
 const MOST: usize = 10;
 
-/// How many sources in front are the library's own: LIBHDR and BLIB.
-const LIBRARY_SOURCES: usize = 2;
-
 /// What is said of a token.
-#[derive(Debug, Drop)]
+#[derive(Drop)]
 struct Said {
     /// The index of the token.
     at: usize,
@@ -132,6 +129,7 @@ fn lines_of(
 fn lines_of_main(
     alloc: Global,
     named: Named<'_, '_>,
+    library: usize,
     main: usize,
     told: &mut Vec<Span>,
 ) -> Result<String, Memory> {
@@ -148,7 +146,7 @@ fn lines_of_main(
         if let Some(said) = said_at(alloc, named.sources, tokens, &routines, index)? {
             if let Some(token) = tokens.get(said.at) {
                 let span = span_of(token);
-                if token.file >= LIBRARY_SOURCES && !told.contains(&span) {
+                if token.file >= library && !told.contains(&span) {
                     told.push(span)?;
                     if told.len() <= MOST {
                         let more = lines_of(alloc, named, main, span, &said)?;
@@ -161,14 +159,19 @@ fn lines_of_main(
     Ok(lines)
 }
 
-/// The lines of warnings on the mains of a program that was accepted, ten at the most, and their number where there are more. The sources
-/// of the library come first, and nothing is said of them. Memory is answered where a growth was refused.
-pub fn warnings(alloc: Global, named: Named<'_, '_>, mains: &[usize]) -> Result<String, Memory> {
+/// The lines of warnings on the mains of a program that was accepted, ten at the most, and their number where there are more. The first
+/// `library` sources are the library's, and nothing is said of them. Memory is answered where a growth was refused.
+pub fn warnings(
+    alloc: Global,
+    named: Named<'_, '_>,
+    library: usize,
+    mains: &[usize],
+) -> Result<String, Memory> {
     let mut lines = String::new(alloc);
     let mut told = Vec::new(alloc);
     for main in mains {
-        if *main >= LIBRARY_SOURCES {
-            let more = lines_of_main(alloc, named, *main, &mut told)?;
+        if *main >= library {
+            let more = lines_of_main(alloc, named, library, *main, &mut told)?;
             lines.push_str(more.as_str())?;
         }
     }
@@ -222,15 +225,16 @@ fn starts_of_main(alloc: Global, named: Named<'_, '_>, main: usize) -> Result<St
 }
 
 /// The lines of warnings on the routines of an accepted program that are likely meant to be START, for a program in which no routine sets
-/// it. The sources of the library come first, and nothing is said of them. Memory is answered where a growth was refused.
+/// it. The first `library` sources are the library's, and nothing is said of them. Memory is answered where a growth was refused.
 pub fn likely_starts(
     alloc: Global,
     named: Named<'_, '_>,
+    library: usize,
     mains: &[usize],
 ) -> Result<String, Memory> {
     let mut lines = String::new(alloc);
     for main in mains {
-        if *main >= LIBRARY_SOURCES {
+        if *main >= library {
             let more = starts_of_main(alloc, named, *main)?;
             lines.push_str(more.as_str())?;
         }

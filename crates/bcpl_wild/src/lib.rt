@@ -9,4 +9,4 @@ mod placed;
 pub use bc_interpret_quiet::Cause;
 pub use bc_interpret_trace::Standing;
 pub use bcpl_messages::Message;
-pub use message::{Met, Program, wild_message};
+pub use message::{Met, Program, placed_message, wild_message};

@@ -88,13 +88,19 @@ fn sentence(alloc: Global, program: &Program<'_, '_>, met: &Met<'_>) -> Result<S
                 "{whose} is written here, and there is no cell of the program there now"
             )?
         }
+        Cause::NotRoutine(_) if met.standings.is_empty() => {
+            String::from_str(
+                alloc,
+                "no routine sets global 1, so the run has nothing to call",
+            )?
+        }
         Cause::NotRoutine(value) => {
             format!(in alloc; "the value {value} is called here, and no routine has that address")?
         }
         Cause::FrameTooLarge(_) => {
-            let calls = met.calls;
+            let calls = ordinal(alloc, met.calls)?;
             format!(in alloc;
-                "this call, the {calls}th within one another, would need cells behind the last one of the store"
+                "this call, the {calls} within one another, would need cells behind the last one of the store"
             )?
         }
         Cause::Malformed => String::from_str(alloc, "the program has a part that no source gives")?,
@@ -114,20 +120,37 @@ fn whose(
     }
 }
 
+/// A number as it counts: 1st, 2nd, 3rd, 4th.
+fn ordinal(alloc: Global, number: usize) -> Result<String, Memory> {
+    let ending = match (number / 10 % 10, number % 10) {
+        (1, _) => "th",
+        (_, 1) => "st",
+        (_, 2) => "nd",
+        (_, 3) => "rd",
+        _ => "th",
+    };
+    Ok(format!(in alloc; "{number}{ending}")?)
+}
+
 /// What one may have meant.
-fn help(cause: Cause) -> Option<&'static str> {
-    match cause {
+fn help(met: &Met<'_>) -> Option<&'static str> {
+    match met.cause {
         Cause::Unset(_) => Some(
             "neither a variable nor a cell of a vector has a value before it is assigned one",
         ),
         Cause::Dead(_) | Cause::NoCell(_) => Some(
             "VEC n has the cells 0 to n, and they and all variables are gone once their block or routine is left",
         ),
-        Cause::NotRoutine(_) => Some(
+        Cause::NotRoutine(0) if met.standings.is_empty() => Some(
+            "a run begins with START: GET \"LIBHDR\", and declare it in capitals",
+        ),
+        Cause::NotRoutine(0) => Some(
             "a global that no routine sets is 0; is a file of the program missing?",
         ),
-        Cause::FrameTooLarge(_) => Some("does the recursion end?"),
-        Cause::Malformed => None,
+        Cause::FrameTooLarge(_) => Some(
+            "all calls within one another share the store with their vectors: does the recursion end?",
+        ),
+        Cause::NotRoutine(_) | Cause::Malformed => None,
     }
 }
 
@@ -139,12 +162,30 @@ pub fn wild_message(
     program: &Program<'_, '_>,
     met: &Met<'_>,
 ) -> Result<Message, Memory> {
-    let mut sentence = sentence(alloc, program, met)?;
+    let sentence = sentence(alloc, program, met)?;
+    // a call that has no room has not begun: what stands at its place is the call before it
+    let standings = match met.cause {
+        Cause::FrameTooLarge(_) => met.standings.get(1..).unwrap_or(&[]),
+        _ => met.standings,
+    };
+    placed_message(alloc, program, standings, sentence)?.helped(alloc, help(met))
+}
+
+/// This sentence, with the place where a run stands and the calls that led there, the newest one first.
+///
+/// `Memory` comes where an allocation was refused.
+pub fn placed_message(
+    alloc: Global,
+    program: &Program<'_, '_>,
+    standings: &[Standing],
+    sentence: String,
+) -> Result<Message, Memory> {
+    let mut sentence = sentence;
     let mut main = 0usize;
     let mut span = None;
     let mut calls = Vec::new(alloc);
     let mut called: Option<String> = None;
-    for standing in met.standings {
+    for standing in standings {
         match place_of(alloc, program, standing)? {
             None => called = Some(String::from_str(alloc, "a routine of the library")?),
             Some(found) => {
@@ -168,5 +209,5 @@ pub fn wild_message(
         let told = format!(in alloc; "{name} was called here")?;
         message = message.noted(alloc, *place, told.as_str())?;
     }
-    message.helped(alloc, help(met.cause))
+    Ok(message)
 }

@@ -12,7 +12,7 @@ use bcpl_places::Span;
 use std::alloc::Global;
 
 /// What stands at a label: the number of its segment behind that of the primitives, and the label.
-#[derive(Clone, Copy, Debug, PartialEq, Eq)]
+#[derive(Clone, Copy)]
 pub struct LabelOf {
     pub segment: usize,
     pub label: u64,

@@ -9,16 +9,30 @@ use clap::{Arg, ArgAction, ArgMatches, Command, Error, value_parser};
 use std::alloc::{AllocError, Global};
 
 /// A stream's name and the path of its file.
-#[derive(Clone, Copy, Debug)]
+#[derive(Clone, Copy)]
 pub struct Binding<'a> {
     pub name: &'a str,
     pub path: &'a str,
 }
 
+/// What is noted of a run.
+#[derive(Clone, Copy)]
+pub struct WatchOrder<'a> {
+    /// The file that the trace goes to, if it is wanted.
+    pub trace: Option<&'a str>,
+    /// The first instruction of the trace, counted from 1 on.
+    pub from: u64,
+    /// How many instructions are traced.
+    pub count: u64,
+    /// The file that the profile goes to, if it is wanted.
+    pub profile: Option<&'a str>,
+}
+
 /// What `run` is to do.
-#[derive(Debug, Drop)]
+#[derive(Drop)]
 pub struct RunOrder<'a> {
     pub steps: u64,
+    pub watch: WatchOrder<'a>,
     pub inputs: Vec<Binding<'a>>,
     pub outputs: Vec<Binding<'a>>,
     pub texts: Vec<&'a str>,
@@ -26,14 +40,14 @@ pub struct RunOrder<'a> {
 }
 
 /// What `asm` is to do.
-#[derive(Debug, Drop)]
+#[derive(Drop)]
 pub struct AssembleOrder<'a> {
     pub texts: Vec<&'a str>,
     pub places: Places,
 }
 
 /// When the place of a refusal is told behind its first line.
-#[derive(Clone, Copy, Debug, PartialEq, Eq)]
+#[derive(Clone, Copy)]
 pub enum Places {
     /// Always.
     Always,
@@ -44,7 +58,7 @@ pub enum Places {
 }
 
 /// Which library stands in front of a program's files.
-#[derive(Clone, Copy, Debug, PartialEq, Eq)]
+#[derive(Clone, Copy)]
 pub enum Library {
     /// LIBHDR and BLIB.
     Basic,
@@ -53,7 +67,7 @@ pub enum Library {
 }
 
 /// The sources of a program.
-#[derive(Debug, Drop)]
+#[derive(Drop)]
 pub struct Sources<'a> {
     pub library: Library,
     /// The files that sources get by name.
@@ -63,7 +77,7 @@ pub struct Sources<'a> {
 }
 
 /// What `build` is to do.
-#[derive(Debug, Drop)]
+#[derive(Drop)]
 pub struct BuildOrder<'a> {
     /// The file that the segments' text goes to.
     pub out: &'a str,
@@ -76,7 +90,7 @@ pub struct BuildOrder<'a> {
 }
 
 /// What `interpret` is to do.
-#[derive(Debug, Drop)]
+#[derive(Drop)]
 pub struct InterpretOrder<'a> {
     /// The most turns of the run.
     pub turns: u64,
@@ -87,7 +101,7 @@ pub struct InterpretOrder<'a> {
 }
 
 /// What `show` lists.
-#[derive(Clone, Copy, Debug, PartialEq, Eq)]
+#[derive(Clone, Copy)]
 pub enum Listing {
     Tokens,
     Tree,
@@ -96,7 +110,7 @@ pub enum Listing {
 }
 
 /// What `show` is to do.
-#[derive(Debug, Drop)]
+#[derive(Drop)]
 pub struct ShowOrder<'a> {
     pub listing: Listing,
     /// The files that sources get by name.
@@ -106,8 +120,26 @@ pub struct ShowOrder<'a> {
     pub places: Places,
 }
 
+/// What `list` is to do.
+#[derive(Drop)]
+pub struct ListOrder<'a> {
+    /// The file of the texts' certificate, if it is given.
+    pub certificate: Option<&'a str>,
+    pub texts: Vec<&'a str>,
+    pub places: Places,
+}
+
+/// What `explain` is to do.
+#[derive(Drop)]
+pub struct ExplainOrder<'a> {
+    /// The file that the report goes to; standard output, where there is none.
+    pub out: Option<&'a str>,
+    pub sources: Sources<'a>,
+    pub places: Places,
+}
+
 /// What `check` is to do.
-#[derive(Debug, Drop)]
+#[derive(Drop)]
 pub struct CheckOrder<'a> {
     pub certificate: &'a str,
     /// The texts that the certificate is to be about.
@@ -116,7 +148,7 @@ pub struct CheckOrder<'a> {
 }
 
 /// What the words ask for.
-#[derive(Debug, Drop)]
+#[derive(Drop)]
 pub enum Order<'a> {
     /// To run the text on standard input: there were no words.
     RunInput,
@@ -124,6 +156,10 @@ pub enum Order<'a> {
     Build(BuildOrder<'a>),
     /// To list what the compiler sees in a source.
     Show(ShowOrder<'a>),
+    /// To report why the code of sources is of least size.
+    Explain(ExplainOrder<'a>),
+    /// To list the image of texts.
+    List(ListOrder<'a>),
     /// To print the words that texts become.
     Assemble(AssembleOrder<'a>),
     /// To run texts.
@@ -137,7 +173,7 @@ pub enum Order<'a> {
 }
 
 /// Why the words ask for nothing.
-#[derive(Debug, Drop)]
+#[derive(Drop)]
 pub enum BadWords<'a> {
     /// What the reader of the words says, which may be help that was asked for.
     Said(Error),
@@ -272,6 +308,59 @@ fn show_command<'a>(alloc: Global) -> Result<Command<'a>, AllocError> {
         )
 }
 
+fn explain_command<'a>(alloc: Global) -> Result<Command<'a>, AllocError> {
+    Command::new(alloc, "explain")
+        .about("Reports, as a page of HTML, why no code of a source's expressions is shorter")
+        .after_help(
+            "Beside each line of each FILE stands its code. An expression, a test or an assignment opens: its tree, with the\n\
+             least words of each node as a value, as a second operand, to jump on false and on true; the rules that its code\n\
+             was made by; and all rules that apply, with the words that each would lead to. Behind that come the words by\n\
+             routine, the rules, and what is proved and was checked. The page needs nothing else.\n\n\
+             Example:\n  bcpl explain --out hello.html hello.bcpl",
+        )
+        .arg(
+            Arg::new(alloc, "out")
+                .short('o')
+                .long("out")
+                .value_name("REPORT")
+                .help("The file that the page goes to; without it, standard output"),
+        )?
+        .arg(stream_option(
+            alloc,
+            "get",
+            "A file that sources get by GET \"NAME\"; LIBHDR is the library's own always",
+        ))?
+        .arg(library_option(alloc))?
+        .arg(places_option(alloc))?
+        .arg(
+            Arg::new(alloc, "FILE")
+                .value_name("FILE")
+                .action(ArgAction::Append)
+                .num_args(1..)
+                .required(true)
+                .help("The sources, a section each"),
+        )
+}
+
+fn list_command<'a>(alloc: Global) -> Result<Command<'a>, AllocError> {
+    Command::new(alloc, "list")
+        .about("Links INTCODE texts behind the primitives and lists the image, word by word")
+        .after_help(
+            "Each word from the boot on has a line: its address, the word, and the item that it is of. A label has a line of its\n\
+             own, with the global that it is of and what jumps to it; strings and tables are told. With --cert each expression,\n\
+             test and assignment that the certificate lists is marked where it begins.\n\n\
+             Example:\n  bcpl list --cert hello.cert hello.int",
+        )
+        .arg(
+            Arg::new(alloc, "cert")
+                .long("cert")
+                .value_name("CERT")
+                .help("The certificate of the texts, which is checked first"),
+        )?
+        .arg(places_option(alloc))?
+        .arg(texts(alloc, "The INTCODE texts, linked in their order"))
+}
+
 fn assemble_command<'a>(alloc: Global) -> Result<Command<'a>, AllocError> {
     Command::new(alloc, "asm")
         .about("Links INTCODE texts behind the primitives and prints the words of the store")
@@ -282,13 +371,57 @@ fn assemble_command<'a>(alloc: Global) -> Result<Command<'a>, AllocError> {
         .arg(texts(alloc, "The INTCODE texts, linked in their order"))
 }
 
+/// How many instructions are traced, where the words don't say.
+const DEFAULT_COUNT: u64 = 1_000;
+
+/// The options that say what is noted of a run, behind those of a command.
+fn with_watch_options<'a>(alloc: Global, command: Command<'a>) -> Result<Command<'a>, AllocError> {
+    command
+        .arg(
+            Arg::new(alloc, "trace")
+                .long("trace")
+                .value_name("FILE")
+                .help(
+                    "A file that gets a line for each instruction: the registers behind it, and what it wrote",
+                ),
+        )?
+        .arg(
+            Arg::new(alloc, "from")
+                .long("from")
+                .value_name("N")
+                .requires_arg("trace")?
+                .value_parser(value_parser!(u64))
+                .help(
+                    "The first instruction that is traced, counted from 1 on; without it the first one",
+                ),
+        )?
+        .arg(
+            Arg::new(alloc, "count")
+                .long("count")
+                .value_name("M")
+                .requires_arg("trace")?
+                .value_parser(value_parser!(u64))
+                .help("How many instructions are traced; without it 1,000"),
+        )?
+        .arg(
+            Arg::new(alloc, "profile")
+                .long("profile")
+                .value_name("FILE")
+                .help(
+                    "A file that gets how often each instruction was carried out, and the ten hottest routines",
+                ),
+        )
+}
+
 fn run_command<'a>(alloc: Global) -> Result<Command<'a>, AllocError> {
-    Command::new(alloc, "run")
+    let command = Command::new(alloc, "run")
         .about("Links INTCODE texts behind the primitives and runs them")
         .after_help(
             "Input 1 is standard input, under the name SYSIN; output 1 is standard output, under the name SYSPRINT.\n\
              A run that ends otherwise than by finishing is told on standard error, with status 2.\n\n\
-             Example:\n  bcpl run --steps 1000000 --in DATA=data.txt hello.int",
+             With --trace or --profile the run is the same, and slower: what is noted goes to files, also where it doesn't finish.\n\n\
+             Examples:\n  bcpl run --steps 1000000 --in DATA=data.txt hello.int\n\
+             \x20 bcpl run --steps 1000000 --trace hello.trace --from 100 --count 20 --profile hello.profile hello.int",
         )
         .arg(
             Arg::new(alloc, "steps")
@@ -309,7 +442,8 @@ fn run_command<'a>(alloc: Global) -> Result<Command<'a>, AllocError> {
             "A further output: the file PATH, under the name NAME",
         ))?
         .arg(places_option(alloc))?
-        .arg(texts(alloc, "The INTCODE texts, linked in their order"))
+        .arg(texts(alloc, "The INTCODE texts, linked in their order"))?;
+    with_watch_options(alloc, command)
 }
 
 /// The most turns of a run by the meaning, where the words don't say.
@@ -400,6 +534,8 @@ fn program<'a>(alloc: Global) -> Result<Command<'a>, AllocError> {
         .subcommand_required(true)
         .subcommand(build_command(alloc)?)?
         .subcommand(show_command(alloc)?)?
+        .subcommand(explain_command(alloc)?)?
+        .subcommand(list_command(alloc)?)?
         .subcommand(assemble_command(alloc)?)?
         .subcommand(run_command(alloc)?)?
         .subcommand(interpret_command(alloc)?)?
@@ -479,6 +615,16 @@ fn interpret_order<'a>(
     })
 }
 
+/// What the words behind `run` say of what is noted.
+fn watch_order<'a>(matches: &ArgMatches<'a>) -> WatchOrder<'a> {
+    WatchOrder {
+        trace: matches.get_str("trace"),
+        from: matches.get_one::<u64>("from").unwrap_or(1),
+        count: matches.get_one::<u64>("count").unwrap_or(DEFAULT_COUNT),
+        profile: matches.get_str("profile"),
+    }
+}
+
 /// What the words behind `build` ask for.
 fn build_order<'a>(
     alloc: Global,
@@ -510,6 +656,27 @@ fn show_order<'a>(alloc: Global, matches: &ArgMatches<'a>) -> Result<ShowOrder<'
     })
 }
 
+/// What the words behind `explain` ask for.
+fn explain_order<'a>(
+    alloc: Global,
+    matches: &ArgMatches<'a>,
+) -> Result<ExplainOrder<'a>, BadWords<'a>> {
+    Ok(ExplainOrder {
+        out: matches.get_str("out"),
+        sources: sources_of(alloc, matches)?,
+        places: when_told(matches)?,
+    })
+}
+
+/// What the words behind `list` ask for.
+fn list_order<'a>(alloc: Global, matches: &ArgMatches<'a>) -> Result<ListOrder<'a>, BadWords<'a>> {
+    Ok(ListOrder {
+        certificate: matches.get_str("cert"),
+        texts: values(alloc, matches, "TEXT")?,
+        places: when_told(matches)?,
+    })
+}
+
 /// What these words, without the program's name, ask for.
 pub fn wanted<'a>(alloc: Global, words: &'a [&'a str]) -> Result<Order<'a>, BadWords<'a>> {
     if words.is_empty() {
@@ -526,6 +693,7 @@ pub fn wanted<'a>(alloc: Global, words: &'a [&'a str]) -> Result<Order<'a>, BadW
         })),
         Some(("run", matches)) => Ok(Order::Run(RunOrder {
             steps: matches.get_one::<u64>("steps").unwrap_or(0),
+            watch: watch_order(matches),
             inputs: bindings(alloc, matches, "in")?,
             outputs: bindings(alloc, matches, "to")?,
             texts: values(alloc, matches, "TEXT")?,
@@ -538,6 +706,8 @@ pub fn wanted<'a>(alloc: Global, words: &'a [&'a str]) -> Result<Order<'a>, BadW
             places: when_told(matches)?,
         })),
         Some(("convert", matches)) => Ok(Order::Convert(convert_order(matches))),
+        Some(("explain", matches)) => Ok(Order::Explain(explain_order(alloc, matches)?)),
+        Some(("list", matches)) => Ok(Order::List(list_order(alloc, matches)?)),
         Some(("show", matches)) => Ok(Order::Show(show_order(alloc, matches)?)),
         Some((_, matches)) => Ok(Order::Build(build_order(alloc, matches)?)),
         None => Ok(Order::RunInput),

@@ -4,7 +4,7 @@ use clap::{Arg, ArgAction, ArgMatches, Command};
 use std::alloc::{AllocError, Global};
 
 /// Where what a source becomes is to go.
-#[derive(Clone, Copy, Debug, PartialEq, Eq)]
+#[derive(Clone, Copy)]
 pub enum ConvertTo<'a> {
     /// To standard output.
     Standard,
@@ -15,7 +15,7 @@ pub enum ConvertTo<'a> {
 }
 
 /// What `convert` is to do.
-#[derive(Clone, Copy, Debug)]
+#[derive(Clone, Copy)]
 pub struct ConvertOrder<'a> {
     /// The file of the old source.
     pub file: &'a str,

@@ -6,7 +6,7 @@ mod converting;
 mod version;
 
 pub use arguments::{
-    AssembleOrder, BadWords, Binding, BuildOrder, CheckOrder, InterpretOrder, Library, Listing,
-    Order, Places, RunOrder, ShowOrder, Sources, wanted,
+    AssembleOrder, BadWords, Binding, BuildOrder, CheckOrder, ExplainOrder, InterpretOrder,
+    Library, ListOrder, Listing, Order, Places, RunOrder, ShowOrder, Sources, WatchOrder, wanted,
 };
 pub use converting::{ConvertOrder, ConvertTo};

@@ -9,7 +9,6 @@ use Rattle.bc_scope_faults.specs.Parts.{head_level, side_width}
 use Rattle.bc_scope_faults.specs.Seen.{allowed_view, met_view}
 use Rattle.bc_scope_faults.proofs.Frames.{frames_along, max_along}
 use Rattle.bc_scope_faults.proofs.Held.{exp_held, entry_held, declaration_held, definition_held, item_held, label_held}
-use Rattle.bc_scope_faults.proofs.Lets.{one_more_found}
 use Rattle.bc_scope_faults.proofs.Lists.{exps_on, constant_seen, entries_on, declarations_on, definitions_on, items_on, drop_one}
 use Rattle.bc_scope_faults.proofs.Scopes.{left_both}
 use Rattle.bc_scope_faults.proofs.Turns.{fault_whole, entry_fits, item_fault_on, item_found_on, item_width_on, side_fault_on, side_found_on, side_widths_on}
@@ -35,9 +34,6 @@ definitions-definition-requires t c = (omega (arith, definition_held c.args.list
 
 pub declarations-declaration-requires : goal.declarations-declaration-requires
 declarations-declaration-requires t c = (omega (arith, declaration_held c.args.list.now c.loop-tree.tree-index c.tree-item.result c.loop-tree-test.true c.tree-item.is, c.decreases), tt)
-
-pub vector_faults-vector_fault-requires : goal.vector_faults-vector_fault-requires
-vector_faults-vector_fault-requires t c = (omega (arith, definition_held c.args.list.now c.loop-tree.tree-index c.tree-item.result c.loop-tree-test.true c.tree-item.is, c.decreases), tt)
 
 pub labels-label-requires : goal.labels-label-requires
 labels-label-requires t c = (omega (arith, label_held c.args.list.now c.loop-tree.tree-index c.tree-item.result c.loop-tree-test.true c.tree-item.is, c.decreases), tt)
@@ -74,25 +70,16 @@ initials-loop-e-preserved t c =
 
 pub definitions-loop-tree-preserved : goal.definitions-loop-tree-preserved
 definitions-loop-tree-preserved t c =
-    let d = drop_one c.args.faults.now c.loop-tree.i in
     let n = definitions_on c.args.list.now c.loop-tree.tree-index c.tree-item.result c.loop-tree-test.true c.tree-item.is in
     let v = rw n at c.loop-tree.invariant in
-    let w = rw c.fault_at-fault.ensures at c.in_ok-own.ensures.answer in
-    let k = c.in_ok-own.ensures.kept in
-    let a = c.in_ok-i.ensures in (
-      rw (w.2, w.4, k, a, sym d) (rw w.0 at v.0),
+    let w = c.in_ok-definition.ensures.answer in
+    let k = c.in_ok-definition.ensures.kept in (
+      rw (w.2, w.4, k) (rw w.0 at v.0),
       rw (w.2, k, c.max-width.ensures, w.1) (max_along _ _ _ ∙ v.1),
       rw w.2 v.2,
       rw (w.2, k, w.3) (simp frames_along at v.3),
       k ∙ v.4,
     )
-
-pub vector_faults-loop-tree-preserved : goal.vector_faults-loop-tree-preserved
-vector_faults-loop-tree-preserved t c =
-    let n = definitions_on c.args.list.now c.loop-tree.tree-index c.tree-item.result c.loop-tree-test.true c.tree-item.is in
-    let v = rw n at c.loop-tree.invariant in
-    let w = c.in_ok-vector_fault.ensures in
-    (rw (c.in_ok-push.ensures.items, w.1, c.in_ok-behind_definition.ensures) (one_more_found c.loop-tree.faults.items c.in_ok-vector_fault.field-0 _ _ _ w.0 v.0), w.1 ∙ v.1)
 
 pub entries-loop-entry-preserved : goal.entries-loop-entry-preserved
 entries-loop-entry-preserved t c =

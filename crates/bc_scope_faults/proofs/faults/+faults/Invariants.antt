@@ -1,4 +1,3 @@
-use Rattle.std.specs.Prelude.{map}
 use Rattle.std.proofs.Common.{◌≡◌, ◌+◌, ◌*◌, ◌++◌, max, drop, []}
 use Rattle.bc_parse_tree.specs.Size.{block_size, command_size, declaration_size, declarations_size, definition_size, definitions_size, entries_size, exp_size, exps_size, item_size, items_size, label_size, labels_size}
 use Rattle.bc_parse_tree.specs.View.{block_view, command_view, declaration_view, declarations_view, definition_view, definitions_view, entries_view, exp_view, exps_view, item_view, items_view, label_view, labels_view}
@@ -7,9 +6,8 @@ use Rattle.bc_scope_defs.specs.Scoping.{in_entries, in_declarations, level_behin
 use Rattle.bc_scope_defs.specs.Found.{found_in_arguments, found_in_sides, found_in_initials, found_in_entries, found_in_definitions, found_in_declarations, found_in_items}
 use Rattle.bc_scope_defs.specs.FramesAlong.{widths, width_of_arguments, width_of_initials, width_of_definitions, width_of_declarations, width_of_items}
 use Rattle.bc_scope_defs.specs.Faults.{none_met, met_labels}
-use Rattle.bc_scope_defs.specs.FaultsAlong.{arguments_fault, constants_fault, sides_fault, initials_fault, entries_fault, declarations_fault, labels_fault, items_fault}
+use Rattle.bc_scope_defs.specs.FaultsAlong.{arguments_fault, constants_fault, sides_fault, initials_fault, entries_fault, definitions_fault, declarations_fault, labels_fault, items_fault}
 use Rattle.bc_scope_names.specs.View.{Extends, scope_view, numbers_view}
-use Rattle.bc_scope_faults.specs.Vectors.{fault_view, vector_faults, definitions_fault_by}
 use Rattle.bc_scope_faults.specs.Seen.{allowed_view, names_view, met_view, frames_fit}
 use Rattle.bc_scope_faults.proofs.faults.+faults.Given as goal
 
@@ -53,18 +51,6 @@ decreases-function l = 16 * exp_size (exp_view l.value.now) + 1
 
 abbrev pub decreases-routine : goal.decreases-routine
 decreases-routine l = 16 * block_size (block_view l.body.now) + 8
-
-abbrev pub decreases-found_fault : goal.decreases-found_fault
-decreases-found_fault l = 16 * exp_size (exp_view l.e.now) + 2
-
-abbrev pub decreases-vector_fault : goal.decreases-vector_fault
-decreases-vector_fault l = 16 * definition_size (definition_view l.tree.now)
-
-abbrev pub decreases-vector_faults : goal.decreases-vector_faults
-decreases-vector_faults l = 16 * definitions_size (definitions_view l.list.now) + 1
-
-abbrev pub decreases-pending_faults : goal.decreases-pending_faults
-decreases-pending_faults l = 16 * definitions_size (definitions_view l.list.now) + 2
 
 abbrev pub decreases-definitions : goal.decreases-definitions
 decreases-definitions l = 16 * definitions_size (definitions_view l.list.now) + 1
@@ -162,7 +148,7 @@ invariant-entries-loop-entry l =
 
 abbrev pub invariant-definitions-loop-tree : goal.invariant-definitions-loop-tree
 invariant-definitions-loop-tree l =
-    (definitions_fault_by l.inside (names_view l.before.keys) (drop l.i l.faults) (scope_view l.scope) (numbers_view l.progress.at) (definitions_view (drop l.tree-index l.list)) l.level ≡ definitions_fault_by l.inside [] l.faults (scope_view l.fn.scope) (numbers_view l.fn.progress.at) (definitions_view l.list) l.level)
+    (definitions_fault (names_view l.before.keys) (scope_view l.scope) (numbers_view l.progress.at) (definitions_view (drop l.tree-index l.list)) l.level ≡ definitions_fault [] (scope_view l.fn.scope) (numbers_view l.fn.progress.at) (definitions_view l.list) l.level)
     × (max l.width (width_of_definitions (scope_view l.scope) (numbers_view l.progress.at) (definitions_view (drop l.tree-index l.list)) l.level) ≡ width_of_definitions (scope_view l.fn.scope) (numbers_view l.fn.progress.at) (definitions_view l.list) l.level)
     × (behind_definitions (numbers_view l.progress.at) (definitions_view (drop l.tree-index l.list)) ≡ behind_definitions (numbers_view l.fn.progress.at) (definitions_view l.list))
     × (frames_fit l.progress.fits (found_in_definitions (scope_view l.scope) (scope_view l.scope) (numbers_view l.progress.at) (definitions_view (drop l.tree-index l.list)) l.level) ≡ frames_fit l.fn.progress.fits (found_in_definitions (scope_view l.fn.scope) (scope_view l.fn.scope) (numbers_view l.fn.progress.at) (definitions_view l.list) l.level))
@@ -170,7 +156,7 @@ invariant-definitions-loop-tree l =
 
 abbrev pub invariant-declarations-loop-tree : goal.invariant-declarations-loop-tree
 invariant-declarations-loop-tree l =
-    (declarations_fault l.inside (scope_view l.scope) (numbers_view l.progress.at) (declarations_view (drop l.tree-index l.list)) l.behind ≡ declarations_fault l.inside (scope_view l.fn.scope) (numbers_view l.fn.progress.at) (declarations_view l.list) l.level)
+    (declarations_fault (scope_view l.scope) (numbers_view l.progress.at) (declarations_view (drop l.tree-index l.list)) l.behind ≡ declarations_fault (scope_view l.fn.scope) (numbers_view l.fn.progress.at) (declarations_view l.list) l.level)
     × (in_declarations (scope_view l.scope) (numbers_view l.progress.at) l.behind (declarations_view (drop l.tree-index l.list)) ≡ in_declarations (scope_view l.fn.scope) (numbers_view l.fn.progress.at) l.level (declarations_view l.list))
     × (level_behind (scope_view l.scope) (numbers_view l.progress.at) l.behind (declarations_view (drop l.tree-index l.list)) ≡ level_behind (scope_view l.fn.scope) (numbers_view l.fn.progress.at) l.level (declarations_view l.list))
     × (max l.width (width_of_declarations (scope_view l.scope) (numbers_view l.progress.at) (declarations_view (drop l.tree-index l.list)) l.behind) ≡ width_of_declarations (scope_view l.fn.scope) (numbers_view l.fn.progress.at) (declarations_view l.list) l.level)
@@ -190,9 +176,4 @@ invariant-items-loop-tree l =
     × (max l.width (width_of_items (scope_view l.scope) 0 (numbers_view l.progress.at) (items_view (drop l.tree-index l.trees)) l.level) ≡ width_of_items (scope_view l.fn.scope) 0 (numbers_view l.fn.progress.at) (items_view l.trees) l.level)
     × (behind_items (numbers_view l.progress.at) (items_view (drop l.tree-index l.trees)) ≡ behind_items (numbers_view l.fn.progress.at) (items_view l.trees))
     × (frames_fit l.progress.fits (found_in_items (scope_view l.scope) 0 (numbers_view l.progress.at) (items_view (drop l.tree-index l.trees)) l.level) ≡ frames_fit l.fn.progress.fits (found_in_items (scope_view l.fn.scope) 0 (numbers_view l.fn.progress.at) (items_view l.trees) l.level))
-    × (l.scope ≡ l.fn.scope)
-
-abbrev pub invariant-vector_faults-loop-tree : goal.invariant-vector_faults-loop-tree
-invariant-vector_faults-loop-tree l =
-    (map fault_view l.faults.items ++ vector_faults (scope_view l.scope) (numbers_view l.progress.at) (definitions_view (drop l.tree-index l.list)) ≡ vector_faults (scope_view l.fn.scope) (numbers_view l.fn.progress.at) (definitions_view l.list))
     × (l.scope ≡ l.fn.scope)

@@ -11,9 +11,9 @@ loop-entry-preserved c =
     let i = c.loop-entry.entry-index in
     let rest = drop (i + 1) c.args.entries.now in
     let E = scope_view c.loop-entry.scope in (
-      ap (λ F. pending (entries_view rest) F) c.in_ok-declare_pending_entry.ensures.0
-          ∙ ap (λ x. pending (entries_view (x ∷ rest)) E) c.entry-item.is
-          ∙ sym (at_drop_more (λ l. pending (entries_view l) E) c.args.entries.now i c.entry-item.result c.loop-entry-test.true)
+      ap (λ F. pending c.args.storage (entries_view rest) F) c.in_ok-declare_pending_entry.ensures.0
+          ∙ ap (λ x. pending c.args.storage (entries_view (x ∷ rest)) E) c.entry-item.is
+          ∙ sym (at_drop_more (λ l. pending c.args.storage (entries_view l) E) c.args.entries.now i c.entry-item.result c.loop-entry-test.true)
           ∙ c.loop-entry.invariant.0,
       extends_on _ _ _ c.loop-entry.invariant.1 c.in_ok-declare_pending_entry.ensures.1,
     )

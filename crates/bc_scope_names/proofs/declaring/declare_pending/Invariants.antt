@@ -6,4 +6,4 @@ use Rattle.bc_scope_names.proofs.declaring.declare_pending.Given as goal
 
 abbrev pub invariant-loop-entry : goal.invariant-loop-entry
 invariant-loop-entry l =
-    (pending (entries_view (drop l.entry-index l.entries)) (scope_view l.scope) ≡ pending (entries_view l.entries) (scope_view l.fn.scope)) × Extends l.fn.scope l.scope
+    (pending l.storage (entries_view (drop l.entry-index l.entries)) (scope_view l.scope) ≡ pending l.storage (entries_view l.entries) (scope_view l.fn.scope)) × Extends l.fn.scope l.scope

@@ -47,9 +47,6 @@ decreases-definitions l = 16 * definitions_size (definitions_view l.list.now) + 
 abbrev pub decreases-definition : goal.decreases-definition
 decreases-definition l = 16 * definition_size (definition_view l.tree.now)
 
-abbrev pub decreases-vector : goal.decreases-vector
-decreases-vector l = 16 * exp_size (exp_view l.greatest.now) + 2
-
 abbrev pub decreases-function : goal.decreases-function
 decreases-function l = 16 * exp_size (exp_view l.value.now) + 1
 

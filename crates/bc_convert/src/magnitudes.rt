@@ -1,0 +1,116 @@
+use crate::complaint::Fault;
+use crate::notes::Notes;
+use crate::numbers::value_of_number;
+use crate::operands::{is_plain, is_too_long};
+use bc_convert_tokens::{Kind, Source};
+use bc_word::Memory;
+
+/// The index of the number or the character that ABS at an index stands in front of, a sign aside; `None` where it stands in front
+/// of something else.
+fn magnitude(source: Source<'_>, at: usize) -> Option<usize> {
+    let next = at.saturating_add(1);
+    let index = if source.kind(next) == Kind::Add {
+        next.saturating_add(1)
+    } else {
+        next
+    };
+    let is_positive = match source.kind(index) {
+        Kind::Number => value_of_number(source, index).is_ok_and(|value| value < 32_768),
+        Kind::Character => true,
+        _ => false,
+    };
+    if is_positive { Some(index) } else { None }
+}
+
+/// Writes down where ABS stands between two indices with no number behind it: there a constant is wanted.
+pub fn tell_absolutes(
+    source: Source<'_>,
+    notes: &mut Notes,
+    from: usize,
+    to: usize,
+) -> Result<(), Memory> {
+    for index in from..to {
+        if source.kind(index) == Kind::Abs && magnitude(source, index).is_none() {
+            notes.complain(source, index, Fault::ConstantAbs)?;
+        }
+    }
+    Ok(())
+}
+
+/// Whether the token in front of an index wants a constant behind it.
+fn wants_constant(source: Source<'_>, index: usize) -> bool {
+    index > 0 && matches!(source.kind(index - 1), Kind::Vec | Kind::Table)
+}
+
+/// Takes out ABS at an index, and the sign, if one stands in front of the number at another one.
+fn drop_absolute(
+    source: Source<'_>,
+    notes: &mut Notes,
+    at: usize,
+    number: usize,
+) -> Result<(), Memory> {
+    for index in at..number {
+        notes.replace(index, b"")?;
+        notes.take_gap(source, index.saturating_add(1));
+    }
+    Ok(())
+}
+
+/// Writes down that ABS stands at an index, and its operand behind it up to another one: the operand is worked out twice where
+/// it holds no call, and else kept in a variable of a VALOF. Of a number its sign goes.
+pub fn put_absolute(
+    source: Source<'_>,
+    notes: &mut Notes,
+    at: usize,
+    end: usize,
+) -> Result<(), Memory> {
+    let start = at.saturating_add(1);
+    match magnitude(source, at) {
+        Some(number) if number.saturating_add(1) == end => drop_absolute(source, notes, at, number),
+        _ if wants_constant(source, at) => notes.complain(source, at, Fault::ConstantAbs),
+        _ if is_plain(source, start, end) => put_twice(source, notes, at, end),
+        _ => put_kept(source, notes, at, end),
+    }
+}
+
+/// Keeps the operand of ABS in a variable of a VALOF.
+fn put_kept(source: Source<'_>, notes: &mut Notes, at: usize, end: usize) -> Result<(), Memory> {
+    let start = at.saturating_add(1);
+    let name = notes.fresh_name(source)?;
+    notes.replace(at, b"(VALOF $( LET ")?;
+    notes.put_behind(start, name.as_slice())?;
+    notes.put_behind(start, b" =")?;
+    notes.put_behind(end, b"; RESULTIS ")?;
+    put_choice(notes, end, name.as_slice())?;
+    notes.put_behind(end, b" ")?;
+    notes.put_behind(end, name.as_slice())?;
+    notes.put_behind(end, b" $))")
+}
+
+/// Has the operand of ABS worked out twice, where its text isn't too long.
+fn put_twice(source: Source<'_>, notes: &mut Notes, at: usize, end: usize) -> Result<(), Memory> {
+    let start = at.saturating_add(1);
+    let bare = notes.rendered(source, start, end)?;
+    if is_too_long(bare.as_slice()) {
+        return notes.complain(source, at, Fault::TooLongToRepeat);
+    }
+    if matches!(source.kind(start), Kind::Add | Kind::Not) {
+        notes.put_before(start, b"(")?;
+        notes.put_behind(end, b")")?;
+    }
+    let text = notes.rendered(source, start, end)?;
+    notes.replace(at, b"(")?;
+    put_choice(notes, start, text.as_slice())?;
+    if source.gap(start).is_empty() {
+        notes.put_behind(start, b" ")?;
+    }
+    notes.put_behind(end, b")")
+}
+
+/// Puts behind a token the test whether a value is negative, and the value that it has then without its sign.
+fn put_choice(notes: &mut Notes, end: usize, value: &[u8]) -> Result<(), Memory> {
+    notes.put_behind(end, value)?;
+    notes.put_behind(end, b"<0 -> -")?;
+    notes.put_behind(end, value)?;
+    notes.put_behind(end, b",")
+}

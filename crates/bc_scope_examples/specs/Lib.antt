@@ -1,0 +1,10 @@
+pub mod Written
+pub mod Counting
+pub mod Addresses
+pub mod Names
+pub mod Places
+pub mod Constants
+pub mod TextOrder
+pub mod Sizes
+pub mod Translations
+pub mod Runs

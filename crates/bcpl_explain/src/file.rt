@@ -1,0 +1,209 @@
+//! A file on the page: its lines with their code, its data, and its words by routine.
+
+use crate::html::Html;
+use crate::items::{add_data, add_items};
+use crate::placed::{Ground, Placed, Spot};
+use crate::root::add_root;
+use crate::runs::{Run, runs};
+use crate::totals::Totals;
+use bc_rules::code_of;
+use bc_text_items::Item;
+use bc_word::Memory;
+use bcpl_show::{
+    Marks, Outline, Owner, Program, Purpose, leaves_of, words_of_items, words_of_pieces,
+};
+use std::alloc::Global;
+
+/// A file that is reported on.
+#[derive(Drop)]
+pub struct File<'p, 's> {
+    program: Program<'p, 's>,
+    ground: Ground<'p, 's>,
+    marks: Marks,
+    /// The names of the places, by their labels from 1 on.
+    names: Vec<&'s [u8]>,
+    /// The runs in the order of the code, and by their lines.
+    runs: Vec<Run>,
+    placed: Placed,
+}
+
+impl<'p, 's> File<'p, 's> {
+    /// What is reported of a file of a program. Memory is answered where a growth was refused.
+    pub fn new(alloc: Global, program: Program<'p, 's>) -> Result<File<'p, 's>, Memory> {
+        let outline = Outline::new(alloc, program.section)?;
+        let marks = Marks::new(alloc, &outline, program.items.len(), program.entries)?;
+        let leaves = leaves_of(alloc, program.tokens)?;
+        let ground = Ground::new(alloc, program.files, program.main, leaves)?;
+        let names = ground.texts(alloc, outline.places.as_slice())?;
+        let runs = runs(alloc, &marks, program.entries)?;
+        let placed = Placed::of(alloc, runs.as_slice(), &marks, &ground)?;
+        Ok(File {
+            program,
+            ground,
+            marks,
+            names,
+            runs,
+            placed,
+        })
+    }
+
+    /// The items of a run.
+    fn items_of(&self, run: Run) -> &'p [Item] {
+        let all = self.program.items;
+        all.get(run.from..run.to).unwrap_or(&[])
+    }
+
+    /// The words of a root's code.
+    fn words_of(&self, alloc: Global, index: usize) -> Result<u64, Memory> {
+        match self.program.entries.get(index) {
+            Some(entry) => {
+                let pieces = code_of(
+                    alloc,
+                    &entry.root,
+                    &entry.derivation,
+                    entry.target,
+                    entry.first,
+                )?;
+                Ok(words_of_pieces(pieces.as_slice()))
+            }
+            None => Ok(0),
+        }
+    }
+
+    /// Adds items that don't open, and what they are.
+    fn add_plain(html: &mut Html, items: &[Item], what: &str) -> Result<(), Memory> {
+        html.mark("<div class=\"own\">")?;
+        add_items(html, items)?;
+        html.element("span", "", what)?;
+        html.mark("</div>\n")
+    }
+
+    /// Adds a root's items, and below them why it has these.
+    fn add_root(&self, html: &mut Html, index: usize, run: Run) -> Result<(), Memory> {
+        let items = self.items_of(run);
+        if !run.is_first {
+            return File::add_plain(html, items, "the same, behind a VALOF");
+        }
+        let Some(entry) = self.program.entries.get(index) else {
+            return Ok(());
+        };
+        let words = self.words_of(html.alloc(), index)?;
+        html.mark("<details class=\"root\"><summary>")?;
+        add_items(html, items)?;
+        html.mark("<span class=\"words\">")?;
+        html.words(words)?;
+        html.mark("</span></summary>\n")?;
+        add_root(html, entry, words, self.names.as_slice())?;
+        html.mark("</details>\n")
+    }
+
+    /// Adds a run's items.
+    fn add_run(&self, html: &mut Html, run: Run) -> Result<(), Memory> {
+        match run.owner {
+            Owner::Root(index) => self.add_root(html, index, run),
+            Owner::Command(index) => match self.marks.own.get(index) {
+                Some(own) => File::add_plain(html, self.items_of(run), own.what.words()),
+                None => Ok(()),
+            },
+            Owner::Section => add_data(html, self.items_of(run), self.names.as_slice()),
+        }
+    }
+
+    /// Begins a line of a source; its code follows.
+    fn begin_line(&self, html: &mut Html, spot: Spot) -> Result<(), Memory> {
+        html.mark("<div class=\"line\"><pre class=\"source\"><span class=\"number\">")?;
+        if let Some(path) = self.ground.path_elsewhere(spot) {
+            html.tell(path)?;
+            html.mark(":")?;
+        }
+        html.number(spot.line as u64)?;
+        html.mark("</span><span>")?;
+        html.say(self.ground.line(spot))?;
+        html.mark("</span></pre><div class=\"code\">\n")
+    }
+
+    /// Adds the lines of the file, each with its code.
+    fn add_lines(&self, html: &mut Html) -> Result<(), Memory> {
+        for (number, runs) in self.placed.at_lines.iter().enumerate() {
+            if number > 0 {
+                self.begin_line(html, self.ground.spot_at(number))?;
+                for run in runs {
+                    self.add_run(html, *run)?;
+                }
+                html.mark("</div></div>\n")?;
+            }
+        }
+        Ok(())
+    }
+
+    /// Adds the lines of other files that have code, in the order of the code.
+    fn add_others(&self, html: &mut Html) -> Result<(), Memory> {
+        if self.placed.others.is_empty() {
+            return Ok(());
+        }
+        html.mark("<h3>What it gets from other files</h3>\n")?;
+        for other in &self.placed.others {
+            self.begin_line(html, other.spot)?;
+            self.add_run(html, other.run)?;
+            html.mark("</div></div>\n")?;
+        }
+        Ok(())
+    }
+
+    /// Adds the data, and the globals that are set.
+    fn add_own_data(&self, html: &mut Html) -> Result<(), Memory> {
+        if self.placed.data.is_empty() {
+            return Ok(());
+        }
+        html.mark("<h3>Data, and globals that are set</h3>\n")?;
+        for run in &self.placed.data {
+            self.add_run(html, *run)?;
+        }
+        Ok(())
+    }
+
+    /// Adds the file's report, with this number among the files. Memory is answered where a growth was refused.
+    pub fn add(&self, html: &mut Html, number: usize) -> Result<(), Memory> {
+        html.mark("<h2 id=\"file")?;
+        html.number(number as u64)?;
+        html.mark("\">")?;
+        html.tell(self.program.files.path(self.program.main))?;
+        html.mark("</h2>\n")?;
+        self.add_lines(html)?;
+        self.add_others(html)?;
+        self.add_own_data(html)
+    }
+
+    /// Takes a run into the totals.
+    fn count_run(&self, alloc: Global, run: Run, totals: &mut Totals<'s>) -> Result<(), Memory> {
+        match run.owner {
+            Owner::Root(index) => {
+                if run.is_first {
+                    totals.add_root(self.words_of(alloc, index)?);
+                }
+            }
+            Owner::Command(index) => {
+                if let Some(own) = self.marks.own.get(index) {
+                    if own.what == Purpose::Routine {
+                        totals.begin(self.ground.leaf(own.leaf))?;
+                    }
+                }
+                totals.add_own(words_of_items(alloc, self.items_of(run))?);
+            }
+            Owner::Section => totals.add_data(words_of_items(alloc, self.items_of(run))?),
+        }
+        Ok(())
+    }
+
+    /// The words of the file by routine, and how often each rule is used. Memory is answered where a growth was refused.
+    pub fn totals(&self, alloc: Global) -> Result<Totals<'s>, Memory> {
+        let mut totals = Totals::new(alloc);
+        for run in &self.runs {
+            self.count_run(alloc, *run, &mut totals)?;
+        }
+        for entry in self.program.entries {
+            totals.note_all(&entry.derivation);
+        }
+        Ok(totals)
+    }
+}

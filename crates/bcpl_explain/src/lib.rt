@@ -1,0 +1,18 @@
+//! A report in HTML: for each line of a source its code, and for each root why no derivation has fewer words.
+#![tactic(auto)]
+
+mod chosen;
+mod file;
+mod html;
+mod items;
+mod node;
+mod parts;
+mod placed;
+mod report;
+mod root;
+mod rules;
+mod runs;
+mod style;
+mod totals;
+
+pub use report::{Checked, explanation};

@@ -1,0 +1,179 @@
+//! The runs of a segment by the lines of the sources.
+
+use crate::runs::Run;
+use bc_lex_tokens::Token;
+use bc_word::Memory;
+use bcpl_show::{Files, Lines, Marks, Owner};
+use std::alloc::Global;
+
+/// A line of a file, by its number from 1 on.
+#[derive(Clone, Copy, PartialEq, Eq)]
+pub struct Spot {
+    pub file: usize,
+    pub line: usize,
+}
+
+/// A run that stands at a line of another file than the section's own.
+#[derive(Clone, Copy)]
+pub struct Other {
+    pub spot: Spot,
+    pub run: Run,
+}
+
+/// The files of a program with their lines, and the leaves of a section.
+#[derive(Drop)]
+pub struct Ground<'p, 's> {
+    files: Files<'p, 's>,
+    /// The index of the section's file.
+    main: usize,
+    lines: Vec<Lines>,
+    leaves: Vec<Token<'s>>,
+}
+
+impl<'p, 's> Ground<'p, 's> {
+    pub fn new(
+        alloc: Global,
+        files: Files<'p, 's>,
+        main: usize,
+        leaves: Vec<Token<'s>>,
+    ) -> Result<Ground<'p, 's>, Memory> {
+        let mut lines = Vec::new(alloc);
+        for source in files.sources {
+            lines.push(Lines::new(alloc, source.text)?)?;
+        }
+        Ok(Ground {
+            files,
+            main,
+            lines,
+            leaves,
+        })
+    }
+
+    /// How many lines the section's file has.
+    pub fn count(&self) -> usize {
+        match self.lines.get(self.main) {
+            Some(lines) => lines.count(self.files.text(self.main)),
+            None => 0,
+        }
+    }
+
+    /// The line of the section's file with this number.
+    pub fn spot_at(&self, line: usize) -> Spot {
+        Spot {
+            file: self.main,
+            line,
+        }
+    }
+
+    /// The text of a line.
+    pub fn line(&self, spot: Spot) -> &'s [u8] {
+        match self.lines.get(spot.file) {
+            Some(lines) => lines.line(self.files.text(spot.file), spot.line),
+            None => b"",
+        }
+    }
+
+    /// The path of the file of a line, where that isn't the section's.
+    pub fn path_elsewhere(&self, spot: Spot) -> Option<&'p str> {
+        if spot.file == self.main {
+            None
+        } else {
+            Some(self.files.path(spot.file))
+        }
+    }
+
+    /// The text of a leaf; nothing where there is none.
+    pub fn leaf(&self, index: usize) -> &'s [u8] {
+        match self.leaves.get(index) {
+            Some(token) => token.text,
+            None => b"",
+        }
+    }
+
+    /// The texts of these leaves.
+    pub fn texts(&self, alloc: Global, leaves: &[usize]) -> Result<Vec<&'s [u8]>, Memory> {
+        let mut texts = Vec::new(alloc);
+        for leaf in leaves {
+            texts.push(self.leaf(*leaf))?;
+        }
+        Ok(texts)
+    }
+
+    /// The line at which a leaf stands.
+    fn spot_of(&self, leaf: usize) -> Option<Spot> {
+        let token = self.leaves.get(leaf)?;
+        let lines = self.lines.get(token.file)?;
+        Some(Spot {
+            file: token.file,
+            line: lines.number_at(token.start),
+        })
+    }
+}
+
+/// The leaf of an owner.
+fn leaf_of(marks: &Marks, owner: Owner) -> Option<usize> {
+    match owner {
+        Owner::Root(index) => marks.leaves.get(index).copied(),
+        Owner::Command(index) => match marks.own.get(index) {
+            Some(own) => Some(own.leaf),
+            None => None,
+        },
+        Owner::Section => None,
+    }
+}
+
+/// The runs of a segment: those of each line of the section's file, by its number; those of other files; and the section's own.
+#[derive(Drop)]
+pub struct Placed {
+    pub at_lines: Vec<Vec<Run>>,
+    pub others: Vec<Other>,
+    pub data: Vec<Run>,
+}
+
+impl Placed {
+    /// Nothing yet, of a file with so many lines.
+    fn new(alloc: Global, count: usize) -> Result<Placed, Memory> {
+        let mut at_lines = Vec::new(alloc);
+        for _ in 0..=count {
+            at_lines.push(Vec::new(alloc))?;
+        }
+        Ok(Placed {
+            at_lines,
+            others: Vec::new(alloc),
+            data: Vec::new(alloc),
+        })
+    }
+
+    /// Adds a run at a line, of the section's file or of another one.
+    fn add(&mut self, ground: &Ground<'_, '_>, spot: Spot, run: Run) -> Result<(), Memory> {
+        if spot.file == ground.main {
+            if let Some(runs) = self.at_lines.get_mut(spot.line) {
+                runs.push(run)?;
+                return Ok(());
+            }
+        }
+        self.others.push(Other { spot, run })?;
+        Ok(())
+    }
+
+    /// These runs by their lines. Memory is answered where a growth was refused.
+    pub fn of(
+        alloc: Global,
+        runs: &[Run],
+        marks: &Marks,
+        ground: &Ground<'_, '_>,
+    ) -> Result<Placed, Memory> {
+        let mut placed = Placed::new(alloc, ground.count())?;
+        for run in runs {
+            let spot = match leaf_of(marks, run.owner) {
+                Some(leaf) => ground.spot_of(leaf),
+                None => None,
+            };
+            match spot {
+                Some(spot) => placed.add(ground, spot, *run)?,
+                None => placed.data.push(*run)?,
+            }
+        }
+        Ok(placed)
+    }
+}

@@ -1,0 +1,120 @@
+use crate::file::File;
+use crate::html::Html;
+use crate::rules::add_table;
+use crate::style::STYLE;
+use bc_word::Memory;
+use bcpl_show::Program;
+use std::alloc::Global;
+
+/// What the checker said of the program's certificate: how many entries it has, and their words.
+#[derive(Clone, Copy, PartialEq, Eq)]
+pub struct Checked {
+    pub entries: u64,
+    pub words: u64,
+}
+
+/// What the page shows, and how to read it.
+const LEGEND: &str =
+    "<p>Beside each line of the source stands its code. An expression, a test or an assignment opens: it shows its tree, what each \
+    part of it takes at least, and all rules by which there could be code of it. Code that doesn't open is a command's own: a label, a jump, \
+    a return.</p>\n\
+    <details class=\"legend\"><summary>How to read this page</summary>\n<dl>\n\
+    <dt>Code</dt><dd>INTCODE, as it stands in the text of the segment; a bold number is a label.</dd>\n\
+    <dt>Node</dt><dd>A part of the tree, below what it is a part of. A number stands for itself. P2 is the address of the cell at offset 2 of the frame, \
+    G14 that of global 14, L3 that of place 3, with its name: a routine, a static, a table or a string. ! is the content of the cell at an \
+    address, NEG the negative; the other signs are those of the source.</dd>\n\
+    <dt>Level</dt><dd>The first offset of the frame above all that lives when the work on the node begins.</dd>\n\
+    <dt>Least words</dt><dd>So many words the node takes at least in each of four uses: as a value, as a second operand, which leaves in B what was \
+    in A, to jump where it is false, and to jump where it is true. A dash: there is no such code. The body of a VALOF counts no words \
+    here, since it has expressions, tests and assignments of its own.</dd>\n\
+    <dt>&#9670;</dt><dd>This use, and this rule, is that of the code here.</dd>\n\
+    <dt>Rules of this code</dt><dd>The rules that the code has at the node, the outermost first. No code of its own has a node that a rule \
+    above takes as its operand or its number, or drops as a 0.</dd>\n\
+    <dt>All rules that apply</dt><dd>Each rule with which code of the node can begin, for each use, with the least words of the code that begins with \
+    it. The words of a whole are those of its parts and a few more, so the least of the parts are all that counts. Since no other rule applies, \
+    and the marked one has the least words of its list, nothing is shorter.</dd>\n\
+    </dl>\n</details>\n";
+
+/// What is proved.
+const THEOREM: &str = "<h2 id=\"proved\">What is proved, and what was checked</h2>\n\
+    <p class=\"theorem\">For every accepted program, a run of its source that meets no wild cell in n turns has the same output and \
+    ending as its linked image's run; and each expression, test and assignment has in the image the code of a derivation from the \
+    rule table that no derivation beats in words, which the checker confirms from the printed certificate alone.</p>\n";
+
+/// What the numbers of the page are.
+const NUMBERS: &str =
+    "<p>The rules that apply are those of a call that is proved: for each node and each use it gives exactly the rules with \
+    which a derivation can begin, and the least words of the derivations that begin with them. How this page lays its answer out is tested, not \
+    proved.</p>\n";
+
+/// Adds what is proved, and what was checked.
+fn add_claims(html: &mut Html, checked: Checked) -> Result<(), Memory> {
+    html.mark(THEOREM)?;
+    html.mark(
+        "<p>The certificate of this program, with the library's part, was checked for this page. It has ",
+    )?;
+    html.number(checked.entries)?;
+    html.mark(" expressions, tests and assignments, of ")?;
+    html.words(checked.words)?;
+    html.mark(" in all, and none of them has a derivation of fewer words.</p>\n")?;
+    html.mark(NUMBERS)
+}
+
+/// Adds the head of the page, whose title begins with a path.
+fn begin(html: &mut Html, path: &str) -> Result<(), Memory> {
+    html.mark("<!DOCTYPE html>\n<html lang=\"en\">\n<head>\n<meta charset=\"utf-8\">\n")?;
+    html.mark("<meta name=\"viewport\" content=\"width=device-width, initial-scale=1\">\n<title>")?;
+    html.tell(path)?;
+    html.mark(": why its code has no fewer words</title>\n<style>")?;
+    html.mark(STYLE)?;
+    html.mark("</style>\n</head>\n<body>\n<h1>Why this code has no fewer words</h1>\n")
+}
+
+/// Adds what leads to the parts of the page.
+fn add_ways(html: &mut Html, programs: &[Program<'_, '_>]) -> Result<(), Memory> {
+    html.mark("<nav>")?;
+    for (number, program) in programs.iter().enumerate() {
+        html.mark("<a href=\"#file")?;
+        html.number(number as u64)?;
+        html.mark("\">")?;
+        html.tell(program.files.path(program.main))?;
+        html.mark("</a> ")?;
+    }
+    html.mark("<a href=\"#rules\">The rules</a> <a href=\"#proved\">What is proved</a></nav>\n")
+}
+
+/// The path of the first file.
+fn path_of<'a>(programs: &[Program<'a, '_>]) -> &'a str {
+    match programs.first() {
+        Some(program) => program.files.path(program.main),
+        None => "",
+    }
+}
+
+/// A report on these files of one program, whose certificate the checker accepted: each line of a source with its code, for each root its
+/// tree with the rules that apply, the words by routine and the rules by use, and what is proved and was checked. It needs nothing from
+/// elsewhere. Memory is answered where a growth was refused.
+pub fn explanation(
+    alloc: Global,
+    programs: &[Program<'_, '_>],
+    checked: Checked,
+) -> Result<Vec<u8>, Memory> {
+    let mut html = Html::new(alloc);
+    begin(&mut html, path_of(programs))?;
+    add_ways(&mut html, programs)?;
+    html.mark(LEGEND)?;
+    let mut used = [0u64; 34];
+    for (number, program) in programs.iter().enumerate() {
+        let file = File::new(alloc, *program)?;
+        file.add(&mut html, number)?;
+        let totals = file.totals(alloc)?;
+        totals.add_routines(&mut html)?;
+        for (all, own) in used.iter_mut().zip(totals.used.iter()) {
+            *all = all.saturating_add(*own);
+        }
+    }
+    add_table(&mut html, &used)?;
+    add_claims(&mut html, checked)?;
+    html.mark("</body>\n</html>\n")?;
+    Ok(html.into_text())
+}

@@ -1,0 +1,143 @@
+//! Why a root has the code that it has: its tree, with the rules of each node.
+
+use crate::chosen::{Chosen, chosen_rules, tops};
+use crate::html::Html;
+use crate::node::{Known, Row, add_row};
+use crate::parts::{At, parts};
+use crate::rules::{AIMS, add_name, aim_words};
+use bc_candidates::{Candidates, candidates};
+use bc_core::Root;
+use bc_rules_defs::{Entry, Rule};
+use bc_word::Memory;
+
+/// What is known of the nodes of a root, in their order: the rules that apply, those of the derivation, and the names of the places.
+#[derive(Clone, Copy)]
+struct Nodes<'k, 's> {
+    candidates: &'k [Candidates],
+    chosen: &'k [Chosen],
+    names: &'k [&'s [u8]],
+}
+
+/// Puts trees on a stack, so that the first one is on top.
+fn wait<'e>(waiting: &mut Vec<Row<'e>>, trees: &[At<'e>], depth: u64) -> Result<(), Memory> {
+    for at in trees.iter().rev() {
+        waiting.push(Row { at: *at, depth })?;
+    }
+    Ok(())
+}
+
+/// Adds a node's row, where something is known of it.
+fn add_known(html: &mut Html, row: Row<'_>, nodes: Nodes<'_, '_>) -> Result<(), Memory> {
+    let node = row.at.node();
+    match (nodes.candidates.get(node), nodes.chosen.get(node)) {
+        (Some(candidates), Some(chosen)) => add_row(
+            html,
+            row,
+            Known {
+                candidates,
+                chosen: *chosen,
+                names: nodes.names,
+            },
+        ),
+        _ => Ok(()),
+    }
+}
+
+/// Adds the rows of a root's nodes, wholes before parts.
+fn add_rows(html: &mut Html, root: &Root, nodes: Nodes<'_, '_>) -> Result<(), Memory> {
+    let alloc = html.alloc();
+    let mut waiting = Vec::new(alloc);
+    let tops = tops(alloc, root)?;
+    wait(&mut waiting, tops.as_slice(), 0)?;
+    for _ in 0..u64::MAX {
+        let Some(row) = waiting.pop() else {
+            break;
+        };
+        add_known(html, row, nodes)?;
+        let parts = parts(alloc, row.at)?;
+        wait(&mut waiting, parts.as_slice(), row.depth.saturating_add(1))?;
+    }
+    Ok(())
+}
+
+/// What a root is.
+fn kind_of(root: &Root) -> &'static str {
+    match root {
+        Root::Value { .. } => "An expression, as a value",
+        Root::Test { sense: false, .. } => "A test, to jump on false",
+        Root::Test { sense: true, .. } => "A test, to jump on true",
+        Root::Assign { .. } => "An assignment",
+    }
+}
+
+/// The words of storing A in the cell at this offset, or of loading it from there.
+fn cell_words(offset: u64) -> u64 {
+    if offset <= 511 { 1 } else { 2 }
+}
+
+/// Adds why an assignment at a level has its rule, with which its code has so many words.
+fn add_assignment(html: &mut Html, rule: Rule, level: u64, words: u64) -> Result<(), Memory> {
+    html.mark("<p><span class=\"chosen\">&#9670;&nbsp;")?;
+    add_name(html, rule)?;
+    html.mark("&nbsp;")?;
+    html.number(words)?;
+    html.mark("</span> ")?;
+    match rule {
+        Rule::A1 => html.mark(
+            "The address is an operand, so this rule alone applies: the value, and one instruction that stores it.",
+        )?,
+        Rule::A2 => {
+            let both = cell_words(level.saturating_add(1)).saturating_mul(2);
+            add_name(html, Rule::A3)?;
+            html.mark("&nbsp;")?;
+            html.number(words.saturating_add(both))?;
+            html.mark(
+                " Value and address may be worked out in either order, so that one of them waits in a cell. By A3, which applies too, both wait.",
+            )?;
+        }
+        _ => html.mark(
+            "The address is no operand, and the order of the work matters: so this rule alone applies, and both wait in cells.",
+        )?,
+    }
+    html.mark(" The trees are those of the value and of the address.</p>\n")
+}
+
+/// Adds the head of a tree's table.
+fn add_heads(html: &mut Html) -> Result<(), Memory> {
+    html.mark(
+        "<tr><th rowspan=\"2\">node</th><th rowspan=\"2\">level</th><th colspan=\"4\">least words</th>",
+    )?;
+    html.mark(
+        "<th rowspan=\"2\">rules of this code</th><th rowspan=\"2\">all rules that apply, and their words</th></tr>\n<tr>",
+    )?;
+    for aim in AIMS {
+        html.element("th", "", aim_words(aim))?;
+    }
+    html.mark("</tr>\n")
+}
+
+/// Adds why a root has the code that it has, in so many words: its tree, a node a row, with the least words of each for the four aims, the
+/// rules that its derivation has there, and all that apply. `names` has those of the places, by their labels from 1 on. Memory is answered
+/// where a growth was refused.
+pub fn add_root(html: &mut Html, entry: &Entry, words: u64, names: &[&[u8]]) -> Result<(), Memory> {
+    let alloc = html.alloc();
+    let of_nodes = candidates(alloc, &entry.root)?;
+    let chosen = chosen_rules(alloc, &entry.root, &entry.derivation)?;
+    html.mark("<p>")?;
+    html.tell(kind_of(&entry.root))?;
+    html.mark(", in ")?;
+    html.words(words)?;
+    html.mark(". No derivation has fewer.</p>\n")?;
+    if let Root::Assign { level, .. } = &entry.root {
+        add_assignment(html, entry.derivation.rule, u64::from(*level), words)?;
+    }
+    html.mark("<div class=\"wide\"><table class=\"tree\">\n")?;
+    add_heads(html)?;
+    let nodes = Nodes {
+        candidates: of_nodes.as_slice(),
+        chosen: chosen.as_slice(),
+        names,
+    };
+    add_rows(html, &entry.root, nodes)?;
+    html.mark("</table></div>\n")
+}

@@ -1,0 +1,210 @@
+//! The rule table in words.
+
+use crate::html::Html;
+use bc_rules_defs::{Aim, Mode, Rule};
+use bc_word::Memory;
+
+/// All rules, in the order of the table.
+pub const RULES: [Rule; 34] = [
+    Rule::V0,
+    Rule::V1,
+    Rule::V2,
+    Rule::V3,
+    Rule::V4,
+    Rule::V6,
+    Rule::V7,
+    Rule::V8,
+    Rule::V9,
+    Rule::V10,
+    Rule::V11,
+    Rule::V12,
+    Rule::V13,
+    Rule::V14,
+    Rule::V15,
+    Rule::V16,
+    Rule::V17,
+    Rule::V18,
+    Rule::V19,
+    Rule::V20,
+    Rule::V21,
+    Rule::V22,
+    Rule::J1,
+    Rule::J2,
+    Rule::J3,
+    Rule::J4,
+    Rule::J5,
+    Rule::J6,
+    Rule::J7,
+    Rule::J8,
+    Rule::J9,
+    Rule::A1,
+    Rule::A2,
+    Rule::A3,
+];
+
+/// The four aims, in the order of a certificate's numbers.
+pub const AIMS: [Aim; 4] = [
+    Aim::Gets(Mode::Any),
+    Aim::Gets(Mode::Push),
+    Aim::Jumps(false),
+    Aim::Jumps(true),
+];
+
+/// What an aim is called.
+pub fn aim_words(aim: Aim) -> &'static str {
+    match aim {
+        Aim::Gets(Mode::Any) => "as a value",
+        Aim::Gets(Mode::Push) => "as a second operand",
+        Aim::Jumps(false) => "to jump on false",
+        Aim::Jumps(true) => "to jump on true",
+    }
+}
+
+/// What a rule is for.
+fn aims_of(rule: Rule) -> &'static str {
+    match rule {
+        Rule::V1 => "a second operand",
+        Rule::V2 | Rule::V3 | Rule::V4 | Rule::V6 | Rule::V7 => "a value, a second operand",
+        Rule::V8 | Rule::V9 | Rule::V10 | Rule::V11 => "a value, a second operand",
+        Rule::J2 | Rule::J5 => "a jump on false",
+        Rule::J3 | Rule::J4 => "a jump on true",
+        Rule::J1 | Rule::J6 | Rule::J7 | Rule::J8 | Rule::J9 => "a jump",
+        Rule::A1 | Rule::A2 | Rule::A3 => "an assignment",
+        _ => "a value",
+    }
+}
+
+/// Where a rule applies.
+fn place_of(rule: Rule) -> &'static str {
+    match rule {
+        Rule::V0 => "any expression e",
+        Rule::V1 => "an operand o",
+        Rule::V2 => "!e",
+        Rule::V3 => "-e",
+        Rule::V4 | Rule::J1 => "NOT e",
+        Rule::V6 => "a + b, b an operand",
+        Rule::V7 => "a + b, a an operand; free",
+        Rule::V8 => "a + 0, a - 0, 0 + a",
+        Rule::V9 => "a - n, n a number",
+        Rule::V10 => "a - b, b an operand",
+        Rule::V11 => "a - b, a an operand; free",
+        Rule::V13 => "a op b, op has a mirror; free",
+        Rule::V14 => "a - b; free",
+        Rule::V15 => "a op b, op has a mirror",
+        Rule::V16 => "a op b; free",
+        Rule::V18 => "a + b",
+        Rule::V19 => "a - b",
+        Rule::V20 | Rule::V21 => "c -> x, y",
+        Rule::V22 => "a call, or a VALOF",
+        rule => place_of_test(rule),
+    }
+}
+
+/// Where a rule of tests or assignments applies, or one that asks for no more than an operator.
+fn place_of_test(rule: Rule) -> &'static str {
+    match rule {
+        Rule::J2 | Rule::J3 => "a & b",
+        Rule::J4 | Rule::J5 => "a | b",
+        Rule::J6 => "e with neither NOT nor & nor | on top",
+        Rule::J7 => "a number",
+        Rule::J8 => "c = 0, 0 = c",
+        Rule::J9 => "c NE 0, 0 NE c",
+        Rule::A1 => "the address an operand o",
+        Rule::A2 => "the address none, value and address free",
+        Rule::A3 => "the address none",
+        _ => "a op b",
+    }
+}
+
+/// The code that a rule makes of that of its parts.
+fn code_of(rule: Rule) -> &'static str {
+    match rule {
+        Rule::V0 => "Push(e)",
+        Rule::V1 => "L o",
+        Rule::V2 => "m(e) X1",
+        Rule::V3 => "m(e) X2",
+        Rule::V4 => "m(e) X3",
+        Rule::V6 => "m(a) A b",
+        Rule::V7 => "m(b) A a",
+        Rule::V8 => "m(a)",
+        Rule::V9 => "m(a) A -n",
+        Rule::V10 => "m(a) X2 A b X2",
+        Rule::V11 => "m(b) X2 A a",
+        Rule::V12 => "Any(a) Push(b) Xop",
+        Rule::V13 => "Any(b) Push(a) Xmirror",
+        Rule::V14 => "Any(b) Push(a) X9 X2",
+        Rule::V15 => "Any(a) SPs Any(b) LIPs Xmirror",
+        Rule::V16 => "Any(b) SPs Any(a) LIPs Xop",
+        Rule::V17 => "Any(a) SPs Any(b) SP(s+1) LIPs LIP(s+1) Xop",
+        Rule::V18 => "Any(a) SPs Any(b) AIPs",
+        Rule::V19 => "Any(a) SPs Any(b) X2 AIPs",
+        Rule::V20 => "False(c, 1) Any(x) J 2 1: Any(y) 2:",
+        Rule::V21 => "True(c, 1) Any(y) J 2 1: Any(x) 2:",
+        Rule::V22 => "Any(argument) SP(s+2+i) for each, Any(routine) Ks; or its body, 1:",
+        rule => code_of_test(rule),
+    }
+}
+
+/// That of a rule of tests or assignments.
+fn code_of_test(rule: Rule) -> &'static str {
+    match rule {
+        Rule::J1 => "on false True(e, t), on true False(e, t)",
+        Rule::J2 => "False(a, t) False(b, t)",
+        Rule::J3 => "False(a, 1) True(b, t) 1:",
+        Rule::J4 => "True(a, t) True(b, t)",
+        Rule::J5 => "True(a, 1) False(b, t) 1:",
+        Rule::J6 => "on false Any(e) F t, on true Any(e) T t",
+        Rule::J7 => "J t if its truth is this, else nothing",
+        Rule::J8 => "on false Any(c) T t, on true Any(c) F t",
+        Rule::J9 => "on false Any(c) F t, on true Any(c) T t",
+        Rule::A1 => "Any(value) S o",
+        Rule::A2 => "Any(address) SPs Any(value) SIPs",
+        Rule::A3 => "Any(value) SPs Any(address) SP(s+1) LIPs SIP(s+1)",
+        _ => "",
+    }
+}
+
+/// Adds a rule's name, which leads to its line of the table.
+pub fn add_name(html: &mut Html, rule: Rule) -> Result<(), Memory> {
+    let name = format!(in html.alloc(); "<a href=\"#{rule:?}\">{rule:?}</a>")?;
+    html.mark(name.as_str())
+}
+
+/// Adds a rule's line, with how often it is used.
+fn add_line(html: &mut Html, rule: Rule, count: u64) -> Result<(), Memory> {
+    let head = format!(in html.alloc(); "<tr id=\"{rule:?}\"><th>{rule:?}</th>")?;
+    html.mark(head.as_str())?;
+    html.element("td", "", aims_of(rule))?;
+    html.element("td", "", place_of(rule))?;
+    html.mark("<td>")?;
+    html.element("code", "", code_of(rule))?;
+    html.mark("</td><td>")?;
+    html.number(count)?;
+    html.mark("</td></tr>\n")
+}
+
+/// What the words of the table mean.
+const MEANINGS: &str =
+    "<p>s is the level, t the label to which a test jumps, and 1 and 2 are labels of the rule's own. \
+    Any(a) is the code of a as a value, Push(a) as a second operand, and m(a) as what the whole is for; False(a, t) and \
+    True(a, t) jump to t where a is false or true. An operand is what one instruction takes: a number, the address of a cell, also \
+    with a number added, or of a place, or the content of the cell at such an address. Free are two expressions that may be worked out in \
+    either order: in neither stands a call or a VALOF, or one of them is a number or such an address. A mirror does the same with its \
+    operands exchanged, as &lt; and &gt;.</p>\n";
+
+/// Adds the rule table, with how often each rule is used. Memory is answered where a growth was refused.
+pub fn add_table(html: &mut Html, used: &[u64; 34]) -> Result<(), Memory> {
+    html.mark("<h2 id=\"rules\">The rules</h2>\n")?;
+    html.mark(
+        "<p>Each expression, test and assignment has code by these rules and no others.</p>\n",
+    )?;
+    html.mark(
+        "<div class=\"wide\"><table class=\"rules\">\n<tr><th>rule</th><th>for</th><th>where</th>",
+    )?;
+    html.mark("<th>code</th><th>used here</th></tr>\n")?;
+    for (rule, count) in RULES.iter().zip(used.iter()) {
+        add_line(html, *rule, *count)?;
+    }
+    html.mark("</table></div>\n")?;
+    html.mark(MEANINGS)
+}

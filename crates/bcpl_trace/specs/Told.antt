@@ -1,0 +1,10 @@
+-- For proofs: how the code tells what an instruction changes, by the number of its function and its operand.
+use Rattle.std.specs.Prelude.{ℕ, ◌+◌, ◌%◌, ◌==◌, cond}
+use Rattle.bc_machine_defs.specs.declared.state.Registers.{Registers}
+use Rattle.bcpl_trace.specs.declared.change.Change.{Change}
+use Rattle.bcpl_trace.specs.declared.change.Change.TheVariants.{Nothing, Cell, Links, Byte}
+
+abbrev pub told : ℕ → ℕ → Registers → Change
+told function d r =
+    cond (function == 1) (Cell d) (cond (function == 6) (Links ((r.p + d) % 65536)) (
+    cond (function == 7) (cond (d == 27) (Byte (r.a % 256)) Nothing) Nothing))

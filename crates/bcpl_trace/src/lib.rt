@@ -1,0 +1,16 @@
+//! Runs that are watched: what each instruction did, and how often each was carried out.
+#![tactic(auto)]
+
+mod change;
+mod counts;
+mod names;
+mod nowhere;
+mod profiling;
+mod running;
+mod watch;
+
+pub use change::Change;
+pub use nowhere::Nowhere;
+pub use profiling::profile;
+pub use running::run_watched;
+pub use watch::{Watch, Window};

@@ -1,0 +1,142 @@
+//! How often instructions were carried out, as text.
+
+use crate::change::cell;
+use crate::counts::Counts;
+use crate::names::{begins_part, name_at};
+use crate::watch::Watch;
+use bc_machine::Machine;
+use bc_machine_image::Image;
+use bc_word::{Memory, Word};
+use bcpl_list::instruction;
+use std::alloc::Global;
+
+/// How many routines are told.
+const HOTTEST: usize = 10;
+
+/// The most that a thousand of them fit into 64 bits.
+const MOST: u64 = 10_000_000_000_000_000;
+
+/// A routine, or another part of an image: how many of its instructions were carried out, how often it was called, where it begins.
+#[derive(Clone, Copy, PartialEq, Eq, PartialOrd, Ord)]
+struct Routine {
+    times: u64,
+    calls: u64,
+    from: u16,
+}
+
+/// The count at an address.
+fn at(counts: &[u64], address: u16) -> u64 {
+    match counts.get(usize::from(address)) {
+        Some(count) => *count,
+        None => 0,
+    }
+}
+
+/// The routines of which instructions were carried out. One begins where something was called, and ends in front of the next one, or where
+/// another part of the image begins.
+fn routines(alloc: Global, counts: &Counts, image: &Image) -> Result<Vec<Routine>, Memory> {
+    let mut found = Vec::new(alloc);
+    let mut now = Routine {
+        times: 0,
+        calls: 0,
+        from: 0,
+    };
+    for address in 0..=u16::MAX {
+        let calls = at(counts.calls.as_slice(), address);
+        if calls > 0 || begins_part(image, address) {
+            if now.times > 0 {
+                found.push(now)?;
+            }
+            now = Routine {
+                times: 0,
+                calls,
+                from: address,
+            };
+        }
+        let times = at(counts.times.as_slice(), address);
+        now.times = now.times.saturating_add(times);
+    }
+    if now.times > 0 {
+        found.push(now)?;
+    }
+    found.sort_unstable();
+    Ok(found)
+}
+
+/// How many thousandths of a whole this is.
+fn share(times: u64, whole: u64) -> u64 {
+    if whole == 0 {
+        0
+    } else if whole <= MOST {
+        times.min(whole) * 1000 / whole
+    } else {
+        times / (whole / 1000)
+    }
+}
+
+/// Adds the routines of which most instructions were carried out.
+fn add_hottest(
+    alloc: Global,
+    text: &mut String,
+    watch: &Watch,
+    image: &Image,
+) -> Result<(), Memory> {
+    text.push_str("/      times   share      calls   from  routine\n")?;
+    let whole = watch.number();
+    let found = routines(alloc, watch.counts(), image)?;
+    for routine in found.iter().rev().take(HOTTEST) {
+        let times = routine.times;
+        let calls = routine.calls;
+        let from = routine.from;
+        let share = share(times, whole);
+        let percent = share / 10;
+        let tenths = share % 10;
+        let name = name_at(alloc, image, from)?;
+        writeln!(
+            text,
+            "{times:>12} {percent:>4}.{tenths}% {calls:>10} {from:>6}  {name}"
+        )?;
+    }
+    Ok(())
+}
+
+/// Adds how often each instruction was carried out.
+fn add_times(
+    alloc: Global,
+    text: &mut String,
+    watch: &Watch,
+    machine: &Machine,
+) -> Result<(), Memory> {
+    text.push_str("/ addr        times  instruction\n")?;
+    for address in 0..=u16::MAX {
+        let times = at(watch.counts().times.as_slice(), address);
+        if times > 0 {
+            let word = Word::new(cell(machine, address));
+            let following = Word::new(cell(machine, address.wrapping_add(1)));
+            let told = instruction(alloc, word, following)?;
+            writeln!(text, "{address:>6} {times:>12}  {told}")?;
+        }
+    }
+    Ok(())
+}
+
+/// The profile of a run that was watched, of a machine that began in this image and stands now as it does: how many instructions were
+/// carried out; the ten routines in which most were, with their share; and how often each was. Memory is answered where a growth was
+/// refused.
+pub fn profile(
+    alloc: Global,
+    watch: &Watch,
+    machine: &Machine,
+    image: &Image,
+) -> Result<String, Memory> {
+    let mut text = String::new(alloc);
+    let whole = watch.number();
+    writeln!(text, "/ {whole} instructions were carried out")?;
+    text.push_str("/\n/ the routines in which most were; one begins where something was called\n")?;
+    add_hottest(alloc, &mut text, watch, image)?;
+    text.push_str(
+        "/\n/ how often each was; the instructions are those that stand there at the end\n",
+    )?;
+    add_times(alloc, &mut text, watch, machine)?;
+    Ok(text)
+}

@@ -1,0 +1,48 @@
+//! The run of a machine, an instruction at a time.
+
+ghost use Rattle.std.specs.Prelude.{◌≡◌, None};
+ghost use Rattle.bc_machine.specs.Ran.{Ran, held_state, kept_end};
+
+use crate::watch::{Seen, Watch};
+use bc_machine::{Machine, Streams};
+use bc_machine_defs::End;
+use std::io::Write;
+
+/// The end that a run of one instruction met, or none where the machine is still running.
+fn met(end: &End) -> Option<End>
+    ensures { result ≡ kept_end end.now }
+{
+    match *end {
+        End::BudgetSpent => None,
+        other => Some(other),
+    }
+}
+
+/// At most `budget` instructions, and how they ended: the run that `Machine::run` gives. What the instructions do is noted, and the lines
+/// of the trace go to `out`; where one can't be written, the run goes on without.
+pub fn run_watched<S: Streams, W: Write>(
+    machine: &mut Machine,
+    streams: &mut S,
+    budget: u64,
+    watch: &mut Watch,
+    out: &mut W,
+) -> End
+    requires { machine.old.ended ≡ None }
+    ensures run { Ran (S.known streams.old) (S.known streams.new) budget
+        (held_state machine.old (S.content streams.old)) (held_state machine.new (S.content streams.new))
+        result (S.failures streams.old) (S.failures streams.new) }
+    ensures ended { machine.new.ended ≡ kept_end result }
+{
+    watch.begin(out);
+    let mut left = budget;
+    while left > 0 {
+        let seen = Seen::of(machine);
+        let end = machine.run(streams, 1);
+        watch.note(&seen, machine, &end, out);
+        if let Some(end) = met(&end) {
+            return end;
+        }
+        left -= 1;
+    }
+    End::BudgetSpent
+}
