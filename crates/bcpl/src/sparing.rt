@@ -34,7 +34,8 @@ pub fn spare_files<F: Files>(
             spare(rt, alloc, output.path, &[input.path])?;
         }
         for other in outputs.get(..number).unwrap_or(&[]) {
-            if would_lose(rt, output.path, other.path) {
+            // two streams of one name are refused as such
+            if output.name != other.name && would_lose(rt, output.path, other.path) {
                 return Err(Failure::file_since(
                     alloc,
                     output.path,

@@ -92,7 +92,12 @@ impl<W: Write + Drop> Written<W> {
         };
         match BufWriter::new(alloc, file) {
             Ok(out) => Ok(Written { out, beside }),
-            Err(error) => Err(Failure::io(alloc, &error, path)),
+            Err(error) => {
+                if let Some(beside) = &beside {
+                    let _ = fs::remove_file(rt, beside.as_str());
+                }
+                Err(Failure::io(alloc, &error, path))
+            }
         }
     }
 
