@@ -14,6 +14,22 @@ use bcpl_show::{
 };
 use std::alloc::Global;
 
+/// Where a line goes on below itself, it has at most so many free columns in front, and two.
+const MOST_FREE: u64 = 16;
+
+/// How many columns are free in front of a line's text, with a tab to each eighth.
+fn free_columns(text: &[u8]) -> u64 {
+    let mut columns: u64 = 0;
+    for byte in text {
+        match *byte {
+            b' ' => columns = columns.saturating_add(1),
+            b'\t' => columns = columns.saturating_add(8) & !7,
+            _ => break,
+        }
+    }
+    columns.min(MOST_FREE)
+}
+
 /// A file that is reported on.
 #[derive(Drop)]
 pub struct File<'p, 's> {
@@ -117,8 +133,11 @@ impl<'p, 's> File<'p, 's> {
             html.mark(":")?;
         }
         html.number(spot.line as u64)?;
-        html.mark("</span><span>")?;
-        html.say(self.ground.line(spot))?;
+        html.mark("</span><span style=\"--in:")?;
+        let text = self.ground.line(spot);
+        html.number(free_columns(text))?;
+        html.mark("\">")?;
+        html.say(text)?;
         html.mark("</span></pre><div class=\"code\">\n")
     }
 

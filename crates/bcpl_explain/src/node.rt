@@ -1,10 +1,10 @@
-//! A node of a root's tree on the page: its least words, the rules that the derivation has there, and all that apply.
+//! A node of a root's tree on the page: its least words, all rules that apply with theirs, and the rules that the derivation has there.
 
 use crate::chosen::Chosen;
 use crate::html::Html;
 use crate::items::name_of;
 use crate::parts::{ANY, At, PUSH};
-use crate::rules::{AIMS, add_name, aim_words};
+use crate::rules::{AIMS, add_name, add_told_name};
 use bc_candidates::{Beginning, Candidates};
 use bc_core::CoreExp;
 use bc_rules_defs::{Aim, Rule};
@@ -25,13 +25,11 @@ pub struct Known<'k, 's> {
     pub names: &'k [&'s [u8]],
 }
 
-/// Adds a place's address with its name.
+/// Adds the name of a place.
 fn add_place(html: &mut Html, label: u16, names: &[&[u8]]) -> Result<(), Memory> {
-    html.mark("L")?;
-    html.number(u64::from(label))?;
-    html.mark("</code> <span class=\"name\">")?;
+    html.mark(" <span class=\"name\">")?;
     html.say(name_of(names, label))?;
-    html.mark("</span><code>")
+    html.mark("</span>")
 }
 
 /// Adds a letter and a number.
@@ -41,22 +39,31 @@ fn add_address(html: &mut Html, letter: &str, number: u16) -> Result<(), Memory>
 }
 
 /// Adds what stands at a node itself, without its parts.
+fn add_sign(html: &mut Html, e: &CoreExp) -> Result<(), Memory> {
+    match e {
+        CoreExp::Num(number) => html.number(u64::from(number.get())),
+        CoreExp::Frame(offset) => add_address(html, "P", *offset),
+        CoreExp::Glob(number) => add_address(html, "G", *number),
+        CoreExp::Place(label) => add_address(html, "L", *label),
+        CoreExp::Load(_) => html.mark("!"),
+        CoreExp::Neg(_) => html.mark("NEG"),
+        CoreExp::Not(_) => html.mark("NOT"),
+        CoreExp::Bin(op, _, _) => html.tell(bc_show::sign(*op)),
+        CoreExp::Cond(_, _, _) => html.tell("->"),
+        CoreExp::Call(_, _) => html.mark("CALL"),
+        CoreExp::Valof(number) => add_address(html, "VALOF ", *number),
+    }
+}
+
+/// Adds what stands at a node itself, with the name of a place.
 fn add_head(html: &mut Html, e: &CoreExp, names: &[&[u8]]) -> Result<(), Memory> {
     html.mark("<code>")?;
+    add_sign(html, e)?;
+    html.mark("</code>")?;
     match e {
-        CoreExp::Num(number) => html.number(u64::from(number.get()))?,
-        CoreExp::Frame(offset) => add_address(html, "P", *offset)?,
-        CoreExp::Glob(number) => add_address(html, "G", *number)?,
-        CoreExp::Place(label) => add_place(html, *label, names)?,
-        CoreExp::Load(_) => html.mark("!")?,
-        CoreExp::Neg(_) => html.mark("NEG")?,
-        CoreExp::Not(_) => html.mark("NOT")?,
-        CoreExp::Bin(op, _, _) => html.tell(bc_show::sign(*op))?,
-        CoreExp::Cond(_, _, _) => html.tell("->")?,
-        CoreExp::Call(_, _) => html.mark("CALL")?,
-        CoreExp::Valof(number) => add_address(html, "VALOF ", *number)?,
+        CoreExp::Place(label) => add_place(html, *label, names),
+        _ => Ok(()),
     }
-    html.mark("</code>")
 }
 
 /// The least words of these rules.
@@ -71,10 +78,10 @@ fn least(beginnings: &[Beginning]) -> Option<u64> {
     best
 }
 
-/// The tag of a cell; where the derivation has the node for its aim, with a sign.
+/// The tag of a cell; another one where the derivation has the node for its aim.
 fn cell_tag(is_used: bool) -> &'static str {
     if is_used {
-        "<td class=\"used\">&#9670;&nbsp;"
+        "<td class=\"used\">"
     } else {
         "<td>"
     }
@@ -83,33 +90,47 @@ fn cell_tag(is_used: bool) -> &'static str {
 /// The tag of a rule; of the chosen one with a sign.
 fn rule_tag(is_chosen: bool) -> &'static str {
     if is_chosen {
-        "<span class=\"chosen\">&#9670;&nbsp;"
+        " <span class=\"chosen\">&#9670;&nbsp;"
     } else {
-        "<span>"
+        " <span>"
     }
 }
 
-/// The tag of what opens.
-fn list_tag(is_open: bool) -> &'static str {
-    if is_open {
-        "<details open><summary>"
-    } else {
-        "<details><summary>"
-    }
+/// Adds a rule that applies, with its words.
+fn add_beginning(
+    html: &mut Html,
+    beginning: &Beginning,
+    chosen: Option<Rule>,
+) -> Result<(), Memory> {
+    html.mark(rule_tag(chosen == Some(beginning.rule)))?;
+    add_name(html, beginning.rule)?;
+    html.mark("&nbsp;")?;
+    html.number(beginning.words)?;
+    html.mark("</span>")
 }
 
-/// Adds the least words for an aim, marked where the derivation has the node for it.
+/// Adds the least words for an aim, and all rules that apply with theirs, the chosen one marked.
 fn add_cell(html: &mut Html, beginnings: &[Beginning], chosen: Option<Rule>) -> Result<(), Memory> {
     html.mark(cell_tag(chosen.is_some()))?;
     match least(beginnings) {
-        Some(words) => html.number(words)?,
+        Some(words) => {
+            html.mark("<b>")?;
+            html.number(words)?;
+            html.mark("</b>")?;
+        }
         None => html.mark("&ndash;")?,
+    }
+    for beginning in beginnings {
+        add_beginning(html, beginning, chosen)?;
     }
     html.mark("</td>")
 }
 
 /// Adds the rules that the derivation has at a node, the outermost first.
 fn add_chain(html: &mut Html, chosen: Chosen) -> Result<(), Memory> {
+    if chosen.is_nothing() {
+        return html.mark("<span class=\"inside\">no code of its own</span>");
+    }
     let mut is_first = true;
     for aim in [Aim::Jumps(false), Aim::Jumps(true), ANY, PUSH] {
         if let Some(rule) = chosen.for_aim(aim) {
@@ -117,59 +138,13 @@ fn add_chain(html: &mut Html, chosen: Chosen) -> Result<(), Memory> {
                 html.mark(".")?;
             }
             is_first = false;
-            add_name(html, rule)?;
+            add_told_name(html, rule)?;
         }
-    }
-    if is_first {
-        html.mark("<span class=\"inside\">no code of its own</span>")?;
     }
     Ok(())
 }
 
-/// Adds the rules that apply for an aim, with their words.
-fn add_beginnings(
-    html: &mut Html,
-    aim: Aim,
-    beginnings: &[Beginning],
-    chosen: Option<Rule>,
-) -> Result<(), Memory> {
-    if beginnings.is_empty() {
-        return Ok(());
-    }
-    html.element("dt", "", aim_words(aim))?;
-    html.mark("<dd>")?;
-    for beginning in beginnings {
-        html.mark(rule_tag(chosen == Some(beginning.rule)))?;
-        add_name(html, beginning.rule)?;
-        html.mark("&nbsp;")?;
-        html.number(beginning.words)?;
-        html.mark("</span> ")?;
-    }
-    html.mark("</dd>")
-}
-
-/// How many rules apply at a node, for all aims.
-fn count_of(candidates: &Candidates) -> u64 {
-    let mut count: u64 = 0;
-    for aim in AIMS {
-        count = count.saturating_add(candidates.for_aim(aim).len() as u64);
-    }
-    count
-}
-
-/// Adds all rules that apply at a node, with their words.
-fn add_all(html: &mut Html, is_open: bool, known: Known<'_, '_>) -> Result<(), Memory> {
-    html.mark(list_tag(is_open))?;
-    html.number(count_of(known.candidates))?;
-    html.mark(" in all</summary><dl>")?;
-    for aim in AIMS {
-        let beginnings = known.candidates.for_aim(aim);
-        add_beginnings(html, aim, beginnings, known.chosen.for_aim(aim))?;
-    }
-    html.mark("</dl></details>")
-}
-
-/// Adds a node's row. At the top of a tree the rules that apply are open, where it has code of its own. Memory is answered where a growth was refused.
+/// Adds a node's row. Memory is answered where a growth was refused.
 pub fn add_row(html: &mut Html, row: Row<'_>, known: Known<'_, '_>) -> Result<(), Memory> {
     html.mark("<tr><th style=\"--depth:")?;
     html.number(row.depth.min(24))?;
@@ -187,8 +162,5 @@ pub fn add_row(html: &mut Html, row: Row<'_>, known: Known<'_, '_>) -> Result<()
     }
     html.mark("<td>")?;
     add_chain(html, known.chosen)?;
-    html.mark("</td><td>")?;
-    let is_open = row.depth == 0 && !known.chosen.is_nothing();
-    add_all(html, is_open, known)?;
     html.mark("</td></tr>\n")
 }

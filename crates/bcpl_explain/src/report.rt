@@ -13,26 +13,47 @@ pub struct Checked {
     pub words: u64,
 }
 
-/// What the page shows, and how to read it.
-const LEGEND: &str =
+/// What the page shows.
+const OPENING: &str =
     "<p>Beside each line of the source stands its code. An expression, a test or an assignment opens: it shows its tree, what each \
     part of it takes at least, and all rules by which there could be code of it. Code that doesn't open is a command's own: a label, a jump, \
     a return.</p>\n\
-    <details class=\"legend\"><summary>How to read this page</summary>\n<dl>\n\
-    <dt>Code</dt><dd>INTCODE, as it stands in the text of the segment; a bold number is a label.</dd>\n\
-    <dt>Node</dt><dd>A part of the tree, below what it is a part of. A number stands for itself. P2 is the address of the cell at offset 2 of the frame, \
-    G14 that of global 14, L3 that of place 3, with its name: a routine, a static, a table or a string. ! is the content of the cell at an \
-    address, NEG the negative; the other signs are those of the source.</dd>\n\
-    <dt>Level</dt><dd>The first offset of the frame above all that lives when the work on the node begins.</dd>\n\
-    <dt>Least words</dt><dd>So many words the node takes at least in each of four uses: as a value, as a second operand, which leaves in B what was \
-    in A, to jump where it is false, and to jump where it is true. A dash: there is no such code. The body of a VALOF counts no words \
-    here, since it has expressions, tests and assignments of its own.</dd>\n\
-    <dt>&#9670;</dt><dd>This use, and this rule, is that of the code here.</dd>\n\
-    <dt>Rules of this code</dt><dd>The rules that the code has at the node, the outermost first. No code of its own has a node that a rule \
-    above takes as its operand or its number, or drops as a 0.</dd>\n\
-    <dt>All rules that apply</dt><dd>Each rule with which code of the node can begin, for each use, with the least words of the code that begins with \
-    it. The words of a whole are those of its parts and a few more, so the least of the parts are all that counts. Since no other rule applies, \
-    and the marked one has the least words of its list, nothing is shorter.</dd>\n\
+    <p class=\"screen\"><label><input type=\"checkbox\" id=\"all\"> Show all trees, on paper too</label></p>\n\
+    <details class=\"legend\"><summary>How to read this page</summary>\n<dl>\n";
+
+/// How to read the code.
+const CODE: &str =
+    "<dt id=\"code\">Code</dt><dd>INTCODE, as it stands in the text of the segment; a bold number is a label. The machine works with A and B. \
+    What stands behind an instruction's first letter, n here, is a number: 5 itself, P5 the address of the cell at offset 5 of the frame, G5 that of \
+    global 5, L5 that of label 5; with I in front what the cell at that address holds, as in LIP5.\n\
+    <table>\n\
+    <tr><th>L n</th><td>what was in A into B, n into A</td></tr>\n\
+    <tr><th>S n</th><td>A into the cell at n</td></tr>\n\
+    <tr><th>A n</th><td>n is added to A</td></tr>\n\
+    <tr><th>J n, T n, F n</th><td>on to n: always, where A isn't 0, where A is 0</td></tr>\n\
+    <tr><th>K n</th><td>calls the routine at A, with a frame that begins n cells further</td></tr>\n\
+    <tr><th>X1, X2, X3</th><td>!A, -A, NOT A into A</td></tr>\n\
+    <tr><th>X4</th><td>returns</td></tr>\n\
+    <tr><th>X5 to X21</th><td>B op A into A: X5 *, X6 /, X7 REM, X8 +, X9 -, X10 =, X11 NE, X12 &lt;, X13 GE, X14 &gt;, X15 LE, X16 &lt;&lt;, \
+    X17 &gt;&gt;, X18 &amp;, X19 |, X20 NEQV, X21 EQV</td></tr>\n\
+    <tr><th>X22, X23</th><td>the run ends; on to where the list behind it says for A, as of a SWITCHON</td></tr>\n\
+    <tr><th>D n, C n, Gn Lm</th><td>data: a word; a byte of a string; global n begins as the address of label m</td></tr>\n\
+    </table></dd>\n";
+
+/// How to read the trees.
+const TREES: &str =
+    "<dt id=\"node\">Node</dt><dd>A part of the tree, below what it is a part of. A number stands for itself. P2 is the address of the cell at \
+    offset 2 of the frame, G14 that of global 14, L3 that of place 3, with its name: a routine, a static, a table or a string. ! is the content of \
+    the cell at an address, NEG the negative; the other signs are those of the source.</dd>\n\
+    <dt id=\"level\">Level</dt><dd>The first offset of the frame above all that lives when the work on the node begins.</dd>\n\
+    <dt id=\"least\">Least words, and those by each rule that applies</dt><dd>So many words the node takes at least in each of four uses: as a \
+    value, as a second operand, which leaves in B what was in A, to jump where it is false, and to jump where it is true. A dash: there is no such \
+    code. Behind the number stands each rule with which code for this use can begin, with the least words of the code that begins with it. \
+    Since no other rule applies, and the words of a whole are those of its parts and a few more, nothing has fewer words than the least of them. \
+    The body of a VALOF counts no words here, since it has expressions, tests and assignments of its own.</dd>\n\
+    <dt id=\"chosen\">&#9670;</dt><dd>The code of this page has the node for this use, by this rule.</dd>\n\
+    <dt id=\"chain\">Rules of this code</dt><dd>The rules that the code has at the node, the outermost first; each leads to its line of the table \
+    below. No code of its own has a node that a rule above takes as its operand or its number, or drops as a 0.</dd>\n\
     </dl>\n</details>\n";
 
 /// What is proved.
@@ -102,7 +123,9 @@ pub fn explanation(
     let mut html = Html::new(alloc);
     begin(&mut html, path_of(programs))?;
     add_ways(&mut html, programs)?;
-    html.mark(LEGEND)?;
+    html.mark(OPENING)?;
+    html.mark(CODE)?;
+    html.mark(TREES)?;
     let mut used = [0u64; 34];
     for (number, program) in programs.iter().enumerate() {
         let file = File::new(alloc, *program)?;

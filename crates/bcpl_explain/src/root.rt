@@ -102,18 +102,18 @@ fn add_assignment(html: &mut Html, rule: Rule, level: u64, words: u64) -> Result
     html.mark(" The trees are those of the value and of the address.</p>\n")
 }
 
-/// Adds the head of a tree's table.
+/// Adds the head of a tree's table, whose words lead to what is said of them.
 fn add_heads(html: &mut Html) -> Result<(), Memory> {
+    html.mark("<thead><tr><th rowspan=\"2\"><a href=\"#node\">node</a></th>")?;
+    html.mark("<th rowspan=\"2\"><a href=\"#level\">level</a></th>")?;
     html.mark(
-        "<tr><th rowspan=\"2\">node</th><th rowspan=\"2\">level</th><th colspan=\"4\">least words</th>",
+        "<th colspan=\"4\"><a href=\"#least\">least words, and those by each rule that applies</a></th>",
     )?;
-    html.mark(
-        "<th rowspan=\"2\">rules of this code</th><th rowspan=\"2\">all rules that apply, and their words</th></tr>\n<tr>",
-    )?;
+    html.mark("<th rowspan=\"2\"><a href=\"#chain\">rules of this code</a></th></tr>\n<tr>")?;
     for aim in AIMS {
         html.element("th", "", aim_words(aim))?;
     }
-    html.mark("</tr>\n")
+    html.mark("</tr></thead>\n<tbody>\n")
 }
 
 /// Adds why a root has the code that it has, in so many words: its tree, a node a row, with the least words of each for the four aims, the
@@ -139,5 +139,5 @@ pub fn add_root(html: &mut Html, entry: &Entry, words: u64, names: &[&[u8]]) -> 
         names,
     };
     add_rows(html, &entry.root, nodes)?;
-    html.mark("</table></div>\n")
+    html.mark("</tbody></table></div>\n")
 }

@@ -170,6 +170,17 @@ pub fn add_name(html: &mut Html, rule: Rule) -> Result<(), Memory> {
     html.mark(name.as_str())
 }
 
+/// Adds a rule's name as `add_name` does, with where it applies and its code, which a browser tells of it.
+pub fn add_told_name(html: &mut Html, rule: Rule) -> Result<(), Memory> {
+    let begin = format!(in html.alloc(); "<a href=\"#{rule:?}\" title=\"")?;
+    html.mark(begin.as_str())?;
+    html.tell(place_of(rule))?;
+    html.mark(": ")?;
+    html.tell(code_of(rule))?;
+    let end = format!(in html.alloc(); "\">{rule:?}</a>")?;
+    html.mark(end.as_str())
+}
+
 /// Adds a rule's line, with how often it is used.
 fn add_line(html: &mut Html, rule: Rule, count: u64) -> Result<(), Memory> {
     let head = format!(in html.alloc(); "<tr id=\"{rule:?}\"><th>{rule:?}</th>")?;
@@ -199,12 +210,12 @@ pub fn add_table(html: &mut Html, used: &[u64; 34]) -> Result<(), Memory> {
         "<p>Each expression, test and assignment has code by these rules and no others.</p>\n",
     )?;
     html.mark(
-        "<div class=\"wide\"><table class=\"rules\">\n<tr><th>rule</th><th>for</th><th>where</th>",
+        "<div class=\"wide\"><table class=\"rules\">\n<thead><tr><th>rule</th><th>for</th><th>where</th>",
     )?;
-    html.mark("<th>code</th><th>used here</th></tr>\n")?;
+    html.mark("<th>code</th><th>used here</th></tr></thead>\n<tbody>\n")?;
     for (rule, count) in RULES.iter().zip(used.iter()) {
         add_line(html, *rule, *count)?;
     }
-    html.mark("</table></div>\n")?;
+    html.mark("</tbody></table></div>\n")?;
     html.mark(MEANINGS)
 }

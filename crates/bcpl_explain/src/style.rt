@@ -1,7 +1,7 @@
 //! How a report looks.
 
-/// The styles: two columns, one where there is little room; light or dark, as the reader wants it, in blue and brown, which differ in
-/// lightness too, with a sign wherever a colour tells something; on paper light, and all that opens is open.
+/// The styles: two columns, one where there is little room, and there each node of a tree below the other; light or dark, as the reader wants it,
+/// in blue and brown, which differ in lightness too, with a sign wherever a colour tells something; on paper light, with what is open open.
 pub const STYLE: &str = "
 :root { color-scheme: light dark; --ground: #ffffff; --text: #1a1a1a; --faint: #595959; --line: #d4d4d4; --chosen: #0b5394; --marked: #dcebf8; --own: #7a4300; }
 @media (prefers-color-scheme: dark) {
@@ -9,53 +9,97 @@ pub const STYLE: &str = "
 }
 * { box-sizing: border-box; }
 body { margin: 0 auto; max-width: 110rem; padding: 1rem; background: var(--ground); color: var(--text); font: 1rem/1.45 system-ui, sans-serif; }
+body { overflow-wrap: anywhere; }
 code, .source { font-family: ui-monospace, 'DejaVu Sans Mono', monospace; font-size: 0.92em; }
-h1 { font-size: 1.6rem; margin: 0 0 0.5rem; }
-h2 { font-size: 1.3rem; margin: 2.5rem 0 0.5rem; }
-h3 { font-size: 1.05rem; margin: 1.5rem 0 0.5rem; }
-p, nav, .legend { max-width: 48rem; }
+h1 { font-size: 1.6em; margin: 0 0 0.5rem; }
+h2 { font-size: 1.3em; margin: 2.5rem 0 0.5rem; }
+h3 { font-size: 1.05em; margin: 1.5rem 0 0.5rem; }
+p, .legend dl { max-width: 48rem; }
 a { color: var(--chosen); }
 nav a { margin-right: 1.2em; }
 summary { cursor: pointer; }
 .line { display: grid; grid-template-columns: minmax(0, 2fr) minmax(0, 3fr); gap: 1rem; border-top: 1px solid var(--line); padding: 0.1rem 0; }
-.source { display: flex; white-space: pre-wrap; overflow-wrap: anywhere; margin: 0; tab-size: 8; }
-.source > :last-child { flex: 1; min-width: 0; }
-.number { flex: none; min-width: 3em; padding-right: 1em; color: var(--faint); user-select: none; }
-.root[open] { border-left: 3px solid var(--chosen); padding-left: 0.6rem; margin-bottom: 0.6rem; }
+.source { display: flex; align-self: start; position: sticky; top: 0; white-space: pre-wrap; margin: 0; tab-size: 8; }
+.source > :last-child { flex: 1; min-width: 0; padding-left: calc(var(--in) * 1ch + 2ch); text-indent: calc(var(--in) * -1ch - 2ch); }
+.number { flex: none; min-width: 3em; max-width: 50%; padding-right: 1em; color: var(--faint); user-select: none; }
+.root summary { padding-left: 1.1rem; text-indent: -1.1rem; }
+.root[open], :has(#all:checked) .root { border-left: 3px solid var(--chosen); padding-left: 0.6rem; margin-bottom: 0.6rem; }
+:has(#all:checked) .root::details-content { content-visibility: visible; display: block; height: auto; }
+.root p { margin: 0.3rem 0; }
 .words, .own span, .inside { color: var(--faint); }
 .words, .own span { margin-left: 0.8em; }
-.own { color: var(--own); padding-left: 1.05rem; }
+.words { white-space: nowrap; }
+.own { color: var(--own); padding-left: 1.1rem; }
 .own span, .inside { font-style: italic; }
-.name { color: var(--faint); display: inline-block; max-width: 16em; overflow: hidden; text-overflow: ellipsis; white-space: nowrap; vertical-align: bottom; }
-.data { display: grid; grid-template-columns: 10em minmax(0, 1fr); gap: 1em; border-top: 1px solid var(--line); overflow-wrap: anywhere; }
+.name { color: var(--faint); display: inline-block; max-width: 12em; overflow: hidden; text-overflow: ellipsis; white-space: nowrap; vertical-align: bottom; }
+.data { display: grid; grid-template-columns: 12em minmax(0, 1fr); gap: 1em; border-top: 1px solid var(--line); }
 .wide { overflow-x: auto; }
-table { border-collapse: collapse; margin: 0.5rem 0; font-size: 0.94rem; }
+table { border-collapse: collapse; margin: 0.5rem 0; font-size: 0.94em; overflow-wrap: normal; }
 th, td { border: 1px solid var(--line); padding: 0.1rem 0.5rem; text-align: left; vertical-align: top; }
 th { font-weight: 600; }
-.tree th[style] { padding-left: calc(0.5rem + var(--depth) * 1rem); font-weight: 400; white-space: nowrap; }
-.totals td { text-align: right; }
+thead a { color: inherit; text-decoration: underline dotted; }
+.tree { width: 100%; }
+.tree th[style] { --left: calc(var(--depth) * 0.8rem); padding-left: calc(0.5rem + var(--left)); font-weight: 400; white-space: nowrap; }
+.tree th[style] { background: repeating-linear-gradient(to right, var(--line) 0 1px, transparent 1px 0.8rem) 0.6rem 0 / var(--left) 100% no-repeat; }
+.tree td:nth-child(2) { width: 3rem; text-align: right; }
+.tree td:nth-child(3) { width: 32%; }
+.tree td:nth-child(4) { width: 22%; }
+.tree td:nth-child(5), .tree td:nth-child(6) { width: 13%; }
+.tree td:last-child { white-space: nowrap; }
+.tree td > span { display: inline-block; margin-left: 0.5em; color: var(--faint); white-space: nowrap; font-size: 0.9em; }
+.tree td > span a { color: inherit; text-decoration: underline dotted; }
+.tree td > .chosen { color: var(--text); }
+.tree td > .inside { margin-left: 0; }
+.used { background: var(--marked); }
+.chosen { font-weight: 700; }
+.totals td, .rules td:last-child { text-align: right; }
+.rules td:nth-child(2) { white-space: nowrap; }
 .sum > * { border-top: 2px solid var(--text); }
-.used, .chosen { background: var(--marked); font-weight: 700; }
-.used { white-space: nowrap; }
-.chosen { padding: 0 0.2em; }
-tr:target { outline: 2px solid var(--chosen); }
-dl { margin: 0.2rem 0; } dt { color: var(--faint); } dd { margin: 0 0 0.2rem 0.8rem; }
-dd span { display: inline-block; margin-right: 0.7em; white-space: nowrap; }
-.legend dt { color: inherit; font-weight: 600; margin-top: 0.5rem; }
-.theorem { border-left: 3px solid var(--chosen); margin: 0.8rem 0; padding-left: 0.8rem; max-width: 48rem; }
-@media (max-width: 60rem) {
+:target { outline: 2px solid var(--chosen); }
+.legend th { white-space: nowrap; }
+.legend dt { font-weight: 600; margin-top: 0.5rem; }
+.legend dd { margin: 0 0 0.2rem 1rem; }
+.theorem { border-left: 3px solid var(--chosen); margin: 0.8rem 0; padding-left: 0.8rem; }
+@media (width > 70rem) {
+  .line:has(.root[open]), :has(#all:checked) .line:has(.root) { grid-template-columns: minmax(0, 1fr) minmax(0, 3fr); }
+}
+@media (width <= 70rem) {
   .line { grid-template-columns: minmax(0, 1fr); gap: 0; }
+  .source { position: static; }
   .line > .code { padding-left: 1.5rem; }
+}
+@media (width <= 42rem) {
+  .line > .code { padding-left: 0; }
   .data { grid-template-columns: minmax(0, 1fr); gap: 0; }
+  th, td { padding: 0.1rem 0.3rem; }
+  .tree, .tree tbody, .rules, .rules tbody { display: block; }
+  .tree thead, .rules thead { display: none; }
+  .tree tr, .rules tr { display: grid; grid-template-columns: minmax(5rem, 1fr) auto auto; border: 1px solid var(--line); margin-top: -1px; }
+  .tree tr > *, .rules tr > * { border: 0; }
+  .rules tr { grid-template-columns: 3rem minmax(0, 1fr); }
+  .rules td:nth-child(n) { grid-column: 2; text-align: left; white-space: normal; }
+  .rules td:nth-child(2)::before { content: 'for '; }
+  .rules td:nth-child(3)::before { content: 'where there is '; }
+  .rules td:last-child::before { content: 'used here: '; }
+  .tree th[style] { --left: calc(var(--depth) * 0.5rem); background: none; overflow: hidden; text-overflow: ellipsis; }
+  .tree td:nth-child(n) { width: auto; text-align: left; white-space: normal; }
+  .tree td:nth-child(n+3):nth-child(-n+6) { grid-column: 1 / -1; padding-left: 1.5rem; }
+  .tree td:nth-child(2)::before { content: 'level '; color: var(--faint); }
+  .tree td:nth-child(3)::before { content: 'as a value '; }
+  .tree td:nth-child(4)::before { content: 'as a second operand '; }
+  .tree td:nth-child(5)::before { content: 'to jump on false '; }
+  .tree td:nth-child(6)::before { content: 'to jump on true '; }
+  .tree td:last-child { grid-column: 3; grid-row: 1; }
 }
 @media print {
   :root { color-scheme: light; --ground: #ffffff; --text: #000000; --faint: #444444; --line: #aaaaaa; --chosen: #0b5394; --marked: #ffffff; --own: #5a3200; }
-  body { max-width: none; padding: 0; font-size: 0.75rem; }
-  nav { display: none; }
-  a { color: inherit; text-decoration: none; }
-  details::details-content { content-visibility: visible; display: block; height: auto; }
+  body { max-width: none; padding: 0; font-size: 0.7rem; }
+  nav, .screen { display: none; }
+  a { text-decoration: none; }
+  .legend::details-content { content-visibility: visible; display: block; height: auto; }
   .wide { overflow: visible; }
-  .used, .chosen { border: 2px solid var(--chosen); }
-  tr, .source { break-inside: avoid; }
+  .used { border: 2px solid var(--chosen); }
+  tr, .source, .data { break-inside: avoid; }
+  h2, h3, thead, summary { break-after: avoid; }
 }
 ";

@@ -114,7 +114,7 @@ impl<'p> Listing<'p> {
     /// The boot's words.
     fn add_boot(&mut self) -> Result<(), Memory> {
         self.text
-            .push_str("/ boot\n/ addr   word  item             / what it is\n")?;
+            .push_str("/ boot\n/ addr   word  item           / what it is\n")?;
         for (address, said) in BOOT.iter().enumerate() {
             let word = Word::new(word_at(self.program.image, address));
             let following = Word::new(word_at(self.program.image, address.saturating_add(1)));
