@@ -30,6 +30,18 @@ fn free_columns(text: &[u8]) -> u64 {
     columns.min(MOST_FREE)
 }
 
+/// Says so where other lines' code stands between what ends here, if anything does, and what begins there.
+fn add_gap(html: &mut Html, behind: Option<usize>, from: usize) -> Result<(), Memory> {
+    match behind {
+        Some(behind) if behind != from => html.element(
+            "div",
+            "gap",
+            "behind the code of other lines:",
+        ),
+        _ => Ok(()),
+    }
+}
+
 /// A file that is reported on.
 #[derive(Drop)]
 pub struct File<'p, 's> {
@@ -146,8 +158,11 @@ impl<'p, 's> File<'p, 's> {
         for (number, runs) in self.placed.at_lines.iter().enumerate() {
             if number > 0 {
                 self.begin_line(html, self.ground.spot_at(number))?;
+                let mut behind: Option<usize> = None;
                 for run in runs {
+                    add_gap(html, behind, run.from)?;
                     self.add_run(html, *run)?;
+                    behind = Some(run.to);
                 }
                 html.mark("</div></div>\n")?;
             }

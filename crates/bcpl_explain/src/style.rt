@@ -23,7 +23,8 @@ summary { cursor: pointer; }
 .source > :last-child { flex: 1; min-width: 0; padding-left: calc(var(--in) * 1ch + 2ch); text-indent: calc(var(--in) * -1ch - 2ch); }
 .number { flex: none; min-width: 3em; max-width: 50%; padding-right: 1em; color: var(--faint); user-select: none; }
 .root summary { padding-left: 1.1rem; text-indent: -1.1rem; }
-.root[open], :has(#all:checked) .root { border-left: 3px solid var(--chosen); padding-left: 0.6rem; margin-bottom: 0.6rem; }
+.root[open] { border-left: 3px solid var(--chosen); padding-left: 0.6rem; margin-bottom: 0.6rem; }
+:has(#all:checked) .root { border-left: 3px solid var(--chosen); padding-left: 0.6rem; margin-bottom: 0.6rem; }
 :has(#all:checked) .root::details-content { content-visibility: visible; display: block; height: auto; }
 .root p { margin: 0.3rem 0; }
 .words, .own span, .inside { color: var(--faint); }
@@ -31,6 +32,7 @@ summary { cursor: pointer; }
 .words { white-space: nowrap; }
 .own { color: var(--own); padding-left: 1.1rem; }
 .own span, .inside { font-style: italic; }
+.gap { color: var(--faint); padding-left: 1.1rem; }
 .name { color: var(--faint); display: inline-block; max-width: 12em; overflow: hidden; text-overflow: ellipsis; white-space: nowrap; vertical-align: bottom; }
 .data { display: grid; grid-template-columns: 12em minmax(0, 1fr); gap: 1em; border-top: 1px solid var(--line); }
 .wide { overflow-x: auto; }
