@@ -70,10 +70,11 @@ thead a { color: inherit; text-decoration: underline dotted; }
   .source { position: static; }
   .line > .code { padding-left: 1.5rem; }
 }
-@media (width <= 42rem) {
+@media screen and (width <= 56rem) {
   .line > .code { padding-left: 0; }
   .data { grid-template-columns: minmax(0, 1fr); gap: 0; }
   th, td { padding: 0.1rem 0.3rem; }
+  .totals th:first-child { overflow-wrap: anywhere; }
   .tree, .tree tbody, .rules, .rules tbody { display: block; }
   .tree thead, .rules thead { display: none; }
   .tree tr, .rules tr { display: grid; grid-template-columns: minmax(5rem, 1fr) auto auto; border: 1px solid var(--line); margin-top: -1px; }
