@@ -221,9 +221,14 @@ fn stands_as_number(source: Source<'_>, index: usize) -> bool {
         source.kind(sign),
         Kind::Equal | Kind::Relation | Kind::Assign | Kind::Underline
     );
-    let is_behind_for = index > 0 && source.kind(index - 1) == Kind::For;
-    is_behind_for
-        || is_set && value_of_number(source, value).is_ok_and(|value| value != 0)
+    let before = if index == 0 {
+        Kind::End
+    } else {
+        source.kind(index - 1)
+    };
+    let is_content = matches!(before, Kind::Bang | Kind::Content | Kind::Address);
+    before == Kind::For
+        || is_set && !is_content && value_of_number(source, value).is_ok_and(|value| value != 0)
         || declares(source, index) && listing_word(source, index) == Kind::Manifest
 }
 
