@@ -34,14 +34,48 @@ pub fn format_at(source: Source<'_>, index: usize, library: &[Renaming<'_>]) -> 
         && is_writef(source.bytes(index), library)
         && !has_routine(source, index);
     if !is_call {
-        None
-    } else if arguments(source, opening) > 5 || has_further_letter(text_at(source, format)) {
-        Some(Format::Further)
-    } else if source.kind(format) == Kind::Text {
-        Some(Format::Plain)
-    } else {
-        Some(Format::Hidden)
+        return None;
     }
+    match seen(source, opening) {
+        _ if arguments(source, opening) > 5 => Some(Format::Further),
+        Some(true) => Some(Format::Further),
+        Some(false) => Some(Format::Plain),
+        None => Some(Format::Hidden),
+    }
+}
+
+/// Whether the format behind the bracket at an index wants EXTHDR, where it is a string or a choice between strings; `None` where it is
+/// neither.
+fn seen(source: Source<'_>, opening: usize) -> Option<bool> {
+    let format = opening.saturating_add(1);
+    if source.kind(format) == Kind::Text {
+        return Some(is_further_string(source, format));
+    }
+    let mut is_further = None;
+    let mut depth: usize = 0;
+    let mut waiting: usize = 0;
+    for index in format..source.partner(opening) {
+        let kind = source.kind(index);
+        match kind {
+            Kind::OpenRound | Kind::OpenSection => depth = depth.saturating_add(1),
+            Kind::CloseRound | Kind::CloseSection => depth = depth.saturating_sub(1),
+            Kind::Comma if depth == 0 && waiting == 0 => return is_further,
+            Kind::Arrow | Kind::Comma if depth == 0 => {
+                let string = index.saturating_add(1);
+                if source.kind(string) != Kind::Text {
+                    return None;
+                }
+                is_further = Some(is_further == Some(true) || is_further_string(source, string));
+                waiting = if kind == Kind::Arrow {
+                    waiting.saturating_add(1)
+                } else {
+                    waiting.saturating_sub(1)
+                };
+            }
+            _ => {}
+        }
+    }
+    is_further
 }
 
 /// The bytes of the string at an index; none where none stands there.
