@@ -87,6 +87,27 @@ pub enum Fault {
     /// What is nested too deep to be read.
     #[error("this is nested too deep to be converted")]
     TooDeep,
+    /// `*(` behind what is no vector, in a source where it begins a subscript.
+    #[error("a number stands in front of *( here, which is a subscript elsewhere in this program")]
+    StarProduct,
+    /// A format that is no string, where LIBHDR is got.
+    #[error("this format is no string, so what stands behind % in it can't be seen")]
+    HiddenFormat,
+    /// A call of WRITEF that LIBHDR's doesn't serve, where LIBHDR is got by choice.
+    #[error("the WRITEF of LIBHDR knows %N, %S and %C alone, and takes four arguments behind the format")]
+    FurtherCall,
+    /// What wants EXTHDR, in a source that gets a header of its own, where no source gets the library's.
+    #[error("this wants EXTHDR, and no source that is converted gets the library's header")]
+    NoHeader,
+    /// A line of a list of names with one name.
+    #[error("this name stands alone in its line")]
+    NameAlone,
+    /// An old name that stands in an earlier line of a list of names.
+    #[error("this name stands in an earlier line")]
+    NameTwice,
+    /// A new name that no library here has.
+    #[error("no library here has the name that this one gets")]
+    NoLibraryName,
 }
 
 impl Fault {
@@ -130,6 +151,20 @@ impl Fault {
             Fault::FirstGlobal => "write its number behind the name, with a colon between them",
             Fault::LateDeclaration => "put this one and what needs it between $( and $)",
             Fault::TooDeep => "cut it into smaller parts, or convert it by hand",
+            Fault::StarProduct =>
+                "this one was left a product; if it is a subscript, write ! in place of the star",
+            Fault::HiddenFormat => {
+                "convert by --header exthdr, whose WRITEF knows all letters; by --header libhdr, if %N, %S and %C are all that it has"
+            }
+            Fault::FurtherCall => "convert by --header exthdr, or write the parts one by one",
+            Fault::NoHeader => {
+                "convert all files of the program in one go, with the header that gets the library's"
+            }
+            Fault::NameAlone => "write behind it the name that it has here, with blanks between",
+            Fault::NameTwice => "take one of the two lines out",
+            Fault::NoLibraryName => {
+                "docs/library.md lists the names, all in capitals; for another one declare a routine with the old name"
+            }
         }
     }
 }

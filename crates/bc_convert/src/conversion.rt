@@ -2,13 +2,16 @@ ghost use Rattle.std.specs.Prelude.{◌≡◌, [], length, IfOk};
 ghost use Rattle.bc_convert_edits.specs.Converted.{converted, RiseWithin, ChangesText};
 
 use crate::complaint::{Complaint, Fault};
+use crate::formats::{Format, format_at, gets_header_alone};
 use crate::names::is_declared;
 use crate::notes::Notes;
-use crate::options::Options;
+use crate::options::{Header, Options};
+use crate::program::Program;
+use crate::reading::Reading;
 use crate::spelling::respell;
 use crate::walk::{MOST_DEPTH, Walk, items};
 use bc_convert_edits::{Replacement, apply, settle};
-use bc_convert_tokens::{Dialect, Kind, Source, classified, lex, partners};
+use bc_convert_tokens::{Dialect, Kind, Source};
 use bc_word::Memory;
 use std::alloc::Global;
 
@@ -51,15 +54,70 @@ fn find_parted_jumps(source: Source<'_>, notes: &mut Notes) -> Result<(), Memory
     Ok(())
 }
 
-/// What is found in a source whose tokens are told apart.
+/// Calls of WRITEF that may not do here what they are to do with the header that the source gets.
+fn tell_formats(
+    source: Source<'_>,
+    notes: &mut Notes,
+    options: Options<'_>,
+    header: Header,
+) -> Result<(), Memory> {
+    if matches!(header, Header::Further) {
+        return Ok(());
+    }
+    for index in 0..source.tokens.len() {
+        let format = index.saturating_add(2);
+        match (format_at(source, index, options.library), options.header) {
+            (Some(Format::Further), Some(_)) => notes.complain(source, index, Fault::FurtherCall)?,
+            (Some(Format::Hidden), None) => notes.complain(source, format, Fault::HiddenFormat)?,
+            _ => {}
+        }
+    }
+    Ok(())
+}
+
+/// The first token that wants EXTHDR, in a source that gets a header of its own.
+fn tell_want(source: Source<'_>, notes: &mut Notes, options: Options<'_>) -> Result<(), Memory> {
+    for index in 0..source.tokens.len() {
+        if let Some(Format::Further) = format_at(source, index, options.library) {
+            return notes.complain(source, index, Fault::NoHeader);
+        }
+    }
+    Ok(())
+}
+
+/// What there is to tell of the library, where something becomes of the source.
+fn tell_library(
+    source: Source<'_>,
+    notes: &mut Notes,
+    options: Options<'_>,
+    program: Program,
+) -> Result<(), Memory> {
+    if !notes.has_changes() {
+        return Ok(());
+    }
+    let header = options.header.unwrap_or(program.header());
+    tell_formats(source, notes, options, header)?;
+    if program.gets_library || gets_header_alone(source) {
+        return Ok(());
+    }
+    tell_want(source, notes, options)
+}
+
+/// What is found in a source whose tokens are told apart, which shows this dialect by itself.
 fn found(
     alloc: Global,
     source: Source<'_>,
-    dialect: Dialect,
+    shown: Dialect,
     options: Options<'_>,
 ) -> Result<Notes, Memory> {
+    let program = match options.program {
+        Some(program) => program.seen_from(shown),
+        None => Program::shown(source, shown, options.library),
+    };
+    let dialect = program.dialect;
+    let header = options.header.unwrap_or(program.header());
     let mut notes = Notes::new(alloc, source.tokens.len())?;
-    respell(source, &mut notes, dialect, options)?;
+    respell(source, &mut notes, dialect, options, header)?;
     let walk = Walk {
         source,
         dialect,
@@ -68,6 +126,7 @@ fn found(
     items(walk, &mut notes, 0, source.tokens.len())?;
     find_label_values(source, &mut notes)?;
     find_parted_jumps(source, &mut notes)?;
+    tell_library(source, &mut notes, options, program)?;
     Ok(notes)
 }
 
@@ -77,29 +136,9 @@ fn found_in(
     text: &[u8],
     options: Options<'_>,
 ) -> Result<(Vec<Replacement>, Vec<Complaint>), Memory> {
-    let raw = lex(alloc, text)?;
-    let bare = Source {
-        text,
-        tokens: raw.as_slice(),
-        partners: &[],
-    };
-    let raw_partners = partners(alloc, bare)?;
-    let told = Source {
-        partners: raw_partners.as_slice(),
-        ..bare
-    };
-    let dialect = Dialect::of(told);
-    let tokens = classified(alloc, told, dialect)?;
-    let unpaired = Source {
-        tokens: tokens.as_slice(),
-        ..bare
-    };
-    let pairs = partners(alloc, unpaired)?;
-    let source = Source {
-        partners: pairs.as_slice(),
-        ..unpaired
-    };
-    found(alloc, source, dialect, options)?.finished(source)
+    let reading = Reading::new(alloc, text)?;
+    let source = reading.source(text);
+    found(alloc, source, reading.dialect, options)?.finished(source)
 }
 
 /// What becomes of a source in an old dialect, so that it is one in this dialect, and what is to be done by hand. A source in this

@@ -19,7 +19,7 @@ static BASIC: [&[u8]; 16] = [
 ];
 
 /// The names that EXTHDR alone has.
-static FURTHER: [&[u8]; 26] = [
+static FURTHER: [&[u8]; 27] = [
     b"WRITED",
     b"WRITEU",
     b"WRITEOCT",
@@ -46,6 +46,7 @@ static FURTHER: [&[u8]; 26] = [
     b"BYTESPERWORD",
     b"MAXINT",
     b"MININT",
+    b"FIRSTFREEGLOBAL",
 ];
 
 /// The name in a list that a word is in either case.
@@ -66,7 +67,19 @@ pub fn library_name(word: &[u8]) -> Option<&'static [u8]> {
     }
 }
 
-/// Whether a word is, in either case, a name that EXTHDR alone has.
-pub fn is_further_name(word: &[u8]) -> bool {
-    listed(&FURTHER, word).is_some()
+/// A bit of its own for each name that EXTHDR alone has; 0 where a word is, in either case, none of them.
+pub fn further_bit(word: &[u8]) -> u32 {
+    let mut bit: u32 = 1;
+    for name in &FURTHER {
+        if word.eq_ignore_ascii_case(name) {
+            return bit;
+        }
+        bit = bit.saturating_mul(2);
+    }
+    0
+}
+
+/// Whether a word is a name of the library, spelled as it is there.
+pub fn is_library_name(word: &[u8]) -> bool {
+    library_name(word).is_some_and(|name| name == word)
 }

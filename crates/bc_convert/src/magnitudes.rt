@@ -37,9 +37,50 @@ pub fn tell_absolutes(
     Ok(())
 }
 
-/// Whether the token in front of an index wants a constant behind it.
+/// Whether an index stands where a constant is wanted: behind VEC, or behind TABLE and any number of its elements. What stands
+/// between is of the kinds that constants are made of.
 fn wants_constant(source: Source<'_>, index: usize) -> bool {
-    index > 0 && matches!(source.kind(index - 1), Kind::Vec | Kind::Table)
+    let mut closed: usize = 0;
+    let mut has_comma = false;
+    for back in 1..=index {
+        let at = index - back;
+        match source.kind(at) {
+            Kind::Table if closed == 0 => return true,
+            Kind::Vec if closed == 0 => return !has_comma,
+            Kind::Comma => has_comma = true,
+            Kind::CloseRound => closed = closed.saturating_add(1),
+            Kind::OpenRound => closed = closed.saturating_sub(1),
+            kind if !is_of_constant(kind) => return false,
+            _ => {}
+        }
+        if source.is_separated(at) {
+            return false;
+        }
+    }
+    false
+}
+
+/// Whether such a token may stand in a constant.
+fn is_of_constant(kind: Kind) -> bool {
+    matches!(
+        kind,
+        Kind::Name
+            | Kind::Number
+            | Kind::Character
+            | Kind::Constant
+            | Kind::Query
+            | Kind::Abs
+            | Kind::Add
+            | Kind::Star
+            | Kind::Divide
+            | Kind::Shift
+            | Kind::Not
+            | Kind::Conjunction
+            | Kind::Disjunction
+            | Kind::Equivalence
+            | Kind::Equal
+            | Kind::Relation
+    )
 }
 
 /// Takes out ABS at an index, and the sign, if one stands in front of the number at another one.

@@ -1,6 +1,7 @@
+use crate::formats::gets_header_alone;
 use crate::library::library_name;
-use crate::options::Options;
-use crate::spelling::gets_header_alone;
+use crate::numbers::value_of_number;
+use crate::options::{Options, Renaming};
 use bc_convert_tokens::{Dialect, Kind, Source};
 use bc_word::Memory;
 use std::alloc::Global;
@@ -78,9 +79,9 @@ fn without_underlines(alloc: Global, source: Source<'_>, index: usize) -> Result
     with_dots(alloc, bytes, number)
 }
 
-/// What the options call a name.
-fn renamed<'o>(options: Options<'o>, bytes: &[u8]) -> Option<&'o [u8]> {
-    for renaming in options.library {
+/// What a name of an old library is called here, if it is listed.
+pub fn renamed<'o>(library: &[Renaming<'o>], bytes: &[u8]) -> Option<&'o [u8]> {
+    for renaming in library {
         if renaming.old.eq_ignore_ascii_case(bytes) {
             return Some(renaming.new);
         }
@@ -121,7 +122,7 @@ pub fn name_change(
     options: Options<'_>,
 ) -> Result<Option<Vec<u8>>, Memory> {
     let bytes = source.bytes(index);
-    if let Some(new) = renamed(options, bytes) {
+    if let Some(new) = renamed(options.library, bytes) {
         return Ok(Some(Vec::from_slice(alloc, new)?));
     }
     if let Some(new) = for_library(source, index, dialect) {
@@ -158,7 +159,7 @@ pub fn declares(source: Source<'_>, index: usize) -> bool {
 }
 
 /// Whether a name stands in a list of GLOBAL, MANIFEST or STATIC.
-fn is_entry(source: Source<'_>, index: usize) -> bool {
+pub fn is_entry(source: Source<'_>, index: usize) -> bool {
     matches!(
         listing_word(source, index),
         Kind::Global | Kind::Manifest | Kind::Static
@@ -199,6 +200,38 @@ fn declares_routine(source: Source<'_>, index: usize) -> bool {
     index > 0 && matches!(source.kind(index - 1), Kind::Let | Kind::And) && is_called(source, index)
 }
 
+/// Whether the source declares a routine of the name at an index.
+pub fn has_routine(source: Source<'_>, index: usize) -> bool {
+    (0..source.tokens.len()).any(|other| is_same_name(source, index, other)
+        && declares_routine(source, other))
+}
+
+/// Whether the name at an index is declared by MANIFEST, or is the variable of a FOR, somewhere in the source, or is set to or compared
+/// with a number other than 0.
+pub fn is_number(source: Source<'_>, index: usize) -> bool {
+    (0..source.tokens.len()).any(|other| is_same_name(source, index, other)
+        && stands_as_number(source, other))
+}
+
+/// Whether the name at an index stands there as no vector's.
+fn stands_as_number(source: Source<'_>, index: usize) -> bool {
+    let sign = index.saturating_add(1);
+    let value = index.saturating_add(2);
+    let is_set = matches!(
+        source.kind(sign),
+        Kind::Equal | Kind::Relation | Kind::Assign | Kind::Underline
+    );
+    let before = if index == 0 {
+        Kind::End
+    } else {
+        source.kind(index - 1)
+    };
+    let is_content = matches!(before, Kind::Bang | Kind::Content | Kind::Address);
+    before == Kind::For
+        || is_set && !is_content && value_of_number(source, value).is_ok_and(|value| value != 0)
+        || declares(source, index) && listing_word(source, index) == Kind::Manifest
+}
+
 /// Whether the name at an index is declared there, and not by GLOBAL.
 fn declares_own(source: Source<'_>, index: usize) -> bool {
     declares(source, index) && listing_word(source, index) != Kind::Global
@@ -208,9 +241,7 @@ fn declares_own(source: Source<'_>, index: usize) -> bool {
 /// otherwise than by GLOBAL and never called.
 fn is_own(source: Source<'_>, index: usize) -> bool {
     let count = source.tokens.len();
-    if (0..count).any(|other| is_same_name(source, index, other)
-        && declares_routine(source, other))
-    {
+    if has_routine(source, index) {
         return !source.bytes(index).eq_ignore_ascii_case(b"START");
     }
     (0..count).any(|other| is_same_name(source, index, other) && declares_own(source, other))

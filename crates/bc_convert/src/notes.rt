@@ -46,6 +46,8 @@ pub struct Notes {
     destinations: Vec<usize>,
     blocks: Vec<LateBlock>,
     fresh: usize,
+    /// The index behind the last nest that is too deep.
+    told_until: usize,
 }
 
 impl Notes {
@@ -63,6 +65,7 @@ impl Notes {
             destinations: Vec::new(alloc),
             blocks: Vec::new(alloc),
             fresh: 0,
+            told_until: 0,
         })
     }
 
@@ -140,19 +143,31 @@ impl Notes {
         Ok(whole)
     }
 
-    /// Writes down that what begins at a token can't be converted.
+    /// Writes down that what begins at a token can't be converted. A nest that is too deep is written down once: where it was found
+    /// first.
     pub fn complain(
         &mut self,
         source: Source<'_>,
         index: usize,
         fault: Fault,
     ) -> Result<(), Memory> {
+        if fault == Fault::TooDeep {
+            if index < self.told_until {
+                return Ok(());
+            }
+            self.told_until = nest_end(source, index);
+        }
         self.complaints.push(Complaint {
             start: source.start(index),
             end: source.end(index),
             fault,
         })?;
         Ok(())
+    }
+
+    /// Whether something becomes of a token.
+    pub fn has_changes(&self) -> bool {
+        self.slots.iter().any(|slot| !slot.is_untouched())
     }
 
     /// Writes down that a label stands at an index.
@@ -295,6 +310,19 @@ fn is_plain_gap(gap: &[u8]) -> bool {
 /// Whether a bracket that opens behind an index and in front of another one closes behind that.
 fn is_enclosed(source: Source<'_>, from: usize, index: usize) -> bool {
     (from..index).any(|at| source.kind(at) == Kind::OpenSection && source.partner(at) > index)
+}
+
+/// The index behind the outermost bracket that a token stands in, or behind the token where it stands in none.
+fn nest_end(source: Source<'_>, index: usize) -> usize {
+    let outermost = (0..index).find(|at| source.partner(*at) >= index && opens(source, *at));
+    outermost
+        .map_or(index, |at| source.partner(at))
+        .saturating_add(1)
+}
+
+/// Whether a bracket opens at an index.
+fn opens(source: Source<'_>, index: usize) -> bool {
+    matches!(source.kind(index), Kind::OpenRound | Kind::OpenSection)
 }
 
 /// Whether a token has this spelling.

@@ -1,9 +1,9 @@
 use crate::complaint::Fault;
-use crate::library::is_further_name;
+use crate::formats::gets_header;
 use crate::names::{is_declared, name_change};
 use crate::notes::Notes;
 use crate::numbers::{NumberChange, number_change};
-use crate::options::Options;
+use crate::options::{Header, Options};
 use crate::quoted::{Respelled, inside_respelled};
 use bc_convert_tokens::{Dialect, Kind, Source, reserved, span};
 use bc_word::Memory;
@@ -16,13 +16,13 @@ pub fn respell(
     notes: &mut Notes,
     dialect: Dialect,
     options: Options<'_>,
+    header: Header,
 ) -> Result<(), Memory> {
-    let needs_further = needs_further(source);
     for index in 0..source.tokens.len() {
         match source.kind(index) {
             Kind::Name => respell_name(source, notes, index, dialect, options)?,
             Kind::Number => respell_number(source, notes, index)?,
-            Kind::Text => respell_string(source, notes, index, needs_further)?,
+            Kind::Text => respell_string(source, notes, index, header)?,
             Kind::Character => respell_character(source, notes, index)?,
             Kind::Floating => notes.complain(source, index, Fault::Floating)?,
             Kind::Foreign => notes.complain(source, index, foreign_fault(source.bytes(index)))?,
@@ -112,15 +112,14 @@ fn respell_string(
     source: Source<'_>,
     notes: &mut Notes,
     index: usize,
-    needs_further: bool,
+    header: Header,
 ) -> Result<(), Memory> {
     if gets_header(source, index) {
-        let name: &[u8] = if needs_further {
-            b"\"EXTHDR\""
-        } else {
-            b"\"LIBHDR\""
+        let name: &[u8] = match header {
+            Header::Further => b"\"EXTHDR\"",
+            Header::Basic => b"\"LIBHDR\"",
         };
-        return notes.replace(index, name);
+        return replace_if_other(source, notes, index, name);
     }
     match inside_respelled(notes.alloc(), inside(source.bytes(index)))? {
         Err(fault) => notes.complain(source, index, fault),
@@ -214,75 +213,4 @@ fn respell_section(
         whole.push(if *byte == b'_' { b'.' } else { *byte })?;
     }
     replace_if_other(source, notes, index, whole.as_slice())
-}
-
-/// Whether a string stands behind GET and names the library's header, in either case and with any ending.
-fn gets_header(source: Source<'_>, index: usize) -> bool {
-    let name = inside(source.bytes(index));
-    let stem = match name.iter().position(|byte| *byte == b'.') {
-        Some(dot) => span(name, 0, dot),
-        None => name,
-    };
-    index > 0
-        && source.kind(index - 1) == Kind::Get
-        && (stem.eq_ignore_ascii_case(b"LIBHDR") || stem == b"EXTHDR".as_slice())
-}
-
-/// Whether a format has a letter that BLIB's WRITEF does not know.
-fn has_further_letter(format: &[u8]) -> bool {
-    format.windows(2).any(|pair| {
-        matches!(
-            pair,
-            [
-                b'%',
-                b'I' | b'i'
-                    | b'O'
-                    | b'o'
-                    | b'X'
-                    | b'x'
-                    | b'T'
-                    | b't'
-                    | b'U'
-                    | b'u'
-                    | b'P'
-                    | b'p'
-                    | b'n'
-                    | b's'
-                    | b'c'
-            ]
-        )
-    })
-}
-
-/// Whether a string is the format of a WRITEF with such a letter.
-fn is_further_format(source: Source<'_>, index: usize) -> bool {
-    index > 1
-        && source.kind(index) == Kind::Text
-        && source.kind(index - 1) == Kind::OpenRound
-        && source.bytes(index - 2).eq_ignore_ascii_case(b"WRITEF")
-        && has_further_letter(source.bytes(index))
-}
-
-/// Whether a name is one that EXTHDR alone has, and no declaration of the source.
-fn needs_name(source: Source<'_>, index: usize) -> bool {
-    source.kind(index) == Kind::Name
-        && is_further_name(source.bytes(index))
-        && !is_declared(source, index)
-}
-
-/// Whether the library's header is all that the source gets.
-pub fn gets_header_alone(source: Source<'_>) -> bool {
-    (1..source.tokens.len()).all(|index| source.kind(index - 1) != Kind::Get
-        || gets_header(source, index))
-}
-
-/// Whether a source needs EXTHDR: for a format, or for a name, where it gets no other header that may declare it. One that
-/// gets it keeps it.
-fn needs_further(source: Source<'_>) -> bool {
-    let is_alone = gets_header_alone(source);
-    (0..source.tokens.len()).any(|index| {
-        source.bytes(index) == b"\"EXTHDR\"".as_slice()
-            || is_further_format(source, index)
-            || is_alone && needs_name(source, index)
-    })
 }

@@ -5,6 +5,7 @@ use crate::commands::{put_byte_of, put_compound};
 use crate::complaint::Fault;
 use crate::declarations::{Values, continued, put_entry, put_values};
 use crate::magnitudes::{put_absolute, tell_absolutes};
+use crate::names::is_number;
 use crate::notes::{LateBlock, Notes};
 use crate::operands::{Operand, finish, is_adjacent, is_compound, is_plain, level_at};
 use crate::ranges::{case_constant, cases_between, replace_apart};
@@ -603,6 +604,16 @@ fn is_star_subscript(walk: Walk<'_>, index: usize) -> bool {
         && is_adjacent(source, index)
 }
 
+/// Whether what was read from an index up to another one is a number: a constant, or a name that is used as no vector's.
+fn is_number_alone(source: Source<'_>, at: usize, end: usize) -> bool {
+    let is_one = end == at.saturating_add(1);
+    match source.kind(at) {
+        Kind::Number | Kind::Character | Kind::Constant => is_one,
+        Kind::Name => is_one && is_number(source, at),
+        _ => false,
+    }
+}
+
 /// The calls and subscripts behind what was read from an index up to another one.
 #[cycle(walk)]
 fn selected(
@@ -628,6 +639,9 @@ fn selected(
             finish(notes, at, whole)?;
             whole = Operand::plain(bracket(walk.deeper(), notes, here, to)?);
         } else if calls_only {
+            break;
+        } else if is_star_subscript(walk, here) && is_number_alone(source, at, here) {
+            notes.complain(source, here, Fault::StarProduct)?;
             break;
         } else if is_star_subscript(walk, here) {
             finish(notes, at, whole)?;

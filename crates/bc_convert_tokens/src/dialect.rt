@@ -30,6 +30,16 @@ impl Dialect {
             has_star_subscripts: assigns_to_star(source),
         }
     }
+
+    /// This dialect of a source of a program in which another source has the other one. How the library's names are written, and
+    /// what `*(` is, is so in all sources of a program; which letters its reserved words have each source says for itself.
+    pub fn among(self, other: Dialect) -> Dialect {
+        Dialect {
+            has_small_words: self.has_small_words,
+            has_small_library: self.has_small_library || other.has_small_library,
+            has_star_subscripts: self.has_star_subscripts || other.has_star_subscripts,
+        }
+    }
 }
 
 /// Whether the first word is a reserved one in small letters.

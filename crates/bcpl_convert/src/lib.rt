@@ -1,7 +1,9 @@
-//! The command `convert`: an old source is read, converted and written, and what is to be done by hand is told.
+//! The command `convert`: old sources are read, converted and written, and what is to be done by hand is told.
 #![tactic(auto)]
 
 mod command;
+mod job;
+mod sparing;
 mod told;
 
 pub use command::convert_file;

@@ -28,8 +28,22 @@ fn add_complaint(
     Ok(())
 }
 
-/// The lines on what can't be converted in the text of the file of this path: for each the place and what is wrong, the line of the
+/// Adds the lines on what can't be converted in the text of the file of this path: for each the place and what is wrong, the line of the
 /// text with a mark, and what to do by hand. Memory is answered where a growth was refused.
+pub fn add_told(
+    alloc: Global,
+    lines: &mut String,
+    path: &str,
+    text: &[u8],
+    complaints: &[Complaint],
+) -> Result<(), Memory> {
+    for complaint in complaints {
+        add_complaint(alloc, lines, path, text, *complaint)?;
+    }
+    Ok(())
+}
+
+/// These lines alone.
 pub fn told_of(
     alloc: Global,
     path: &str,
@@ -37,8 +51,6 @@ pub fn told_of(
     complaints: &[Complaint],
 ) -> Result<String, Memory> {
     let mut lines = String::new(alloc);
-    for complaint in complaints {
-        add_complaint(alloc, &mut lines, path, text, *complaint)?;
-    }
+    add_told(alloc, &mut lines, path, text, complaints)?;
     Ok(lines)
 }

@@ -168,7 +168,7 @@ pub enum Order<'a> {
     Interpret(InterpretOrder<'a>),
     /// To check a certificate.
     Check(CheckOrder<'a>),
-    /// To convert an old source.
+    /// To convert old sources.
     Convert(ConvertOrder<'a>),
 }
 
@@ -201,7 +201,7 @@ fn stream_option<'a>(alloc: Global, id: &'a str, help: &'a str) -> Arg<'a> {
 }
 
 /// The option that says when places are told.
-fn places_option<'a>(alloc: Global) -> Arg<'a> {
+pub(crate) fn places_option<'a>(alloc: Global) -> Arg<'a> {
     Arg::new(alloc, "places")
         .long("places")
         .value_name("WHEN")
@@ -544,7 +544,7 @@ fn program<'a>(alloc: Global) -> Result<Command<'a>, AllocError> {
 }
 
 /// The values of an argument, in their order.
-fn values<'a>(
+pub(crate) fn values<'a>(
     alloc: Global,
     matches: &ArgMatches<'a>,
     id: &str,
@@ -574,7 +574,7 @@ fn bindings<'a>(
 }
 
 /// When places are told, by the words; a word that is none of the three asks for nothing.
-fn when_told<'a>(matches: &ArgMatches<'a>) -> Result<Places, BadWords<'a>> {
+pub(crate) fn when_told<'a>(matches: &ArgMatches<'a>) -> Result<Places, BadWords<'a>> {
     match matches.get_str("places") {
         None | Some("auto") => Ok(Places::OnTerminal),
         Some("always") => Ok(Places::Always),
@@ -705,7 +705,7 @@ pub fn wanted<'a>(alloc: Global, words: &'a [&'a str]) -> Result<Order<'a>, BadW
             texts: values(alloc, matches, "TEXT")?,
             places: when_told(matches)?,
         })),
-        Some(("convert", matches)) => Ok(Order::Convert(convert_order(matches))),
+        Some(("convert", matches)) => Ok(Order::Convert(convert_order(alloc, matches)?)),
         Some(("explain", matches)) => Ok(Order::Explain(explain_order(alloc, matches)?)),
         Some(("list", matches)) => Ok(Order::List(list_order(alloc, matches)?)),
         Some(("show", matches)) => Ok(Order::Show(show_order(alloc, matches)?)),

@@ -9,4 +9,4 @@ pub use arguments::{
     AssembleOrder, BadWords, Binding, BuildOrder, CheckOrder, ExplainOrder, InterpretOrder,
     Library, ListOrder, Listing, Order, Places, RunOrder, ShowOrder, Sources, WatchOrder, wanted,
 };
-pub use converting::{ConvertOrder, ConvertTo};
+pub use converting::{ConvertHeader, ConvertOrder, ConvertTo};

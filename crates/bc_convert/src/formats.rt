@@ -1,0 +1,164 @@
+use crate::library::further_bit;
+use crate::names::{has_routine, renamed};
+use crate::options::Renaming;
+use crate::spelling::inside;
+use bc_convert_tokens::{Kind, Source, span};
+
+/// How a call of WRITEF hands over its format.
+#[derive(Clone, Copy)]
+pub enum Format {
+    /// As a string, in a call that LIBHDR's WRITEF serves.
+    Plain,
+    /// As a string with letters, or with more arguments behind it, that EXTHDR's WRITEF alone serves.
+    Further,
+    /// Otherwise than as a string.
+    Hidden,
+}
+
+/// Whether a word, once names of an old library have those that they have here, is WRITEF in either case.
+fn is_writef(word: &[u8], library: &[Renaming<'_>]) -> bool {
+    match renamed(library, word) {
+        Some(new) => new == b"WRITEF".as_slice(),
+        None => word.eq_ignore_ascii_case(b"WRITEF"),
+    }
+}
+
+/// The format of the call of WRITEF whose name stands at an index; `None` where no such call stands there, or where the source declares
+/// a routine of that name.
+pub fn format_at(source: Source<'_>, index: usize, library: &[Renaming<'_>]) -> Option<Format> {
+    let opening = index.saturating_add(1);
+    let format = index.saturating_add(2);
+    let is_call = source.kind(index) == Kind::Name
+        && source.kind(opening) == Kind::OpenRound
+        && source.kind(format) != Kind::CloseRound
+        && is_writef(source.bytes(index), library)
+        && !has_routine(source, index);
+    if !is_call {
+        return None;
+    }
+    match seen(source, opening) {
+        _ if arguments(source, opening) > 5 => Some(Format::Further),
+        Some(true) => Some(Format::Further),
+        Some(false) => Some(Format::Plain),
+        None => Some(Format::Hidden),
+    }
+}
+
+/// Whether the format behind the bracket at an index wants EXTHDR, where it is a string or a choice between strings; `None` where it is
+/// neither.
+fn seen(source: Source<'_>, opening: usize) -> Option<bool> {
+    let format = opening.saturating_add(1);
+    if source.kind(format) == Kind::Text {
+        return Some(is_further_string(source, format));
+    }
+    let mut is_further = None;
+    let mut depth: usize = 0;
+    let mut waiting: usize = 0;
+    for index in format..source.partner(opening) {
+        let kind = source.kind(index);
+        match kind {
+            Kind::OpenRound | Kind::OpenSection => depth = depth.saturating_add(1),
+            Kind::CloseRound | Kind::CloseSection => depth = depth.saturating_sub(1),
+            Kind::Comma if depth == 0 && waiting == 0 => return is_further,
+            Kind::Arrow | Kind::Comma if depth == 0 => {
+                let string = index.saturating_add(1);
+                if source.kind(string) != Kind::Text {
+                    return None;
+                }
+                is_further = Some(is_further == Some(true) || is_further_string(source, string));
+                waiting = if kind == Kind::Arrow {
+                    waiting.saturating_add(1)
+                } else {
+                    waiting.saturating_sub(1)
+                };
+            }
+            _ => {}
+        }
+    }
+    is_further
+}
+
+/// The bytes of the string at an index; none where none stands there.
+fn text_at(source: Source<'_>, index: usize) -> &[u8] {
+    match source.kind(index) {
+        Kind::Text => source.bytes(index),
+        _ => &[],
+    }
+}
+
+/// How many arguments stand behind the bracket at an index: a comma in no further bracket parts two, but for those of a choice.
+fn arguments(source: Source<'_>, opening: usize) -> usize {
+    let mut count: usize = 1;
+    let mut depth: usize = 0;
+    for index in opening.saturating_add(1)..source.partner(opening) {
+        match source.kind(index) {
+            Kind::OpenRound | Kind::OpenSection => depth = depth.saturating_add(1),
+            Kind::CloseRound | Kind::CloseSection => depth = depth.saturating_sub(1),
+            Kind::Comma if depth == 0 => count = count.saturating_add(1),
+            Kind::Arrow if depth == 0 => count = count.saturating_sub(1),
+            _ => {}
+        }
+    }
+    count
+}
+
+/// Whether a format has a letter that BLIB's WRITEF does not know.
+fn has_further_letter(format: &[u8]) -> bool {
+    format.windows(2).any(|pair| {
+        matches!(
+            pair,
+            [
+                b'%',
+                b'I' | b'i'
+                    | b'O'
+                    | b'o'
+                    | b'X'
+                    | b'x'
+                    | b'T'
+                    | b't'
+                    | b'U'
+                    | b'u'
+                    | b'P'
+                    | b'p'
+                    | b'n'
+                    | b's'
+                    | b'c'
+            ]
+        )
+    })
+}
+
+/// Whether a string stands at an index which, as a format, has such a letter.
+pub fn is_further_string(source: Source<'_>, index: usize) -> bool {
+    has_further_letter(text_at(source, index))
+}
+
+/// The bit of the name at an index, once names of an old library have those that they have here, if EXTHDR alone has it; else 0.
+pub fn bit_at(source: Source<'_>, index: usize, library: &[Renaming<'_>]) -> u32 {
+    let word = source.bytes(index);
+    if source.kind(index) != Kind::Name {
+        return 0;
+    }
+    match renamed(library, word) {
+        Some(new) => further_bit(new),
+        None => further_bit(word),
+    }
+}
+
+/// Whether a string stands behind GET and names the library's header, in either case and with any ending.
+pub fn gets_header(source: Source<'_>, index: usize) -> bool {
+    let name = inside(source.bytes(index));
+    let stem = match name.iter().position(|byte| *byte == b'.') {
+        Some(dot) => span(name, 0, dot),
+        None => name,
+    };
+    index > 0
+        && source.kind(index - 1) == Kind::Get
+        && (stem.eq_ignore_ascii_case(b"LIBHDR") || stem == b"EXTHDR".as_slice())
+}
+
+/// Whether the library's header is all that the source gets.
+pub fn gets_header_alone(source: Source<'_>) -> bool {
+    (1..source.tokens.len()).all(|index| source.kind(index - 1) != Kind::Get
+        || gets_header(source, index))
+}
