@@ -8,7 +8,7 @@ use bcpl_reports::{Text, against_lines, check_lines};
 use bcpl_words::CheckOrder;
 use std::alloc::Global;
 use std::fs;
-use std::io::{BufReader, Write};
+use std::io::{BufReader, Read, Write};
 use std::rt::Files;
 
 /// The failure of a certificate, with what is told of its place; the certificate is read once more for that.
@@ -31,6 +31,23 @@ fn told_of_certificate<F: Files>(
     }
 }
 
+/// The failure of a certificate that can't be read to its end, with the reason: that which reading its first byte has, or its size.
+fn unread<F: Files>(rt: &F, alloc: Global, path: &str) -> Failure {
+    let mut first = [0u8; 1];
+    let read = match fs::open(rt, path) {
+        Ok(mut file) => file.read(&mut first),
+        Err(error) => Err(error),
+    };
+    match read {
+        Ok(_) => Failure::file_since(
+            alloc,
+            path,
+            "reading it failed on the way, or it has more than 1073741824 bytes",
+        ),
+        Err(error) => Failure::io(alloc, &error, path),
+    }
+}
+
 /// What the certificate of these words says.
 pub fn verdict_of<F: Files>(
     rt: &F,
@@ -48,7 +65,7 @@ pub fn verdict_of<F: Files>(
     };
     match check(alloc, reader) {
         Ok(verdict) => Ok(verdict),
-        Err(CheckFault::Read) => Err(Failure::file(alloc, path)),
+        Err(CheckFault::Read) => Err(unread(rt, alloc, path)),
         Err(fault) => {
             let failure = Failure::new(Cause::Check(fault));
             Err(if shows {

@@ -8,6 +8,7 @@ ghost use Rattle.bcpl_faults.specs.declared.failure.Cause.TheVariants as causes;
 use crate::checking::check_certificate;
 use crate::compiling::compile;
 use crate::devices::{Sink, Source};
+use crate::hinting::{Taken, line_on_words, with_hints};
 use crate::interpreting::{Standards, interpret_files};
 use crate::listing::list;
 use crate::loading::{LinkedProgram, all_contents, explained, linked, standard_text, texts_of};
@@ -21,10 +22,12 @@ use bc_machine_defs::End;
 use bc_word::{Memory, Word};
 use bcpl_convert::convert_file;
 use bcpl_faults::{Cause, Failure};
+use bcpl_files::{Clean, Wanted};
 use bcpl_reports::{Stop, Text, ended_lines, stream_lines};
 use bcpl_trace::{Nowhere, Watch, profile, run_watched};
 use bcpl_words::{
-    AssembleOrder, BadWords, Binding, BuildOrder, Order, Places, RunOrder, WatchOrder, wanted,
+    AssembleOrder, BadWords, Binding, BuildOrder, Order, Places, RunOrder, WatchOrder, places_of,
+    wanted,
 };
 use std::alloc::Global;
 use std::io::{BufReader, BufWriter, Read, Write};
@@ -331,7 +334,7 @@ fn assemble<F: Files, O: Write + Drop>(
 /// Tells a failure: its line, and where places are told the further ones.
 fn tell<E: Write + Drop>(failure: &Failure, shows: bool, err: &mut E) -> io::Result<()> {
     writeln!(err, "bcpl: {failure}")?;
-    if shows || failure.is_told_always() {
+    if shows {
         err.write_all(failure.told().as_bytes())?;
     }
     err.flush()
@@ -361,7 +364,7 @@ fn refused<O: Write + Drop, E: Write + Drop>(
 {
     match bad {
         BadWords::Memory => status(Err(Failure::new(Cause::Memory)), false, err),
-        BadWords::Option(word) => {
+        BadWords::Option { word, .. } => {
             let _ = writeln!(err, "bcpl: option {word}");
             let _ = err.flush();
             3
@@ -413,6 +416,16 @@ fn are_told(places: Places, is_terminal: bool) -> bool {
     }
 }
 
+/// Whether further lines on what a command came to are told: those that are half of its answer wherever standard error goes, unless the
+/// words say never.
+fn are_told_of(done: &Result<(), Failure>, places: Places, is_terminal: bool) -> bool {
+    let is_answer = match done {
+        Ok(()) => false,
+        Err(failure) => failure.is_told_always(),
+    };
+    are_told(places, is_terminal || is_answer)
+}
+
 /// Builds, and tells of what there is to warn of.
 fn build_and_warn<F: Files, O: Write + Drop, E: Write + Drop>(
     rt: &F,
@@ -425,7 +438,9 @@ fn build_and_warn<F: Files, O: Write + Drop, E: Write + Drop>(
     ensures { result ≤ 3 }
 {
     let shows = are_told(order.places, is_terminal);
-    match compile(rt, alloc, order, shows, out) {
+    let taken = Taken::new(Wanted::Source, order.sources.files.as_slice(), shows);
+    let done = compile(rt, alloc, order, shows, out);
+    match with_hints(rt, alloc, done, taken) {
         Ok(warnings) => {
             let _ = err.write_all(warnings.as_str().as_bytes());
             let _ = err.flush();
@@ -449,12 +464,22 @@ pub fn command_on<'a, F: Files, R: Read + Drop, O: Write + Drop, E: Write + Drop
     let Standard {
         input,
         mut out,
-        mut err,
+        err,
         terminals,
     } = standard;
+    let mut err = Clean::new(err, terminals.err);
     let shows = terminals.err;
     match wanted(alloc, words) {
-        Err(bad) => refused(alloc, &bad, &mut out, &mut err),
+        Err(bad) => {
+            let status = refused(alloc, &bad, &mut out, &mut err);
+            if are_told(places_of(words), shows)
+                && let Ok(line) = line_on_words(rt, alloc, words, &bad)
+            {
+                let _ = err.write_all(line.as_str().as_bytes());
+                let _ = err.flush();
+            }
+            status
+        }
         Ok(Order::RunInput) => {
             if terminals.input && terminals.err {
                 let _ = err.write_all(WAITING.as_bytes());
@@ -470,7 +495,9 @@ pub fn command_on<'a, F: Files, R: Read + Drop, O: Write + Drop, E: Write + Drop
         }
         Ok(Order::Assemble(order)) => {
             let shows = are_told(order.places, shows);
-            status(assemble(rt, alloc, &order, shows, out), shows, &mut err)
+            let done = assemble(rt, alloc, &order, shows, out);
+            let taken = Taken::new(Wanted::Text, order.texts.as_slice(), shows);
+            status(with_hints(rt, alloc, done, taken), shows, &mut err)
         }
         Ok(Order::Run(order)) => {
             let shows = are_told(order.places, shows);
@@ -480,44 +507,57 @@ pub fn command_on<'a, F: Files, R: Read + Drop, O: Write + Drop, E: Write + Drop
                 is_terminal: terminals.out,
                 shows,
             };
-            status(run(rt, alloc, &order, ends), shows, &mut err)
+            let done = run(rt, alloc, &order, ends);
+            let taken = Taken::new(Wanted::Text, order.texts.as_slice(), shows);
+            status(with_hints(rt, alloc, done, taken), shows, &mut err)
         }
         Ok(Order::Interpret(order)) => {
             let shows = are_told(order.places, shows);
-            let tells = order.places != Places::Never;
             let standards = Standards {
                 input,
                 out,
                 is_terminal: terminals.out,
             };
             let done = interpret_files(rt, alloc, &order, standards, shows);
+            let taken = Taken::new(Wanted::Source, order.sources.files.as_slice(), shows);
+            let done = with_hints(rt, alloc, done, taken);
+            let tells = are_told_of(&done, order.places, terminals.err);
             status(done, tells, &mut err)
         }
         Ok(Order::Build(order)) => build_and_warn(rt, alloc, &order, shows, &mut out, &mut err),
-        Ok(Order::Convert(order)) => status(
-            convert_file(rt, alloc, &order, &mut out),
-            shows,
-            &mut err,
-        ),
+        Ok(Order::Convert(order)) => {
+            let done = convert_file(rt, alloc, &order, &mut out);
+            let tells = are_told_of(&done, order.places, shows);
+            status(done, tells, &mut err)
+        }
         Ok(Order::Show(order)) => {
             let shows = are_told(order.places, shows);
-            status(show(rt, alloc, &order, shows, &mut out), shows, &mut err)
+            let mut out = Clean::new(out, terminals.out);
+            let done = show(rt, alloc, &order, shows, &mut out);
+            let taken = Taken::new(Wanted::Source, order.sources.files.as_slice(), shows);
+            status(with_hints(rt, alloc, done, taken), shows, &mut err)
         }
         Ok(Order::List(order)) => {
             let shows = are_told(order.places, shows);
-            status(list(rt, alloc, &order, shows, &mut out), shows, &mut err)
+            let mut out = Clean::new(out, terminals.out);
+            let done = list(rt, alloc, &order, shows, &mut out);
+            let taken = Taken::new(Wanted::Text, order.texts.as_slice(), shows);
+            status(with_hints(rt, alloc, done, taken), shows, &mut err)
         }
         Ok(Order::Explain(order)) => {
             let shows = are_told(order.places, shows);
-            status(explain(rt, alloc, &order, shows, &mut out), shows, &mut err)
+            let done = explain(rt, alloc, &order, shows, &mut out);
+            let taken = Taken::new(Wanted::Source, order.sources.files.as_slice(), shows);
+            status(with_hints(rt, alloc, done, taken), shows, &mut err)
         }
         Ok(Order::Check(order)) => {
             let shows = are_told(order.places, shows);
-            status(
-                check_certificate(rt, alloc, &order, shows, &mut out),
-                shows,
-                &mut err,
-            )
+            let done = check_certificate(rt, alloc, &order, shows, &mut out);
+            let taken = Taken::new(Wanted::Text, order.texts.as_slice(), shows);
+            let done = with_hints(rt, alloc, done, taken);
+            let certificate = [order.certificate];
+            let taken = Taken::new(Wanted::Certificate, &certificate, shows);
+            status(with_hints(rt, alloc, done, taken), shows, &mut err)
         }
     }
 }

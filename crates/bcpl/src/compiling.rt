@@ -186,39 +186,52 @@ fn built<F: Files>(
     }
 }
 
-/// Writes segments to the file of this path, which has them all or stays as it was.
-fn write_segments<F: Files>(
+/// The file of this path with these segments written to it, which still has to be finished; given up where that fails.
+fn written_segments<W: Write + Drop, F: Files<File = W>>(
     rt: &F,
     alloc: Global,
     path: &str,
     segments: &[Segment],
-) -> Result<(), Failure> {
+) -> Result<Written<W>, Failure> {
     let mut written = Written::begin(rt, alloc, path)?;
     for segment in segments {
-        match print(segment, written.out()) {
-            Ok(()) => {}
-            Err(fault) => {
-                written.abandon(rt);
-                return Err(match fault {
-                    TextError::Write => Failure::file(alloc, path),
-                    fault => Failure::from(fault),
-                });
-            }
+        if let Err(fault) = print(segment, written.out()) {
+            written.abandon(rt);
+            return Err(match fault {
+                TextError::Write => Failure::file(alloc, path),
+                fault => Failure::from(fault),
+            });
         }
     }
-    written.finish(rt, alloc, path)
+    handed_on(rt, alloc, path, written)
 }
 
-/// Writes the certificate of a program to the file of this path, which has all of it or stays as it was.
-fn write_certificate<F: Files>(
+/// The file of this path with all bytes handed on, so that only its name is missing; given up where that fails.
+fn handed_on<W: Write + Drop, F: Files<File = W>>(
+    rt: &F,
+    alloc: Global,
+    path: &str,
+    mut written: Written<W>,
+) -> Result<Written<W>, Failure> {
+    match written.hand_on(alloc, path) {
+        Ok(()) => Ok(written),
+        Err(failure) => {
+            written.abandon(rt);
+            Err(failure)
+        }
+    }
+}
+
+/// The file of this path with the certificate of a program written to it, which still has to be finished; given up where that fails.
+fn written_certificate<W: Write + Drop, F: Files<File = W>>(
     rt: &F,
     alloc: Global,
     path: &str,
     built: &Built,
-) -> Result<(), Failure> {
+) -> Result<Written<W>, Failure> {
     let mut written = Written::begin(rt, alloc, path)?;
     match write_cert(alloc, built.entries.as_slice(), written.out()) {
-        Ok(()) => written.finish(rt, alloc, path),
+        Ok(()) => handed_on(rt, alloc, path, written),
         Err(fault) => {
             written.abandon(rt);
             Err(match fault {
@@ -269,21 +282,35 @@ pub fn spare<F: Files>(rt: &F, alloc: Global, path: &str, source: &str) -> Resul
     }
 }
 
-/// Writes the files that the words ask for.
+/// Writes the files that the words ask for: where the certificate can't be written, the text stays as it was, too.
 fn write_files<F: Files>(
     rt: &F,
     alloc: Global,
     order: &BuildOrder<'_>,
     built: &Built,
 ) -> Result<(), Failure> {
-    write_segments(rt, alloc, order.out, built.segments.as_slice())?;
-    match order.certificate {
-        Some(path) => {
-            // two names of a file that wasn't there before
-            spare_text(rt, alloc, path, order.out)?;
-            write_certificate(rt, alloc, path, built)
+    let text = written_segments(rt, alloc, order.out, built.segments.as_slice())?;
+    let Some(path) = order.certificate else {
+        return text.finish(rt, alloc, order.out);
+    };
+    let certificate = match written_certificate(rt, alloc, path, built) {
+        Ok(certificate) => certificate,
+        Err(failure) => {
+            text.abandon(rt);
+            return Err(failure);
         }
-        None => Ok(()),
+    };
+    let mut finished = text.finish(rt, alloc, order.out);
+    if finished.is_ok() {
+        // two names of a file that wasn't there before
+        finished = spare_text(rt, alloc, path, order.out);
+    }
+    match finished {
+        Ok(()) => certificate.finish(rt, alloc, path),
+        Err(failure) => {
+            certificate.abandon(rt);
+            Err(failure)
+        }
     }
 }
 

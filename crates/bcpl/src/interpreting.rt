@@ -16,7 +16,7 @@ use bc_machine_defs::End;
 use bc_word::Memory;
 use bcpl_faults::{Cause, Failure, Wild};
 use bcpl_messages::{Message, Named, told_lines};
-use bcpl_wild::{Met, placed_message, wild_message};
+use bcpl_wild::{Met, Stand, placed_message, wild_message};
 use bcpl_words::InterpretOrder;
 use std::alloc::Global;
 use std::io::{BufReader, BufWriter, Read, Write};
@@ -30,8 +30,8 @@ pub struct Standards<R: Read + Drop, O: Write + Drop> {
     pub is_terminal: bool,
 }
 
-/// Runs sources by what they mean. `shows` says whether the place of a refusal is told; that of a wild access is told as `tells_wild`
-/// says.
+/// Runs sources by what they mean. `shows` says whether the place of a refusal is told; that of an end of the run other than finishing
+/// is told in any case.
 pub fn interpret_files<F: Files, R: Read + Drop, O: Write + Drop>(
     rt: &F,
     alloc: Global,
@@ -222,7 +222,10 @@ fn ended(
     run: &Interpretation,
     sentence: &str,
 ) -> Result<Message, Memory> {
-    let standings = run.interpreted.trail.standings.as_slice();
+    let stand = Stand {
+        standings: run.interpreted.trail.standings.as_slice(),
+        calls: run.interpreted.trail.calls,
+    };
     let sentence = String::from_str(alloc, sentence)?;
-    placed_message(alloc, &program_of(program, run), standings, sentence)
+    placed_message(alloc, &program_of(program, run), stand, sentence)
 }

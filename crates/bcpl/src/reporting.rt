@@ -58,7 +58,7 @@ fn seen_by_compiler<'s>(
 }
 
 /// The entries of a segment.
-fn entries_of(entries: &[Entry], segment: usize) -> &[Entry] {
+pub fn entries_of(entries: &[Entry], segment: usize) -> &[Entry] {
     let wanted = segment as u64;
     let from = entries.partition_point(|entry| entry.segment < wanted);
     let to = entries.partition_point(|entry| entry.segment <= wanted);

@@ -3,25 +3,26 @@
 ghost use Rattle.std.specs.Prelude.{◌≤◌, length, IfOk};
 ghost use Rattle.bc_lex_tokens.specs.Token.{lexemes_of};
 
-use crate::compiling::{given_to_compiler, library_sources, paths_of, sources_of};
+use crate::compiling::{given_to_compiler, library_sources, mains_of, paths_of, sources_of};
 use crate::explaining::{Program, explained};
+use crate::reporting::entries_of;
 use bc_build::{BuildError, Built, build};
 use bc_lex::{Source, Token, lex};
 use bc_parse::{ParseError, Section, parse, spell};
-use bc_rules_defs::Entry;
 use bc_run::primitives;
 use bc_scope::{Core, resolve};
+use bc_text_items::Segment;
 use bcpl_faults::{Cause, Failure};
 use bcpl_messages::Named;
 use bcpl_scopes::{Scopes, Setter, scope_listing};
 use bcpl_show::{Files, code_listing, token_listing, tree_listing};
-use bcpl_words::{Library, Listing, ShowOrder, Sources};
+use bcpl_words::{Listing, ShowOrder, Sources};
 use std::alloc::Global;
 use std::io::Write;
 use std::rt::Files as Access;
 
-/// The index of BLIB among the sources.
-const BLIB_SOURCE: usize = 1;
+/// What the segments of the libraries are called, in their order.
+const LIBRARIES: [&str; 2] = ["BLIB", "EXTLIB"];
 
 /// What is listed of which source.
 #[derive(Clone, Copy)]
@@ -29,6 +30,9 @@ struct Shown<'a, 's> {
     files: Files<'a, 's>,
     /// The index of the source.
     main: usize,
+    /// How many sources the library has, and how many files of `--get` stand behind it.
+    library: usize,
+    gets: usize,
     /// Whether the place of a refusal is told.
     shows: bool,
 }
@@ -95,15 +99,13 @@ impl<'a, 's> Shown<'a, 's> {
         Ok(tree_listing(alloc, self.files, self.main, tokens, kinds.as_slice())?)
     }
 
-    /// The program of BLIB and the source.
+    /// The program of the library and the source.
     fn built(&self, alloc: Global) -> Result<Built, Failure> {
-        let mains = [BLIB_SOURCE, self.main];
-        if BLIB_SOURCE >= self.files.sources.len() || self.main >= self.files.sources.len() {
-            return Err(Failure::new(Cause::Memory));
-        }
-        match build(alloc, self.files.sources, &mains) {
+        let sources = self.files.sources;
+        let mains = mains_of(alloc, self.library, self.gets, sources.len())?;
+        match build(alloc, sources, mains.as_slice()) {
             Ok(built) => Ok(built),
-            Err(fault) => Err(self.refused(alloc, &mains, fault)),
+            Err(fault) => Err(self.refused(alloc, mains.as_slice(), fault)),
         }
     }
 
@@ -133,27 +135,24 @@ impl<'a, 's> Shown<'a, 's> {
         core: &Core,
     ) -> Result<Vec<u8>, Failure> {
         let primitives = primitives(alloc)?;
-        let library = match built.segments.first() {
-            Some(segment) => segment.items(),
-            None => &[],
-        };
-        let setters = [
-            Setter {
-                name: "the primitives",
-                items: primitives.items(),
-            },
-            Setter {
-                name: "BLIB",
-                items: library,
-            },
-        ];
+        let mut setters = Vec::new(alloc);
+        setters.push(Setter {
+            name: "the primitives",
+            items: primitives.items(),
+        })?;
+        for (name, segment) in LIBRARIES.iter().zip(libraries(built)) {
+            setters.push(Setter {
+                name: *name,
+                items: segment.items(),
+            })?;
+        }
         let scopes = Scopes {
             files: self.files,
             main: self.main,
             tokens,
             section,
             core,
-            setters: &setters,
+            setters: setters.as_slice(),
         };
         Ok(scope_listing(alloc, scopes)?)
     }
@@ -176,20 +175,20 @@ impl<'a, 's> Shown<'a, 's> {
             section,
             core,
             items: segment.items(),
-            entries: entries_behind(built.entries.as_slice()),
+            entries: entries_of(built.entries.as_slice(), libraries(built).len()),
             first: first_of(built),
         };
         Ok(code_listing(alloc, program)?)
     }
 }
 
-/// The entries of the second segment.
-fn entries_behind(entries: &[Entry]) -> &[Entry] {
-    let first = match entries.iter().position(|entry| entry.segment > 0) {
-        Some(first) => first,
-        None => entries.len(),
-    };
-    entries.get(first..).unwrap_or(&[])
+/// The segments in front of the source's own, which are those of the library.
+fn libraries(built: &Built) -> &[Segment] {
+    let segments = built.segments.as_slice();
+    match segments.split_last() {
+        Some((_, library)) => library,
+        None => segments,
+    }
 }
 
 /// The address at which the segment with this index begins, counted from the primitives' on.
@@ -200,11 +199,11 @@ fn start_of(built: &Built, index: usize) -> u64 {
     }
 }
 
-/// How many words stand in front of the source's segment: the first cells, the primitives, and BLIB's segment.
+/// How many words stand in front of the source's segment: the first cells, the primitives, and the library's segments.
 fn first_of(built: &Built) -> [u64; 3] {
     let primitives = start_of(built, 0);
     let library = start_of(built, 1);
-    let own = start_of(built, 2);
+    let own = start_of(built, built.segments.len());
     [
         primitives,
         library.saturating_sub(primitives),
@@ -212,30 +211,8 @@ fn first_of(built: &Built) -> [u64; 3] {
     ]
 }
 
-/// The sources of the program that is listed.
-fn given<'a>(alloc: Global, order: &ShowOrder<'a>) -> Result<Sources<'a>, Failure> {
-    let mut files = Vec::new(alloc);
-    files.push(order.file)?;
-    Ok(Sources {
-        library: Library::Basic,
-        gets: Vec::from_slice(alloc, order.gets.as_slice())?,
-        files,
-    })
-}
-
-/// The listing of the last of these sources, which stand under these paths.
-fn listed(
-    alloc: Global,
-    sources: &[Source<'_>],
-    paths: &[&str],
-    listing: Listing,
-    shows: bool,
-) -> Result<Vec<u8>, Failure> {
-    let shown = Shown {
-        files: Files { sources, paths },
-        main: sources.len().saturating_sub(1),
-        shows,
-    };
+/// What is listed of a source.
+fn listed(alloc: Global, shown: &Shown<'_, '_>, listing: Listing) -> Result<Vec<u8>, Failure> {
     match listing {
         Listing::Tokens => shown.token_listing(alloc),
         Listing::Tree => shown.tree_listing(alloc),
@@ -255,7 +232,17 @@ fn listing_of<F: Access>(
     let loaded = sources_of(rt, alloc, given)?;
     let sources = given_to_compiler(alloc, library, loaded.as_slice())?;
     let paths = paths_of(alloc, library, given)?;
-    listed(alloc, sources.as_slice(), paths.as_slice(), listing, shows)
+    let shown = Shown {
+        files: Files {
+            sources: sources.as_slice(),
+            paths: paths.as_slice(),
+        },
+        main: sources.len().saturating_sub(1),
+        library,
+        gets: given.gets.len(),
+        shows,
+    };
+    listed(alloc, &shown, listing)
 }
 
 /// Does what `show` asks for. `shows` says whether the place of a refusal is told.
@@ -266,8 +253,7 @@ pub fn show<F: Access, O: Write + Drop>(
     shows: bool,
     out: &mut O,
 ) -> Result<(), Failure> {
-    let given = given(alloc, order)?;
-    let text = listing_of(rt, alloc, &given, order.listing, shows)?;
+    let text = listing_of(rt, alloc, &order.sources, order.listing, shows)?;
     if out.write_all(text.as_slice()).is_ok() && out.flush().is_ok() {
         Ok(())
     } else {

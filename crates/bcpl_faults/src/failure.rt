@@ -71,6 +71,10 @@ pub enum Cause {
     Memory,
 }
 
+/// What is said of a path that is empty, in the place of a reason.
+const NO_PATH: &str =
+    "the path of this file is empty: an option or a word that names a file has nothing in it\n";
+
 impl Failure {
     /// The failure of a cause of which nothing more is told.
     pub fn new(cause: Cause) -> Failure
@@ -99,7 +103,11 @@ impl Failure {
 
     /// That of the file of this path, with the reason.
     pub fn file_since(alloc: Global, path: &str, reason: &str) -> Failure {
-        let told = format!(in alloc; "{path}: {reason}\n");
+        let told = if path.is_empty() {
+            format!(in alloc; "{NO_PATH}")
+        } else {
+            format!(in alloc; "{path}: {reason}\n")
+        };
         match told {
             Ok(told) => Failure::file(alloc, path).with(told),
             Err(_) => Failure::new(Cause::Memory),
@@ -111,8 +119,8 @@ impl Failure {
         if error.kind() == io::ErrorKind::OutOfMemory {
             return Failure::new(Cause::Memory);
         }
-        match format!(in alloc; "{path}: {error}\n") {
-            Ok(told) => Failure::file(alloc, path).with(told),
+        match format!(in alloc; "{error}") {
+            Ok(reason) => Failure::file_since(alloc, path, reason.as_str()),
             Err(_) => Failure::new(Cause::Memory),
         }
     }
@@ -129,7 +137,10 @@ impl Failure {
 
     /// Whether the further lines are told wherever standard error goes: they are half of the answer.
     pub fn is_told_always(&self) -> bool {
-        matches!(&self.cause, Cause::ByHand(_))
+        matches!(
+            &self.cause,
+            Cause::ByHand(_) | Cause::Wild(_) | Cause::TurnsSpent | Cause::Ended(_)
+        )
     }
 
     /// The further lines, each ended by a line break; none where nothing more is told.

@@ -106,6 +106,18 @@ impl<W: Write + Drop> Written<W> {
         &mut self.out
     }
 
+    /// Hands on what is still kept of its bytes, so that `finish` only has to give the file its name.
+    ///
+    /// # Errors
+    ///
+    /// A failure of the file of this path where it can't be written to.
+    pub fn hand_on(&mut self, alloc: Global, path: &str) -> Result<(), Failure> {
+        match self.out.flush() {
+            Ok(()) => Ok(()),
+            Err(error) => Err(Failure::io(alloc, &error, path)),
+        }
+    }
+
     /// Gives the file up: what was written beside it is removed.
     pub fn abandon<F: Files>(self, rt: &F) {
         if let Some(beside) = &self.beside {
@@ -141,6 +153,18 @@ pub fn is_one_file<F: Files>(rt: &F, one: &str, other: &str) -> bool {
         (Ok(one), Ok(other)) => one.dev() == other.dev() && one.ino() == other.ino(),
         _ => one == other,
     }
+}
+
+/// The path among these that leads to a file to which one in front of it leads, too; none where they lead to a file each.
+pub fn named_twice<'a, F: Files>(rt: &F, paths: &[&'a str]) -> Option<&'a str> {
+    for (number, path) in paths.iter().enumerate() {
+        for other in paths.iter().take(number) {
+            if is_one_file(rt, path, other) {
+                return Some(path);
+            }
+        }
+    }
+    None
 }
 
 /// Whether writing to `path` would lose what the file `other` has, or what is written to it: both lead to one file, links followed, which is

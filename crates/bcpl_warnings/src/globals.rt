@@ -1,6 +1,10 @@
-use crate::tokens::{is_at, name_at};
+use crate::declared::{Declarations, Meaning};
+use crate::tokens::{is_at, name_at, symbol_at};
 use bc_lex_tokens::{Symbol, Token, TokenKind};
 use bcpl_reports::library_name;
+
+/// The globals of the library that are no routines of it.
+const NO_ROUTINES: [&[u8]; 3] = [b"START", b"TERMINATOR", b"RESULT2"];
 
 /// The word at whose section the token with this index stands as a declaration's name: the index of the bracket in front of it that is
 /// open.
@@ -18,12 +22,61 @@ fn open_before(tokens: &[Token<'_>], index: usize) -> Option<usize> {
     None
 }
 
+/// The word in front of the open bracket in which the token with this index stands: GLOBAL, where that is a list of globals.
+pub fn list_of(tokens: &[Token<'_>], index: usize) -> Option<Symbol> {
+    let open = open_before(tokens, index)?;
+    symbol_at(tokens, open.checked_sub(1)?)
+}
+
 /// Whether the token with this index is a name in a list of globals.
 fn is_in_list(tokens: &[Token<'_>], index: usize) -> bool {
-    match open_before(tokens, index) {
-        Some(open) => open > 0 && is_at(tokens, open - 1, Symbol::Global),
-        None => false,
+    matches!(list_of(tokens, index), Some(Symbol::Global))
+}
+
+/// Where the token with this index declares a global by a number that its file has under another name already: the number, and that name.
+pub fn number_twice<'s>(
+    tokens: &[Token<'s>],
+    declarations: &Declarations<'s>,
+    index: usize,
+) -> Option<(u16, &'s [u8])> {
+    let token = tokens.get(index)?;
+    let wanted = declarations.number_of(index)?;
+    let earlier = declarations.all.iter().find(|declared| {
+        let is_number = match declared.meaning {
+            Meaning::Global(Some(number)) => number == wanted,
+            _ => false,
+        };
+        let is_same_file = match tokens.get(declared.at) {
+            Some(other) => other.file == token.file,
+            None => false,
+        };
+        is_number && is_same_file && declared.at < index && declared.name != token.text
+    })?;
+    Some((wanted, earlier.name))
+}
+
+/// Where the token with this index assigns to a routine of the library, whose sources are the first `library` ones.
+pub fn is_library_assigned(
+    tokens: &[Token<'_>],
+    declarations: &Declarations<'_>,
+    library: usize,
+    index: usize,
+) -> bool {
+    let Some(name) = name_at(tokens, index) else {
+        return false;
+    };
+    let is_element = index > 0 && is_at(tokens, index - 1, Symbol::Indirection);
+    if !is_at(tokens, index.saturating_add(1), Symbol::Assign) || is_element {
+        return false;
     }
+    let Some((declared, _)) = declarations.global(name) else {
+        return false;
+    };
+    let is_of_library = match tokens.get(declared) {
+        Some(token) => token.file < library,
+        None => false,
+    };
+    is_of_library && !NO_ROUTINES.contains(&name)
 }
 
 /// Where the token with this index declares a global by a number that the library has under another name: the number, and that name.

@@ -1,6 +1,9 @@
 //! What is lawful in a source and likely wrong: a warning is no refusal, and says nothing of what the program does.
 #![tactic(auto)]
 
+mod arguments;
+mod declared;
+mod formats;
 mod globals;
 mod routines;
 mod separated;
@@ -8,6 +11,7 @@ mod starts;
 mod strings;
 mod tokens;
 mod unreachable;
+mod unset;
 mod values;
 mod warning;
 

@@ -1,9 +1,13 @@
-use crate::globals::library_global;
+use crate::arguments::missing_arguments;
+use crate::declared::Declarations;
+use crate::formats::unknown_format;
+use crate::globals::{is_library_assigned, library_global, number_twice};
 use crate::routines::Routines;
 use crate::separated::{Looks, misread};
 use crate::starts::{Likeness, likeness_at};
 use crate::strings::has_backslash;
 use crate::unreachable::unreached;
+use crate::unset::{Settings, unset_global};
 use crate::values::is_used;
 use bc_lex::{Source, lex};
 use bc_lex_tokens::Token;
@@ -57,18 +61,134 @@ fn said_of_line(alloc: Global, looks: Looks, at: usize) -> Result<Said, Memory> 
     })
 }
 
-/// What there is to say of the token with this index.
-fn said_at(
+/// What is known of a main.
+#[derive(Clone, Copy)]
+struct Main<'m, 's> {
+    sources: &'m [Source<'s>],
+    /// How many of the sources are the library's.
+    library: usize,
+    tokens: &'m [Token<'s>],
+    routines: &'m Routines<'s>,
+    declarations: &'m Declarations<'s>,
+    /// What the whole program may set.
+    settings: &'m Settings,
+}
+
+/// What there is to say of a global at the token with this index.
+fn said_of_global(
     alloc: Global,
-    sources: &[Source<'_>],
-    tokens: &[Token<'_>],
-    routines: &Routines<'_>,
-    index: usize,
+    main: &Main<'_, '_>,
+    text: &str,
+    at: usize,
 ) -> Result<Option<Said>, Memory> {
+    let Main {
+        tokens,
+        declarations,
+        ..
+    } = *main;
+    if let Some((number, name)) = library_global(tokens, at) {
+        return Ok(Some(Said {
+            at,
+            sentence: format!(in alloc;
+                "the global {number} is {name} of the library, and here it is named {text}"
+            )?,
+            help: "take a number that the library hasn't: from 100 on all are free",
+        }));
+    }
+    if let Some((number, name)) = number_twice(tokens, declarations, at) {
+        let name = shown(alloc, name)?;
+        return Ok(Some(Said {
+            at,
+            sentence: format!(in alloc;
+                "the global {number} is named {name} in this file already, and here {text}"
+            )?,
+            help: "two names of one number mean one cell; where they shall be two, take another number",
+        }));
+    }
+    if let Some(number) = unset_global(tokens, declarations, main.settings, at) {
+        return Ok(Some(Said {
+            at,
+            sentence: format!(in alloc;
+                "{text} is called here, and nothing in the program sets the global {number}"
+            )?,
+            help: "a routine sets it that is declared while its name means the global: is a file of the program missing?",
+        }));
+    }
+    if is_library_assigned(tokens, declarations, main.library, at) {
+        return Ok(Some(Said {
+            at,
+            sentence: format!(in alloc;
+                "{text} is a routine of the library, and this assignment puts something else in its place"
+            )?,
+            help: "all calls of it are changed, the library's own too; a variable of one's own is declared by LET",
+        }));
+    }
+    Ok(None)
+}
+
+/// What there is to say of a call at the token with this index, or of the format that is handed over there.
+fn said_of_call(
+    alloc: Global,
+    main: &Main<'_, '_>,
+    text: &str,
+    at: usize,
+) -> Result<Option<Said>, Memory> {
+    if let Some(missing) = missing_arguments(main.tokens, main.declarations, at) {
+        let (arguments, parameters) = (missing.arguments, missing.parameters);
+        let one = if arguments == 1 {
+            "argument"
+        } else {
+            "arguments"
+        };
+        let other = if parameters == 1 {
+            "parameter"
+        } else {
+            "parameters"
+        };
+        return Ok(Some(Said {
+            at,
+            sentence: format!(in alloc;
+                "this call hands over {arguments} {one}, and {text} has {parameters} {other}"
+            )?,
+            help: "a parameter for which nothing is handed over has no value",
+        }));
+    }
+    let unknown = unknown_format(main.tokens, main.declarations, main.library, at);
+    if let Some((letter, is_further)) = unknown {
+        let letter = char::from(letter);
+        return Ok(Some(Said {
+            at,
+            sentence: format!(in alloc;
+                "WRITEF doesn't know %{letter}, and writes {letter} in its place"
+            )?,
+            help: if is_further {
+                "it knows %N, %C, %S, %P, %+, %- and %%, and with a width %I, %U, %O, %X and %T, as in %I4"
+            } else {
+                "it knows %N, %C and %S, in capitals; with a width, as in %I4, it is EXTHDR's: --library ext"
+            },
+        }));
+    }
+    Ok(None)
+}
+
+/// What there is to say of the token with this index.
+fn said_at(alloc: Global, main: &Main<'_, '_>, index: usize) -> Result<Option<Said>, Memory> {
+    let Main {
+        sources,
+        tokens,
+        routines,
+        ..
+    } = *main;
     let Some(token) = tokens.get(index) else {
         return Ok(None)
     };
     let text = shown(alloc, token.text)?;
+    if let Some(said) = said_of_global(alloc, main, text.as_str(), index)? {
+        return Ok(Some(said));
+    }
+    if let Some(said) = said_of_call(alloc, main, text.as_str(), index)? {
+        return Ok(Some(said));
+    }
     if is_used(tokens, routines, index) {
         return Ok(Some(Said {
             at: index,
@@ -76,15 +196,6 @@ fn said_at(
                 "the value of {text} is used, and it is a routine of BE, whose value means nothing"
             )?,
             help: "a routine with a value is defined by =, as in LET F(X) = VALOF $( .. RESULTIS E $)",
-        }));
-    }
-    if let Some((number, name)) = library_global(tokens, index) {
-        return Ok(Some(Said {
-            at: index,
-            sentence: format!(in alloc;
-                "the global {number} is {name} of the library, and here it is named {text}"
-            )?,
-            help: "take a number that the library hasn't: from 100 on all are free",
         }));
     }
     if let Some(behind) = unreached(tokens, index) {
@@ -124,15 +235,24 @@ fn lines_of(
     told_lines(alloc, named, &message)
 }
 
+/// A program that was accepted.
+#[derive(Drop)]
+struct Program<'p, 's> {
+    named: Named<'p, 's>,
+    /// How many of the sources are the library's.
+    library: usize,
+    settings: Settings,
+}
+
 /// The lines of the warnings of a main that was accepted, in the order of its tokens, of which those that are told already aren't told
 /// again.
 fn lines_of_main(
     alloc: Global,
-    named: Named<'_, '_>,
-    library: usize,
+    program: &Program<'_, '_>,
     main: usize,
     told: &mut Vec<Span>,
 ) -> Result<String, Memory> {
+    let named = program.named;
     let mut lines = String::new(alloc);
     if main >= named.sources.len() {
         return Ok(lines);
@@ -142,11 +262,20 @@ fn lines_of_main(
     };
     let tokens = tokens.as_slice();
     let routines = Routines::of(alloc, tokens)?;
+    let declarations = Declarations::of(alloc, tokens)?;
+    let known = Main {
+        sources: named.sources,
+        library: program.library,
+        tokens,
+        routines: &routines,
+        declarations: &declarations,
+        settings: &program.settings,
+    };
     for index in 0..tokens.len() {
-        if let Some(said) = said_at(alloc, named.sources, tokens, &routines, index)? {
+        if let Some(said) = said_at(alloc, &known, index)? {
             if let Some(token) = tokens.get(said.at) {
                 let span = span_of(token);
-                if token.file >= library && !told.contains(&span) {
+                if token.file >= program.library && !told.contains(&span) {
                     told.push(span)?;
                     if told.len() <= MOST {
                         let more = lines_of(alloc, named, main, span, &said)?;
@@ -169,9 +298,14 @@ pub fn warnings(
 ) -> Result<String, Memory> {
     let mut lines = String::new(alloc);
     let mut told = Vec::new(alloc);
+    let program = Program {
+        named,
+        library,
+        settings: Settings::of(alloc, named.sources, mains)?,
+    };
     for main in mains {
         if *main >= library {
-            let more = lines_of_main(alloc, named, library, *main, &mut told)?;
+            let more = lines_of_main(alloc, &program, *main, &mut told)?;
             lines.push_str(more.as_str())?;
         }
     }

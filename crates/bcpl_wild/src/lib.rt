@@ -2,11 +2,14 @@
 //! there.
 #![tactic(auto)]
 
+mod calls;
+mod extent;
 mod message;
 mod owner;
 mod placed;
+mod sentence;
 
 pub use bc_interpret_quiet::Cause;
 pub use bc_interpret_trace::Standing;
 pub use bcpl_messages::Message;
-pub use message::{Met, Program, placed_message, wild_message};
+pub use message::{Met, Program, Stand, placed_message, wild_message};

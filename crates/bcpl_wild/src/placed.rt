@@ -1,8 +1,10 @@
 // Where in the sources a run stands in one of its calls.
 
+use crate::calls::{Call, Parameter, only_call, parameter_at};
+use crate::extent::{Extent, extent_from, is_at};
 use bc_interpret_trace::Standing;
 use bc_lex::{Source, lex};
-use bc_lex_tokens::Token;
+use bc_lex_tokens::{Symbol, Token, TokenKind};
 use bc_machine_image::Image;
 use bc_parse::parse;
 use bc_scope_places::{BodyOf, Sites, sites_of, token_at};
@@ -94,8 +96,55 @@ impl<'s> ReadMain<'s> {
         self.sites.root(body, standing.behind)
     }
 
-    /// Where the expression, test or assignment of this number begins.
-    pub fn span_of_root(&self, sources: &[Source<'_>], root: usize) -> Option<Span> {
-        self.span(sources, self.sites.roots.get(root)?.leaf)
+    /// The tokens of the expression, test or assignment of this number.
+    pub fn extent_of_root(&self, root: usize) -> Option<Extent> {
+        let leaf = self.sites.roots.get(root)?.leaf;
+        let tokens = self.tokens.as_slice();
+        Some(extent_from(tokens, token_at(tokens, leaf)?))
+    }
+
+    /// Where these tokens stand: the first one alone, where the last one stands in another file.
+    pub fn span_of(&self, extent: Extent) -> Option<Span> {
+        let first = self.tokens.get(extent.first)?;
+        let last = self.tokens.get(extent.last)?;
+        let end = if first.file == last.file {
+            last.end
+        } else {
+            first.end
+        };
+        Some(Span {
+            file: first.file,
+            start: first.start,
+            end: end.max(first.start),
+        })
+    }
+
+    /// The only call, in an expression, of the routine of this name.
+    pub fn only_call(&self, extent: Extent, name: &[u8]) -> Option<Call> {
+        only_call(self.tokens.as_slice(), extent, name)
+    }
+
+    /// Which parameter of the routine with this label the name at a leaf is; none where it is none.
+    pub fn parameter(&self, label: u64, leaf: u64) -> Option<Parameter> {
+        let tokens = self.tokens.as_slice();
+        let name = token_at(tokens, self.sites.label(label)?)?;
+        parameter_at(tokens, name, token_at(tokens, leaf)?)
+    }
+
+    /// Whether a label is a routine's: a bracket stands behind its name.
+    pub fn is_routine(&self, label: u64) -> bool {
+        let tokens = self.tokens.as_slice();
+        let Some(index) = self
+            .sites
+            .label(label)
+            .and_then(|leaf| token_at(tokens, leaf))
+        else {
+            return false;
+        };
+        let is_name = match tokens.get(index) {
+            Some(token) => matches!(token.kind, TokenKind::Name(_)),
+            None => false,
+        };
+        is_name && is_at(tokens, index.saturating_add(1), Symbol::OpenBracket)
     }
 }

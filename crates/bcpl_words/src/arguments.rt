@@ -113,10 +113,8 @@ pub enum Listing {
 #[derive(Drop)]
 pub struct ShowOrder<'a> {
     pub listing: Listing,
-    /// The files that sources get by name.
-    pub gets: Vec<Binding<'a>>,
-    /// The source that is listed.
-    pub file: &'a str,
+    /// The library, the files that sources get by name, and the one source that is listed.
+    pub sources: Sources<'a>,
     pub places: Places,
 }
 
@@ -177,8 +175,12 @@ pub enum Order<'a> {
 pub enum BadWords<'a> {
     /// What the reader of the words says, which may be help that was asked for.
     Said(Error),
-    /// This word has no `=` between a name and a path.
-    Option(&'a str),
+    /// This word is none that its option takes.
+    Option {
+        word: &'a str,
+        /// What the option takes.
+        takes: &'static str,
+    },
     /// An allocation was refused.
     Memory,
 }
@@ -190,6 +192,24 @@ impl From<AllocError> for BadWords<'_> {
         BadWords::Memory
     }
 }
+
+/// What each option takes whose words are judged here.
+const PLACES_TAKES: &str = "--places takes always, never or auto, as in --places always";
+
+const LIBRARY_TAKES: &str =
+    "--library takes ext, the further library; without the option there is LIBHDR alone";
+
+const LISTING_TAKES: &str =
+    "show lists tokens, tree, scopes or code, as in bcpl show code hello.bcpl";
+
+const GET_TAKES: &str =
+    "--get takes NAME=PATH: the name that stands behind GET, and the file's path, as in --get defs=defs.bcpl";
+
+const IN_TAKES: &str =
+    "--in takes NAME=PATH: the stream's name and the file's path, as in --in DATA=data.txt";
+
+const TO_TAKES: &str =
+    "--to takes NAME=PATH: the stream's name and the file's path, as in --to LIST=list.txt";
 
 /// An option that takes NAME=PATH, any number of times.
 fn stream_option<'a>(alloc: Global, id: &'a str, help: &'a str) -> Arg<'a> {
@@ -205,7 +225,9 @@ pub(crate) fn places_option<'a>(alloc: Global) -> Arg<'a> {
     Arg::new(alloc, "places")
         .long("places")
         .value_name("WHEN")
-        .help("Tell the place of a refusal: always, never, or auto, which is on a terminal")
+        .help(
+            "Tell the place of a refusal and what to do: always, never, or auto, which is on a terminal",
+        )
 }
 
 /// The option that puts a further library in front of the files.
@@ -299,6 +321,7 @@ fn show_command<'a>(alloc: Global) -> Result<Command<'a>, AllocError> {
             "get",
             "A file that sources get by GET \"NAME\"; LIBHDR is the library's own always",
         ))?
+        .arg(library_option(alloc))?
         .arg(places_option(alloc))?
         .arg(
             Arg::new(alloc, "FILE")
@@ -457,7 +480,8 @@ fn interpret_command<'a>(alloc: Global) -> Result<Command<'a>, AllocError> {
         .after_help(
             "The sources are built as by `build`, and run without their code. Where this run ends, `run` does the same with the\n\
              built text: that is a theorem. Where it meets a wild cell (one that was never set is read, one that isn't there is\n\
-             read or written, or what is no routine is called), it stops and tells which, and where.\n\n\
+             read or written, or what is no routine is called), it stops and tells which, and where: on a terminal or not, unless\n\
+             --places never stands there.\n\n\
              A turn is a call, a GOTO, or a loop's way back. Streams are as for `run`.\n\n\
              Example:\n  bcpl interpret hello.bcpl",
         )
@@ -555,16 +579,17 @@ pub(crate) fn values<'a>(
     }
 }
 
-/// The bindings of an option, each cut at its first `=`.
+/// The bindings of an option, each cut at its first `=`; `takes` says what the option takes.
 fn bindings<'a>(
     alloc: Global,
     matches: &ArgMatches<'a>,
     id: &str,
+    takes: &'static str,
 ) -> Result<Vec<Binding<'a>>, BadWords<'a>> {
     let mut bindings = Vec::new(alloc);
     for word in values(alloc, matches, id)? {
         let Some((name, path)) = word.split_once('=') else {
-            return Err(BadWords::Option(word));
+            return Err(BadWords::Option { word, takes });
         };
         bindings
             .push(Binding { name, path })
@@ -579,7 +604,10 @@ pub(crate) fn when_told<'a>(matches: &ArgMatches<'a>) -> Result<Places, BadWords
         None | Some("auto") => Ok(Places::OnTerminal),
         Some("always") => Ok(Places::Always),
         Some("never") => Ok(Places::Never),
-        Some(word) => Err(BadWords::Option(word)),
+        Some(word) => Err(BadWords::Option {
+            word,
+            takes: PLACES_TAKES,
+        }),
     }
 }
 
@@ -588,7 +616,10 @@ fn library_of<'a>(matches: &ArgMatches<'a>) -> Result<Library, BadWords<'a>> {
     match matches.get_str("library") {
         None => Ok(Library::Basic),
         Some("ext") => Ok(Library::Further),
-        Some(word) => Err(BadWords::Option(word)),
+        Some(word) => Err(BadWords::Option {
+            word,
+            takes: LIBRARY_TAKES,
+        }),
     }
 }
 
@@ -596,7 +627,7 @@ fn library_of<'a>(matches: &ArgMatches<'a>) -> Result<Library, BadWords<'a>> {
 fn sources_of<'a>(alloc: Global, matches: &ArgMatches<'a>) -> Result<Sources<'a>, BadWords<'a>> {
     Ok(Sources {
         library: library_of(matches)?,
-        gets: bindings(alloc, matches, "get")?,
+        gets: bindings(alloc, matches, "get", GET_TAKES)?,
         files: values(alloc, matches, "FILE")?,
     })
 }
@@ -609,8 +640,8 @@ fn interpret_order<'a>(
     Ok(InterpretOrder {
         turns: matches.get_one::<u64>("turns").unwrap_or(DEFAULT_TURNS),
         sources: sources_of(alloc, matches)?,
-        inputs: bindings(alloc, matches, "in")?,
-        outputs: bindings(alloc, matches, "to")?,
+        inputs: bindings(alloc, matches, "in", IN_TAKES)?,
+        outputs: bindings(alloc, matches, "to", TO_TAKES)?,
         places: when_told(matches)?,
     })
 }
@@ -646,12 +677,16 @@ fn show_order<'a>(alloc: Global, matches: &ArgMatches<'a>) -> Result<ShowOrder<'
         Some("tree") => Listing::Tree,
         Some("scopes") => Listing::Scopes,
         Some("code") => Listing::Code,
-        word => return Err(BadWords::Option(word.unwrap_or(""))),
+        word => {
+            return Err(BadWords::Option {
+                word: word.unwrap_or(""),
+                takes: LISTING_TAKES,
+            });
+        }
     };
     Ok(ShowOrder {
         listing,
-        gets: bindings(alloc, matches, "get")?,
-        file: matches.get_str("FILE").unwrap_or(""),
+        sources: sources_of(alloc, matches)?,
         places: when_told(matches)?,
     })
 }
@@ -694,8 +729,8 @@ pub fn wanted<'a>(alloc: Global, words: &'a [&'a str]) -> Result<Order<'a>, BadW
         Some(("run", matches)) => Ok(Order::Run(RunOrder {
             steps: matches.get_one::<u64>("steps").unwrap_or(0),
             watch: watch_order(matches),
-            inputs: bindings(alloc, matches, "in")?,
-            outputs: bindings(alloc, matches, "to")?,
+            inputs: bindings(alloc, matches, "in", IN_TAKES)?,
+            outputs: bindings(alloc, matches, "to", TO_TAKES)?,
             texts: values(alloc, matches, "TEXT")?,
             places: when_told(matches)?,
         })),

@@ -124,7 +124,10 @@ fn header_of<'a>(matches: &ArgMatches<'a>) -> Result<ConvertHeader, BadWords<'a>
         None => Ok(ConvertHeader::Needed),
         Some("libhdr") => Ok(ConvertHeader::Basic),
         Some("exthdr") => Ok(ConvertHeader::Further),
-        Some(word) => Err(BadWords::Option(word)),
+        Some(word) => Err(BadWords::Option {
+            word,
+            takes: "--header takes libhdr or exthdr, as in --header exthdr",
+        }),
     }
 }
 

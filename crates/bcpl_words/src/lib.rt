@@ -3,6 +3,7 @@
 
 mod arguments;
 mod converting;
+mod guessing;
 mod version;
 
 pub use arguments::{
@@ -10,3 +11,4 @@ pub use arguments::{
     Library, ListOrder, Listing, Order, Places, RunOrder, ShowOrder, Sources, WatchOrder, wanted,
 };
 pub use converting::{ConvertHeader, ConvertOrder, ConvertTo};
+pub use guessing::{Guess, guess_of, places_of};

@@ -1,0 +1,159 @@
+//! What is told behind a refusal of files, or of words, where another command is likely meant.
+
+use crate::loading::explained;
+use bc_build::BuildError;
+use bc_link::LinkError;
+use bc_word::Memory;
+use bcpl_faults::{Cause, Failure};
+use bcpl_files::{Wanted, bare, contents, hint, named_twice};
+use bcpl_words::{BadWords, Guess, guess_of};
+use std::alloc::Global;
+use std::rt::Files;
+
+/// What is said of the file of this path, where it can be read and looks like something else than is wanted.
+fn hint_of<F: Files>(rt: &F, alloc: Global, wanted: Wanted, path: &str) -> Option<String> {
+    let Ok(bytes) = contents(rt, alloc, path) else {
+        return None;
+    };
+    match hint(alloc, wanted, path, bytes.as_slice()) {
+        Ok(said) => said,
+        Err(_) => None,
+    }
+}
+
+/// The files that a command takes.
+#[derive(Clone, Copy)]
+pub struct Taken<'a> {
+    /// What each of them is to be.
+    wanted: Wanted,
+    paths: &'a [&'a str],
+    /// Whether more is told than the first line of a refusal.
+    shows: bool,
+}
+
+impl<'a> Taken<'a> {
+    /// Files under these paths, of which each is to be what is wanted. `shows` says whether more is told than the first line of a refusal.
+    pub fn new(wanted: Wanted, paths: &'a [&'a str], shows: bool) -> Taken<'a> {
+        Taken {
+            wanted,
+            paths,
+            shows,
+        }
+    }
+}
+
+/// Whether a refusal is one of what a file of this kind has in it.
+fn is_of_content(cause: &Cause, wanted: Wanted) -> bool {
+    match wanted {
+        Wanted::Source => matches!(cause, Cause::Build(_)),
+        Wanted::Text => matches!(cause, Cause::Text(_)),
+        Wanted::Certificate => matches!(cause, Cause::Check(_)),
+        Wanted::Command => false,
+    }
+}
+
+/// Whether two routines set one global.
+fn is_of_two_setters(cause: &Cause) -> bool {
+    matches!(
+        cause,
+        Cause::Link(LinkError::GlobalTwice(_))
+            | Cause::Build(BuildError::Link(LinkError::GlobalTwice(_)))
+    )
+}
+
+/// What is told of a refusal of these files: what was told, and a line on each that looks like something else than is wanted.
+fn lines_on_files<F: Files>(
+    rt: &F,
+    alloc: Global,
+    told: &str,
+    taken: Taken<'_>,
+) -> Result<String, Memory> {
+    let mut lines = String::from_str(alloc, told)?;
+    for path in taken.paths {
+        if let Some(said) = hint_of(rt, alloc, taken.wanted, path) {
+            let said = said.as_str();
+            writeln!(lines, "  help: {said}")?;
+        }
+    }
+    Ok(lines)
+}
+
+/// The line on a file that is named twice.
+fn line_on_twice(alloc: Global, path: &str) -> Result<String, Memory> {
+    Ok(format!(in alloc; "{path} is named twice, so that what it has would stand there twice\n")?)
+}
+
+/// What a command came to, which takes these files, with what is said of those that look like something else than is wanted, and of one that
+/// is named twice.
+pub fn with_hints<T: Drop, F: Files>(
+    rt: &F,
+    alloc: Global,
+    done: Result<T, Failure>,
+    taken: Taken<'_>,
+) -> Result<T, Failure> {
+    let failure = match done {
+        Err(failure) if taken.shows => failure,
+        done => return done,
+    };
+    if is_of_content(&failure.cause, taken.wanted) {
+        let lines = lines_on_files(rt, alloc, failure.told(), taken);
+        return Err(explained(failure, lines));
+    }
+    if is_of_two_setters(&failure.cause)
+        && let Some(path) = named_twice(rt, taken.paths)
+    {
+        return Err(explained(failure, line_on_twice(alloc, path)));
+    }
+    Err(failure)
+}
+
+/// What these words lack, or the file among them is, in a sentence; none where that can't be guessed.
+fn said_of_words<F: Files>(
+    rt: &F,
+    alloc: Global,
+    words: &[&str],
+    bad: &BadWords<'_>,
+) -> Result<Option<String>, Memory> {
+    if let BadWords::Option { takes, .. } = bad {
+        return Ok(Some(String::from_str(alloc, takes)?));
+    }
+    Ok(match guess_of(words, bad) {
+        Some(Guess::Command(path)) => hint_of(rt, alloc, Wanted::Command, path),
+        Some(Guess::Steps(path)) => {
+            match hint_of(rt, alloc, Wanted::Text, path) {
+                Some(said) => Some(said),
+                None => Some(format!(in alloc;
+                    "--steps N is the most instructions that the run may take, as in `bcpl run --steps 1000000 {path}`"
+                )?),
+            }
+        }
+        Some(Guess::Out(path)) => {
+            match hint_of(rt, alloc, Wanted::Source, path) {
+                Some(said) => Some(said),
+                None => {
+                    let bare = bare(path);
+                    Some(format!(in alloc;
+                        "--out OUT is the file that the text goes to, as in `bcpl build --out {bare}.int {path}`"
+                    )?)
+                }
+            }
+        }
+        None => None,
+    })
+}
+
+/// The line behind a refusal of these words, which are bad in this way. `Memory` comes where an allocation was refused.
+pub fn line_on_words<F: Files>(
+    rt: &F,
+    alloc: Global,
+    words: &[&str],
+    bad: &BadWords<'_>,
+) -> Result<String, Memory> {
+    Ok(match said_of_words(rt, alloc, words, bad)? {
+        Some(said) => {
+            let said = said.as_str();
+            format!(in alloc; "  help: {said}\n")?
+        }
+        None => String::new(alloc),
+    })
+}

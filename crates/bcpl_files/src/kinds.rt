@@ -1,0 +1,127 @@
+//! What a file looks like, by its first bytes.
+
+/// What a file is likely to be.
+#[derive(Clone, Copy)]
+pub enum Kind {
+    /// A source in BCPL, in this dialect or an old one.
+    Source,
+    /// A text of INTCODE.
+    Text,
+    /// A certificate of least size.
+    Certificate,
+    /// Text in UTF-16, with a byte order mark.
+    Wide,
+}
+
+/// The words that begin a source, in capitals.
+const BEGINNINGS: [&[u8]; 7] = [
+    b"GET",
+    b"LET",
+    b"MANIFEST",
+    b"STATIC",
+    b"GLOBAL",
+    b"SECTION",
+    b"NEEDS",
+];
+
+/// How many bytes of a text are looked at.
+const LOOKED_AT: usize = 400;
+
+/// What these bytes of a file look like; none where they look like nothing that is known.
+pub fn kind_of(bytes: &[u8]) -> Option<Kind> {
+    if bytes.starts_with(b"\xFF\xFE") || bytes.starts_with(b"\xFE\xFF") {
+        Some(Kind::Wide)
+    } else if bytes.starts_with(b"BCPLCERT ") {
+        Some(Kind::Certificate)
+    } else if begins_source(bytes) {
+        Some(Kind::Source)
+    } else if begins_text(bytes) {
+        Some(Kind::Text)
+    } else {
+        None
+    }
+}
+
+/// What stands behind the first place of these bytes in a text; nothing where they stand nowhere.
+fn behind<'t>(text: &'t [u8], close: &[u8]) -> &'t [u8] {
+    let at = text
+        .windows(close.len().max(1))
+        .position(|part| part == close);
+    match at {
+        Some(at) => text.get(at.saturating_add(close.len())..).unwrap_or(b""),
+        None => b"",
+    }
+}
+
+/// The text behind blanks and comments of a source.
+fn behind_comments(text: &[u8]) -> &[u8] {
+    let mut rest = text;
+    for _ in 0..text.len() {
+        rest = if rest.starts_with(b"//") || rest.starts_with(b"||") {
+            behind(rest, b"\n")
+        } else if rest.starts_with(b"/*") {
+            behind(rest, b"*/")
+        } else {
+            match rest.split_first() {
+                Some((first, others)) if first.is_ascii_whitespace() => others,
+                _ => return rest,
+            }
+        };
+    }
+    rest
+}
+
+/// Whether the first word of a text begins a source.
+fn begins_source(text: &[u8]) -> bool {
+    let rest = behind_comments(text);
+    let count = rest
+        .iter()
+        .position(|byte| !byte.is_ascii_alphanumeric() && *byte != b'.')
+        .unwrap_or(rest.len());
+    let word = rest.get(..count).unwrap_or(b"");
+    BEGINNINGS
+        .iter()
+        .any(|known| known.eq_ignore_ascii_case(word))
+}
+
+/// Whether this byte can stand in an item of INTCODE, or between two.
+fn is_of_item(byte: u8) -> bool {
+    byte.is_ascii_whitespace()
+        || byte.is_ascii_digit()
+        || matches!(
+            byte,
+            b'$' | b'-'
+                | b'L'
+                | b'S'
+                | b'A'
+                | b'J'
+                | b'T'
+                | b'F'
+                | b'K'
+                | b'X'
+                | b'C'
+                | b'D'
+                | b'G'
+                | b'I'
+                | b'P'
+                | b'Z'
+        )
+}
+
+/// Whether a text begins with what can be items of INTCODE alone, and has some number.
+fn begins_text(text: &[u8]) -> bool {
+    let mut is_comment = false;
+    let mut has_digit = false;
+    for byte in text.iter().take(LOOKED_AT) {
+        if is_comment {
+            is_comment = *byte != b'\n';
+        } else if *byte == b'/' {
+            is_comment = true;
+        } else if is_of_item(*byte) {
+            has_digit = has_digit || byte.is_ascii_digit();
+        } else {
+            return false;
+        }
+    }
+    has_digit
+}

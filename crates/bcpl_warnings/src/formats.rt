@@ -1,0 +1,83 @@
+use crate::arguments::is_called;
+use crate::declared::Declarations;
+use crate::tokens::name_at;
+use bc_lex_tokens::{Token, TokenKind};
+
+/// The letters of formats that the routine of LIBHDR knows.
+const BASIC: &[u8] = b"NSC";
+
+/// Those that the one of EXTHDR knows, in either case; behind the last ones stands a width.
+const FURTHER: &[u8] = b"NSCIUOXT";
+
+const WITH_WIDTH: &[u8] = b"IUOXT";
+
+/// The number of the further library's WRITEF.
+const FURTHER_NUMBER: u16 = 30;
+
+/// How far a walk over a format is.
+#[derive(Clone, Copy)]
+enum Reading {
+    Plain,
+    /// Behind the sign of an escape of a string.
+    Escape,
+    /// Behind a `%`.
+    Percent,
+    /// Behind a letter that a width goes with.
+    Width,
+}
+
+/// The first letter of a format that stands behind `%` and is not known, in front of a `%P` of the further library, behind which stand texts
+/// between signs of any kind. The format is as it is spelled, with the signs around it.
+fn unknown_letter(format: &[u8], is_further: bool) -> Option<u8> {
+    let mut reading = Reading::Plain;
+    for byte in format {
+        reading = match (reading, *byte) {
+            (Reading::Escape, _) => Reading::Plain,
+            (_, b'*') => Reading::Escape,
+            (Reading::Plain, b'%') => Reading::Percent,
+            (Reading::Percent, letter) if letter.is_ascii_alphabetic() => {
+                let capital = letter.to_ascii_uppercase();
+                if is_further && capital == b'P' {
+                    return None;
+                } else if is_further && WITH_WIDTH.contains(&capital) {
+                    Reading::Width
+                } else if is_further && FURTHER.contains(&capital) || BASIC.contains(&letter) {
+                    Reading::Plain
+                } else {
+                    return Some(letter);
+                }
+            }
+            (Reading::Plain | Reading::Percent | Reading::Width, _) => Reading::Plain,
+        };
+    }
+    None
+}
+
+/// The string that the token with this index is; none where it is none.
+fn string_at<'s>(tokens: &[Token<'s>], index: usize) -> Option<&'s [u8]> {
+    match tokens.get(index)?.kind {
+        TokenKind::String(text) => Some(text),
+        _ => None,
+    }
+}
+
+/// The letter behind `%` that WRITEF doesn't know in the format that it is called with by the token in front of the one with this index,
+/// and whether it is the further library's WRITEF. The first `library` sources are the library's.
+pub fn unknown_format(
+    tokens: &[Token<'_>],
+    declarations: &Declarations<'_>,
+    library: usize,
+    index: usize,
+) -> Option<(u8, bool)> {
+    let format = string_at(tokens, index)?;
+    let routine = index.checked_sub(2)?;
+    if !is_called(tokens, routine) || name_at(tokens, routine)? != b"WRITEF".as_slice() {
+        return None;
+    }
+    let (declared, number) = declarations.global(b"WRITEF")?;
+    if tokens.get(declared)?.file >= library {
+        return None;
+    }
+    let is_further = number == Some(FURTHER_NUMBER);
+    Some((unknown_letter(format, is_further)?, is_further))
+}
