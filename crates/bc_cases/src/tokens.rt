@@ -1,7 +1,5 @@
-ghost use Rattle.std.specs.Prelude.{◌≤◌, length, IfOk};
-ghost use Rattle.bc_lex_tokens.specs.Token.{lexemes_of};
-
 use crate::sources::sources_of;
+use crate::trees::{closed, read_back, resolved, spelled};
 use bc_lex::{LexError, Source, lex};
 use bc_lex_tokens::{Token, TokenKind};
 use bc_library::{BLIB, LIBHDR};
@@ -10,14 +8,33 @@ use bc_show::{ShownBytes, ShownKind, ShownToken};
 use bc_word::Memory;
 use std::alloc::Global;
 
-/// The tokens of the source with this index, at most 60,000.
-pub fn tokens_of<'s>(
+/// What is answered of the tokens of a source.
+#[derive(Clone, Copy)]
+pub enum Reading {
+    /// Each token on a line, with all that it says.
+    All,
+    /// Their kinds, with blanks between them.
+    Kinds,
+    /// How many there are of each kind.
+    Counts,
+    /// Their text, where it has the same tokens and no line break.
+    Rendered,
+    /// Their indexes once tags are closed and line breaks stand for semicolons.
+    Closed,
+    /// The canonical spelling of the section, where it is read back from itself.
+    Spelling,
+    /// Whether the section is read back from its canonical spelling, and whether that is longer than BLIB.
+    Back,
+    /// The section with its names resolved.
+    Resolved,
+}
+
+/// The tokens of the source with this index.
+fn tokens_of<'s>(
     alloc: Global,
     sources: &[Source<'s>],
     main: usize,
-) -> Result<Vec<Token<'s>>, LexError>
-    ensures { IfOk result (λ tokens. length (lexemes_of tokens.items) ≤ 60000) }
-{
+) -> Result<Vec<Token<'s>>, LexError> {
     if main < sources.len() {
         lex(alloc, sources, main)
     } else {
@@ -26,16 +43,29 @@ pub fn tokens_of<'s>(
 }
 
 /// A fault of a source.
-pub fn fault(alloc: Global, fault: LexError) -> Result<String, Memory> {
+fn fault(alloc: Global, fault: LexError) -> Result<String, Memory> {
     Ok(format!(in alloc; "{fault:?}")?)
 }
 
-/// Each token on a line, with all that it says.
-pub fn all(alloc: Global, input: &str) -> Result<String, Memory> {
+fn told(alloc: Global, reading: Reading, tokens: &[Token<'_>]) -> Result<String, Memory> {
+    match reading {
+        Reading::All => lines(alloc, tokens),
+        Reading::Kinds => in_a_row(alloc, tokens),
+        Reading::Counts => counted(alloc, tokens),
+        Reading::Rendered => rendered_back(alloc, tokens),
+        Reading::Closed => closed(alloc, tokens),
+        Reading::Spelling => spelled(alloc, tokens),
+        Reading::Back => read_back(alloc, tokens),
+        Reading::Resolved => resolved(alloc, tokens),
+    }
+}
+
+/// What is answered of the tokens of the sources of a case, or their fault.
+pub fn read(alloc: Global, reading: Reading, input: &str) -> Result<String, Memory> {
     let given = sources_of(alloc, input)?;
     let sources = given.all(alloc)?;
     match tokens_of(alloc, sources.as_slice(), given.main) {
-        Ok(tokens) => lines(alloc, tokens.as_slice()),
+        Ok(tokens) => told(alloc, reading, tokens.as_slice()),
         Err(error) => fault(alloc, error),
     }
 }
@@ -51,16 +81,6 @@ fn lines(alloc: Global, tokens: &[Token<'_>]) -> Result<String, Memory> {
     Ok(text)
 }
 
-/// The tokens' kinds, with blanks between them.
-pub fn kinds(alloc: Global, input: &str) -> Result<String, Memory> {
-    let given = sources_of(alloc, input)?;
-    let sources = given.all(alloc)?;
-    match tokens_of(alloc, sources.as_slice(), given.main) {
-        Ok(tokens) => in_a_row(alloc, tokens.as_slice()),
-        Err(error) => fault(alloc, error),
-    }
-}
-
 fn in_a_row(alloc: Global, tokens: &[Token<'_>]) -> Result<String, Memory> {
     let mut text = String::new(alloc);
     let mut between = "";
@@ -70,16 +90,6 @@ fn in_a_row(alloc: Global, tokens: &[Token<'_>]) -> Result<String, Memory> {
         between = " ";
     }
     Ok(text)
-}
-
-/// How many tokens there are of each kind.
-pub fn counts(alloc: Global, input: &str) -> Result<String, Memory> {
-    let given = sources_of(alloc, input)?;
-    let sources = given.all(alloc)?;
-    match tokens_of(alloc, sources.as_slice(), given.main) {
-        Ok(tokens) => counted(alloc, tokens.as_slice()),
-        Err(error) => fault(alloc, error),
-    }
 }
 
 fn counted(alloc: Global, tokens: &[Token<'_>]) -> Result<String, Memory> {
@@ -133,16 +143,6 @@ fn compared(first: Option<&Token<'_>>, second: Option<&Token<'_>>) -> &'static s
             }
         }
         _ => "no tokens",
-    }
-}
-
-/// The text of the tokens, where it has the same tokens and no line break.
-pub fn rendered(alloc: Global, input: &str) -> Result<String, Memory> {
-    let given = sources_of(alloc, input)?;
-    let sources = given.all(alloc)?;
-    match tokens_of(alloc, sources.as_slice(), given.main) {
-        Ok(tokens) => rendered_back(alloc, tokens.as_slice()),
-        Err(error) => fault(alloc, error),
     }
 }
 

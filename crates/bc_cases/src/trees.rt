@@ -1,5 +1,3 @@
-use crate::sources::sources_of;
-use crate::tokens::{fault, tokens_of};
 use bc_lex::{Source, Token, lex};
 use bc_library::BLIB;
 use bc_parse::{ParseError, parse};
@@ -11,16 +9,7 @@ use bc_word::Memory;
 use std::alloc::Global;
 
 /// The tokens' indexes once tags are closed and line breaks stand for semicolons.
-pub fn closed(alloc: Global, input: &str) -> Result<String, Memory> {
-    let given = sources_of(alloc, input)?;
-    let sources = given.all(alloc)?;
-    match tokens_of(alloc, sources.as_slice(), given.main) {
-        Ok(tokens) => places(alloc, tokens.as_slice()),
-        Err(error) => fault(alloc, error),
-    }
-}
-
-fn places(alloc: Global, tokens: &[Token<'_>]) -> Result<String, Memory> {
+pub fn closed(alloc: Global, tokens: &[Token<'_>]) -> Result<String, Memory> {
     let closed = match close(alloc, tokens) {
         Ok(closed) => closed,
         Err(fault) => return Ok(format!(in alloc; "{fault:?}")?),
@@ -67,14 +56,8 @@ fn parse_fault(alloc: Global, fault: ParseError) -> Result<String, Memory> {
 }
 
 /// The canonical spelling, where it is read back from itself.
-pub fn spelled(alloc: Global, input: &str) -> Result<String, Memory> {
-    let given = sources_of(alloc, input)?;
-    let sources = given.all(alloc)?;
-    let tokens = match tokens_of(alloc, sources.as_slice(), given.main) {
-        Ok(tokens) => tokens,
-        Err(error) => return fault(alloc, error),
-    };
-    match canonical(alloc, tokens.as_slice())? {
+pub fn spelled(alloc: Global, tokens: &[Token<'_>]) -> Result<String, Memory> {
+    match canonical(alloc, tokens)? {
         Ok(text) => {
             if is_read_back(alloc, text.as_slice())? {
                 let text = ShownBytes(text.as_slice());
@@ -88,14 +71,8 @@ pub fn spelled(alloc: Global, input: &str) -> Result<String, Memory> {
 }
 
 /// Whether the section is read back from its canonical spelling, and whether that is longer than BLIB.
-pub fn read_back(alloc: Global, input: &str) -> Result<String, Memory> {
-    let given = sources_of(alloc, input)?;
-    let sources = given.all(alloc)?;
-    let tokens = match tokens_of(alloc, sources.as_slice(), given.main) {
-        Ok(tokens) => tokens,
-        Err(error) => return fault(alloc, error),
-    };
-    match canonical(alloc, tokens.as_slice())? {
+pub fn read_back(alloc: Global, tokens: &[Token<'_>]) -> Result<String, Memory> {
+    match canonical(alloc, tokens)? {
         Ok(text) => {
             let is_longer = text.len() > BLIB.len();
             let is_back = is_read_back(alloc, text.as_slice())?;
@@ -106,14 +83,11 @@ pub fn read_back(alloc: Global, input: &str) -> Result<String, Memory> {
 }
 
 /// The section with its names resolved.
-pub fn resolved(alloc: Global, input: &str) -> Result<String, Memory> {
-    let given = sources_of(alloc, input)?;
-    let sources = given.all(alloc)?;
-    let tokens = match tokens_of(alloc, sources.as_slice(), given.main) {
-        Ok(tokens) => tokens,
-        Err(error) => return fault(alloc, error),
-    };
-    let section = match parse(alloc, tokens.as_slice()) {
+pub fn resolved(alloc: Global, tokens: &[Token<'_>]) -> Result<String, Memory> {
+    if tokens.len() > 60_000 {
+        return Ok(String::from_str(alloc, "too many tokens")?);
+    }
+    let section = match parse(alloc, tokens) {
         Ok(section) => section,
         Err(fault) => return parse_fault(alloc, fault),
     };

@@ -45,17 +45,11 @@ impl fmt::Display for ShownItem<'_> {
     }
 }
 
+/// The letters of the functions, in their order.
+const FUNCTIONS: [char; 8] = ['L', 'S', 'A', 'J', 'T', 'F', 'K', 'X'];
+
 fn function_letter(function: Function) -> char {
-    match function {
-        Function::Load => 'L',
-        Function::Store => 'S',
-        Function::Add => 'A',
-        Function::Jump => 'J',
-        Function::JumpIfTrue => 'T',
-        Function::JumpIfFalse => 'F',
-        Function::Call => 'K',
-        Function::Execute => 'X',
-    }
+    FUNCTIONS.get(function as usize).copied().unwrap_or('X')
 }
 
 /// The letter of a base, or nothing.

@@ -2,27 +2,14 @@ use bc_core::{CoreExp, Root};
 use bc_word::Op;
 use std::fmt;
 
+/// The signs of the operators, in their order.
+const SIGNS: [&str; 17] = [
+    "*", "/", "REM", "+", "-", "=", "NE", "<", ">=", ">", "<=", "<<", ">>", "&", "|", "NEQV", "EQV",
+];
+
 /// The sign of an operator.
 pub fn sign(op: Op) -> &'static str {
-    match op {
-        Op::Multiply => "*",
-        Op::Divide => "/",
-        Op::Remainder => "REM",
-        Op::Add => "+",
-        Op::Subtract => "-",
-        Op::Equal => "=",
-        Op::NotEqual => "NE",
-        Op::Less => "<",
-        Op::GreaterEqual => ">=",
-        Op::Greater => ">",
-        Op::LessEqual => "<=",
-        Op::ShiftLeft => "<<",
-        Op::ShiftRight => ">>",
-        Op::And => "&",
-        Op::Or => "|",
-        Op::NotEquivalent => "NEQV",
-        Op::Equivalent => "EQV",
-    }
+    SIGNS.get(op as usize).copied().unwrap_or("")
 }
 
 /// An expression whose names are resolved. A number stands for itself, `P2` for the address of offset 2 of the frame, `G14` for

@@ -3,12 +3,15 @@
 #![tactic(auto)]
 
 mod brackets;
+mod declared;
 mod lexical;
 mod likeness;
 mod linking;
 mod message;
+mod neighbours;
 mod report;
 mod scopes;
+mod sides;
 mod syntax;
 mod trial;
 mod wanted;

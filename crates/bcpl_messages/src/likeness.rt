@@ -102,29 +102,31 @@ fn most_unlike(length: usize) -> usize {
     }
 }
 
-/// The name among the tokens, and those that LIBHDR declares, which is most like this one, if any is like it; the first of equals.
-/// Memory is answered where a growth was refused.
+/// Whether a name may be offered for another: it is none of those that were passed over.
+fn is_offered(known: &[u8], name: &[u8], passed: &[&[u8]]) -> bool {
+    known != name && !passed.iter().any(|other| *other == known)
+}
+
+/// The name among the tokens which is most like this one, if any is like it; the first of equals, and none of those that were passed
+/// over. Memory is answered where a growth was refused.
 pub fn nearest<'s>(
     alloc: Global,
     tokens: &[Token<'s>],
     name: &[u8],
+    passed: &[&[u8]],
 ) -> Result<Option<&'s [u8]>, Memory> {
-    let mut best: Option<(usize, &[u8])> = None;
-    let limit = most_unlike(name.len());
+    let mut best: Option<&[u8]> = None;
+    let mut least = most_unlike(name.len()).saturating_add(1);
     for token in tokens {
         if let TokenKind::Name(known) = token.kind {
-            let is_far = known == name || known.len().abs_diff(name.len()) > limit;
-            if !is_far {
+            if known.len().abs_diff(name.len()) < least && is_offered(known, name, passed) {
                 let unlike = unlikeness(alloc, known, name)?;
-                let is_better = match best {
-                    Some((least, _)) => unlike < least,
-                    None => unlike <= limit,
-                };
-                if is_better {
-                    best = Some((unlike, known));
+                if unlike < least {
+                    least = unlike;
+                    best = Some(known);
                 }
             }
         }
     }
-    Ok(best.map(|(_, known)| known))
+    Ok(best)
 }

@@ -1,7 +1,7 @@
 use crate::message::Message;
 use crate::syntax::span_of;
 use crate::words::{is_symbol, shown};
-use bc_core::Place;
+use bc_core::{Core, Place};
 use bc_gen::generate;
 use bc_lex::{Source, lex};
 use bc_lex_tokens::{Symbol, Token, TokenKind};
@@ -10,7 +10,7 @@ use bc_parse::parse;
 use bc_scope::resolve;
 use bc_word::Memory;
 use bcpl_places::Span;
-use bcpl_reports::{SegmentSize, segment_words, too_large};
+use bcpl_segments::{SegmentSize, segment_words, too_large};
 use std::alloc::Global;
 
 /// A routine that sets a global.
@@ -34,6 +34,39 @@ fn routine_names(alloc: Global, tokens: &[Token<'_>]) -> Result<Vec<usize>, Memo
     Ok(names)
 }
 
+/// The translation of tokens; none of a section that is refused itself.
+fn core_of(alloc: Global, tokens: &[Token<'_>]) -> Result<Option<Core>, Memory> {
+    if tokens.len() > 60_000 {
+        return Ok(None);
+    }
+    let Ok(section) = parse(alloc, tokens) else {
+        return Ok(None)
+    };
+    Ok(resolve(alloc, &section).ok())
+}
+
+/// The tokens of a main; none of one that has none.
+fn tokens_of<'s>(alloc: Global, sources: &[Source<'s>], main: usize) -> Option<Vec<Token<'s>>> {
+    if main < sources.len() {
+        lex(alloc, sources, main).ok()
+    } else {
+        None
+    }
+}
+
+/// The global that each routine of a section sets, if it sets one, in their order.
+fn globals_of(alloc: Global, tokens: &[Token<'_>]) -> Result<Vec<Option<u16>>, Memory> {
+    let mut globals = Vec::new(alloc);
+    if let Some(core) = core_of(alloc, tokens)? {
+        for place in core.places() {
+            if let Place::Routine(found) = place {
+                globals.push(found.global)?;
+            }
+        }
+    }
+    Ok(globals)
+}
+
 /// The routines of a main that set a global, with its number. None of a main that is refused itself. Memory is answered where a
 /// growth was refused.
 fn setters<'s>(
@@ -42,39 +75,16 @@ fn setters<'s>(
     main: usize,
 ) -> Result<Vec<(u16, Setter<'s>)>, Memory> {
     let mut setters = Vec::new(alloc);
-    if main >= sources.len() {
-        return Ok(setters);
-    }
-    let Ok(tokens) = lex(alloc, sources, main) else {
+    let Some(tokens) = tokens_of(alloc, sources, main) else {
         return Ok(setters)
     };
-    let Ok(section) = parse(alloc, tokens.as_slice()) else {
-        return Ok(setters)
-    };
-    let Ok(core) = resolve(alloc, &section) else {
-        return Ok(setters)
-    };
+    let globals = globals_of(alloc, tokens.as_slice())?;
     let names = routine_names(alloc, tokens.as_slice())?;
-    let mut routine: usize = 0;
-    for place in core.places() {
-        if let Place::Routine(found) = place {
-            if let (Some(global), Some(index)) = (found.global, names.get(routine)) {
-                if let Some(token) = tokens.get(*index) {
-                    let span = Span {
-                        file: token.file,
-                        start: token.start,
-                        end: token.end,
-                    };
-                    setters.push((
-                        global,
-                        Setter {
-                            name: token.text,
-                            span,
-                        },
-                    ))?;
-                }
-            }
-            routine = routine.saturating_add(1);
+    for (global, index) in globals.iter().zip(&names) {
+        if let (Some(global), Some(token)) = (*global, tokens.get(*index)) {
+            let name = token.text;
+            let span = span_of(tokens.as_slice(), sources, main, *index);
+            setters.push((global, Setter { name, span }))?;
         }
     }
     Ok(setters)
@@ -135,16 +145,10 @@ fn global_twice(
 
 /// How many words the segment of a main takes; none of a main that is refused itself.
 fn size_of(alloc: Global, sources: &[Source<'_>], main: usize) -> Result<Option<usize>, Memory> {
-    if main >= sources.len() {
-        return Ok(None);
-    }
-    let Ok(tokens) = lex(alloc, sources, main) else {
+    let Some(tokens) = tokens_of(alloc, sources, main) else {
         return Ok(None)
     };
-    let Ok(section) = parse(alloc, tokens.as_slice()) else {
-        return Ok(None)
-    };
-    let Ok(core) = resolve(alloc, &section) else {
+    let Some(core) = core_of(alloc, tokens.as_slice())? else {
         return Ok(None)
     };
     match generate(alloc, &core) {
@@ -250,10 +254,7 @@ pub fn labels_message(
     let sentence = "the code of this file has more than 20000 labels";
     let help = "cut it into several files, which share routines by GLOBAL";
     let message = Message::new(alloc, main, None, sentence)?.helped(alloc, Some(help))?;
-    if main >= sources.len() {
-        return Ok(Some(message));
-    }
-    let Ok(tokens) = lex(alloc, sources, main) else {
+    let Some(tokens) = tokens_of(alloc, sources, main) else {
         return Ok(Some(message))
     };
     let Some((index, count)) = most_labels(alloc, tokens.as_slice())? else {

@@ -49,25 +49,32 @@ impl Message {
         })
     }
 
+    /// Says what one may have meant. Memory is answered where a growth was refused.
+    pub fn set_help(&mut self, alloc: Global, help: &str) -> Result<(), Memory> {
+        self.help = Some(String::from_str(alloc, help)?);
+        Ok(())
+    }
+
+    /// Adds a further place. Memory is answered where a growth was refused.
+    pub fn add_note(&mut self, alloc: Global, span: Span, sentence: &str) -> Result<(), Memory> {
+        let sentence = String::from_str(alloc, sentence)?;
+        Ok(self.notes.push(Note { span, sentence })?)
+    }
+
     /// This message with a help, if there is one. Memory is answered where a growth was refused.
     pub fn helped(self, alloc: Global, help: Option<&str>) -> Result<Message, Memory> {
-        match help {
-            Some(help) => Ok(Message {
-                help: Some(String::from_str(alloc, help)?),
-                ..self
-            }),
-            None => Ok(self),
+        let mut message = self;
+        if let Some(help) = help {
+            message.set_help(alloc, help)?;
         }
+        Ok(message)
     }
 
     /// This message with a further place. Memory is answered where a growth was refused.
     pub fn noted(self, alloc: Global, span: Span, sentence: &str) -> Result<Message, Memory> {
-        let mut notes = self.notes;
-        notes.push(Note {
-            span,
-            sentence: String::from_str(alloc, sentence)?,
-        })?;
-        Ok(Message { notes, ..self })
+        let mut message = self;
+        message.add_note(alloc, span, sentence)?;
+        Ok(message)
     }
 }
 

@@ -1,176 +1,141 @@
+use crate::declared::declaration_of;
 use crate::likeness::{is_of_further_library, is_of_library, nearest};
 use crate::message::Message;
 use crate::syntax::span_of;
-use crate::words::{is_symbol, shown};
+use crate::trial::replaced;
+use crate::words::{back, is_symbol, shown};
 use bc_build::ScopeFault;
 use bc_lex::{Source, lex};
 use bc_lex_tokens::{Symbol, Token, TokenKind};
 use bc_parse::parse;
 use bc_scope::resolve;
-use bc_scope_places::{Also, Span as TokenSpan, fault_place};
+use bc_scope_places::{Also, FaultPlace, Span as TokenSpan, fault_place};
 use bc_word::Memory;
 use bcpl_places::{Span, gets_of};
 use std::alloc::Global;
 
-/// Whether this token is a word behind which a name is declared.
-fn declares(word: &Token<'_>) -> bool {
-    is_symbol(word, Symbol::Let) || is_symbol(word, Symbol::And) || is_symbol(word, Symbol::For)
+/// What is said of a fault: the words in front of a name and behind it, and a help.
+#[derive(Clone, Copy)]
+struct Said<'a> {
+    front: &'static str,
+    name: Option<&'a [u8]>,
+    behind: &'static str,
+    help: Option<&'static str>,
 }
 
-/// Whether some LET, AND or FOR declares this name, as the first name behind that word.
-fn is_declared(tokens: &[Token<'_>], name: &[u8]) -> bool {
-    let mut is_next = false;
-    for token in tokens {
-        if let TokenKind::Name(known) = token.kind {
-            if is_next && known == name {
-                return true;
-            }
+impl<'a> Said<'a> {
+    /// A sentence without a name, and a help.
+    fn plain(sentence: &'static str, help: &'static str) -> Said<'a> {
+        Said {
+            front: sentence,
+            name: None,
+            behind: "",
+            help: Some(help),
         }
-        is_next = declares(token);
     }
-    false
+
+    /// The sentence. Memory is answered where a growth was refused.
+    fn sentence(&self, alloc: Global) -> Result<String, Memory> {
+        let mut sentence = String::from_str(alloc, self.front)?;
+        if let Some(name) = self.name {
+            sentence.push_str(shown(alloc, name)?.as_str())?;
+        }
+        sentence.push_str(self.behind)?;
+        Ok(sentence)
+    }
 }
 
-/// What is said of a name that means nothing.
-fn undeclared_help(
-    alloc: Global,
-    sources: &[Source<'_>],
-    main: usize,
-    tokens: &[Token<'_>],
-    name: &[u8],
-) -> Result<Option<String>, Memory> {
-    if is_of_library(name) {
-        let text = sources
-            .get(main)
-            .map_or(b"".as_slice(), |source| source.text);
-        let is_got = gets_of(alloc, text)?
-            .iter()
-            .any(|get| get.name == b"LIBHDR".as_slice());
-        if !is_got {
-            let help = "the library declares it: write GET \"LIBHDR\" at the head of the file";
-            return Ok(Some(String::from_str(alloc, help)?));
-        }
-    }
-    if is_declared(tokens, name) {
-        let help =
-            "a name is known in the block, routine or FOR that declares it, from its declaration on";
-        return Ok(Some(String::from_str(alloc, help)?));
-    }
-    if is_of_further_library(name) {
-        let help = "the further library has it: GET \"EXTHDR\", and build with --library ext";
-        return Ok(Some(String::from_str(alloc, help)?));
-    }
-    Ok(match nearest(alloc, tokens, name)? {
-        Some(near) => {
-            let near = shown(alloc, near)?;
-            Some(format!(in alloc;
-                "did you mean {near}? Names are as they are written, capitals and small letters apart"
-            )?)
-        }
-        None => Some(String::from_str(
-            alloc,
-            "declare it in front of its use; capitals and small letters are told apart",
-        )?),
-    })
-}
+/// What is said where a word may not stand: the word, the sentence and the help.
+const MISPLACED: [(Symbol, &str, &str); 8] = [
+    (
+        Symbol::Break,
+        "BREAK stands in no loop",
+        "it leaves the innermost loop of the same routine and VALOF; a SWITCHON is left by ENDCASE",
+    ),
+    (
+        Symbol::Loop,
+        "LOOP stands in no loop",
+        "it goes on with the next turn of the innermost loop of the same routine and VALOF",
+    ),
+    (
+        Symbol::EndCase,
+        "ENDCASE stands in no SWITCHON",
+        "it leaves the innermost SWITCHON of the same routine and VALOF",
+    ),
+    (
+        Symbol::ResultIs,
+        "RESULTIS stands in no VALOF",
+        "a routine gives a value by F(..) = VALOF $( .. RESULTIS E $)",
+    ),
+    (
+        Symbol::Return,
+        "RETURN stands in no routine of BE",
+        "a VALOF is left by RESULTIS",
+    ),
+    (
+        Symbol::Case,
+        "this CASE stands in no SWITCHON's own list",
+        "a CASE can't stand in a block within the list",
+    ),
+    (
+        Symbol::Default,
+        "this DEFAULT stands in no SWITCHON's own list",
+        "a DEFAULT can't stand in a block within the list",
+    ),
+    (
+        Symbol::Goto,
+        "this GOTO goes to no label that it can go to",
+        "a GOTO goes to a label of a list around it, in the same routine and not out of a VALOF",
+    ),
+];
 
 /// What is said where a word or a label may not stand.
-fn misplaced(token: Option<&Token<'_>>) -> (&'static str, &'static str) {
-    let symbol = match token {
-        Some(
-            Token {
-                kind: TokenKind::Symbol(symbol),
-                ..
-            },
-        ) => Some(*symbol),
-        _ => None,
-    };
-    match symbol {
-        Some(Symbol::Break) => (
-            "BREAK stands in no loop",
-            "it leaves the innermost loop of the same routine and VALOF; a SWITCHON is left by ENDCASE",
-        ),
-        Some(Symbol::Loop) => (
-            "LOOP stands in no loop",
-            "it goes on with the next turn of the innermost loop of the same routine and VALOF",
-        ),
-        Some(Symbol::EndCase) => (
-            "ENDCASE stands in no SWITCHON",
-            "it leaves the innermost SWITCHON of the same routine and VALOF",
-        ),
-        Some(Symbol::ResultIs) => (
-            "RESULTIS stands in no VALOF",
-            "a routine gives a value by F(..) = VALOF $( .. RESULTIS E $)",
-        ),
-        Some(Symbol::Return) => (
-            "RETURN stands in no routine of BE",
-            "a VALOF is left by RESULTIS",
-        ),
-        Some(Symbol::Case) => (
-            "this CASE stands in no SWITCHON's own list",
-            "a CASE can't stand in a block within the list",
-        ),
-        Some(Symbol::Default) => (
-            "this DEFAULT stands in no SWITCHON's own list",
-            "a DEFAULT can't stand in a block within the list",
-        ),
-        Some(Symbol::Goto) => (
-            "this GOTO goes to no label that it can go to",
-            "a GOTO goes to a label of a list around it, in the same routine and not out of a VALOF",
-        ),
-        _ => (
-            "this can't stand here",
-            "outside routines LET declares routines alone, and a label is no value; STATIC $( N = 0 $) declares a cell for the whole run",
-        ),
+fn misplaced<'a>(token: Option<&Token<'_>>) -> Said<'a> {
+    if let Some(token) = token {
+        for (symbol, sentence, help) in &MISPLACED {
+            if is_symbol(token, *symbol) {
+                return Said::plain(sentence, help);
+            }
+        }
     }
+    Said::plain(
+        "this can't stand here",
+        "outside routines LET declares routines alone, and a label is no value; STATIC $( N = 0 $) declares a cell for the whole run",
+    )
 }
 
-/// The sentence on a fault with a name, and a help that is always the same.
-fn named(
-    alloc: Global,
-    fault: &ScopeFault,
-) -> Result<Option<(String, Option<&'static str>)>, Memory> {
-    Ok(match fault {
-        ScopeFault::Undeclared(name) => {
-            let name = shown(alloc, name.as_slice())?;
-            Some((
-                format!(in alloc; "no declaration gives {name} a meaning here")?,
-                None,
-            ))
-        }
-        ScopeFault::DeclaredTwice(name) => {
-            let name = shown(alloc, name.as_slice())?;
-            let help =
-                "LET .. AND .. is one declaration, and so are a list of parameters and the labels of one list";
-            Some((
-                format!(in alloc; "{name} is declared twice in one declaration")?,
-                Some(help),
-            ))
-        }
-        ScopeFault::DynamicFree(name) => {
-            let name = shown(alloc, name.as_slice())?;
-            let sentence = format!(in alloc;
-                "{name} belongs to a routine around this one, which may not be active"
-            )?;
-            Some((
-                sentence,
-                Some("hand it over as an argument, or declare it by STATIC or GLOBAL"),
-            ))
-        }
-        ScopeFault::GlobalNumber(name) => {
-            let name = shown(alloc, name.as_slice())?;
-            Some((
-                format!(in alloc; "the number of the global {name} is over 511")?,
-                None,
-            ))
-        }
-        _ => None,
+/// What is said of a fault with a name.
+fn said_of_name(fault: &ScopeFault) -> Option<Said<'_>> {
+    let (front, name, behind, help) = match fault {
+        ScopeFault::Undeclared(name) => ("no declaration gives ", name, " a meaning here", None),
+        ScopeFault::DeclaredTwice(name) => (
+            "",
+            name,
+            " is declared twice in one declaration",
+            Some(
+                "LET .. AND .. is one declaration, and so are a list of parameters and the labels of one list",
+            ),
+        ),
+        ScopeFault::DynamicFree(name) => (
+            "",
+            name,
+            " belongs to a routine around this one, which may not be active",
+            Some("hand it over as an argument, or declare it by STATIC or GLOBAL"),
+        ),
+        ScopeFault::GlobalNumber(name) => ("the number of the global ", name, " is over 511", None),
+        _ => return None,
+    };
+    Some(Said {
+        front,
+        name: Some(name.as_slice()),
+        behind,
+        help,
     })
 }
 
-/// The sentence on a fault without a name, and its help.
-fn nameless(fault: &ScopeFault, token: Option<&Token<'_>>) -> Option<(&'static str, &'static str)> {
-    Some(match fault {
+/// What is said of a fault without a name.
+fn said_of<'a>(fault: &ScopeFault, token: Option<&Token<'_>>) -> Option<Said<'a>> {
+    let (sentence, help) = match fault {
         ScopeFault::NotConstant => (
             "this is no constant",
             "a constant has numbers, characters, TRUE, FALSE, names from MANIFEST and operators alone, and no division by 0",
@@ -179,7 +144,6 @@ fn nameless(fault: &ScopeFault, token: Option<&Token<'_>>) -> Option<(&'static s
             "this has no cell, so it can't be assigned to and has no address",
             "variables, statics, globals, !E and E1!E2 have one; a manifest, a routine and the value of an expression have none",
         ),
-        ScopeFault::Misplaced => misplaced(token),
         ScopeFault::FrameTooLarge => (
             "a routine of this file has more than 32768 cells in its frame",
             "large vectors can be shared: declare one outside, by a global that holds its address",
@@ -192,8 +156,10 @@ fn nameless(fault: &ScopeFault, token: Option<&Token<'_>>) -> Option<(&'static s
             "the file has more than 8000 routines, statics, tables and strings",
             "cut it into several files, which share routines by GLOBAL",
         ),
+        ScopeFault::Misplaced => return Some(misplaced(token)),
         _ => return None,
-    })
+    };
+    Some(Said::plain(sentence, help))
 }
 
 /// The stretch of these tokens, the last one with it.
@@ -210,74 +176,206 @@ fn stretch(tokens: &[Token<'_>], sources: &[Source<'_>], main: usize, span: Toke
     }
 }
 
-/// This message with the second place of its fault, and the numbers that belong to it.
-fn with_second(
-    alloc: Global,
-    message: Message,
-    text: (&[Token<'_>], &[Source<'_>]),
-    second: Also,
-) -> Result<Message, Memory> {
-    let (tokens, sources) = text;
-    let main = message.main;
-    match second {
-        Also::Nothing => Ok(message),
-        Also::First(span) => message.noted(
-            alloc,
-            stretch(tokens, sources, main, span),
-            "the first one",
-        ),
-        Also::Declared(span) => {
-            message.noted(
-                alloc,
-                stretch(tokens, sources, main, span),
-                "it is declared here",
-            )
+/// A main's tokens, among its sources.
+#[derive(Clone, Copy)]
+struct Read<'a, 's> {
+    sources: &'a [Source<'s>],
+    main: usize,
+    tokens: &'a [Token<'s>],
+}
+
+impl Read<'_, '_> {
+    /// The stretch of these tokens.
+    fn stretch(&self, span: TokenSpan) -> Span {
+        stretch(self.tokens, self.sources, self.main, span)
+    }
+
+    /// Whether the text of the main gets the header of the library. Memory is answered where a growth was refused.
+    fn gets_library(&self, alloc: Global) -> Result<bool, Memory> {
+        let text = match self.sources.get(self.main) {
+            Some(source) => source.text,
+            None => b"",
+        };
+        for get in &gets_of(alloc, text)? {
+            if get.name == b"LIBHDR".as_slice() {
+                return Ok(true);
+            }
         }
-        Also::Number(number) => {
-            let help = format!(in alloc;
-                "its number is {number}; globals are numbered from 0 to 511"
-            )?;
-            message.helped(alloc, Some(help.as_str()))
-        }
-        Also::Cells(cells) => {
-            let help = format!(in alloc;
-                "it has {cells} cells: vectors, variables, parameters and what is held while it works"
-            )?;
-            message.helped(alloc, Some(help.as_str()))
-        }
-        Also::Places(places) => {
-            let help = format!(in alloc;
-                "it has {places}; cut it into several files, which share routines by GLOBAL"
-            )?;
-            message.helped(alloc, Some(help.as_str()))
-        }
+        Ok(false)
     }
 }
 
-/// The message on a fault whose place is this, if it is known.
-fn message_at(
+/// The place of the first fault of these tokens; none where they have none, or where it isn't known.
+fn first_fault(alloc: Global, tokens: &[Token<'_>]) -> Result<Option<FaultPlace>, Memory> {
+    if tokens.len() > 60_000 {
+        return Ok(None);
+    }
+    let Ok(section) = parse(alloc, tokens) else {
+        return Ok(None)
+    };
+    match resolve(alloc, &section) {
+        Ok(_) => Ok(None),
+        Err(refused) => fault_place(alloc, tokens, &section, refused),
+    }
+}
+
+/// Whether a name has a meaning at a place where another one has none, and where no fault stands in front.
+fn is_known(
     alloc: Global,
-    main: usize,
-    fault: &ScopeFault,
-    place: Option<Span>,
-    token: Option<&Token<'_>>,
-) -> Result<Option<Message>, Memory> {
-    if let Some((sentence, help)) = named(alloc, fault)? {
-        return Ok(Some(Message::new(alloc, main, place, sentence.as_str())?.helped(alloc, help)?));
-    }
-    match nameless(fault, token) {
-        Some((sentence, help)) => {
-            Ok(Some(Message::new(alloc, main, place, sentence)?.helped(alloc, Some(help))?))
+    tokens: &[Token<'_>],
+    place: usize,
+    name: &[u8],
+) -> Result<bool, Memory> {
+    let changed = replaced(alloc, tokens, place, TokenKind::Name(name))?;
+    Ok(match first_fault(alloc, changed.as_slice())? {
+        Some(found) => found.at.first != place,
+        None => true,
+    })
+}
+
+/// Adds the second place of a fault, or the numbers that belong to it.
+fn add_second(
+    alloc: Global,
+    message: &mut Message,
+    read: Read<'_, '_>,
+    second: Also,
+) -> Result<(), Memory> {
+    let help = match second {
+        Also::Nothing => return Ok(()),
+        Also::First(span) => return message.add_note(alloc, read.stretch(span), "the first one"),
+        Also::Declared(span) => {
+            return message.add_note(alloc, read.stretch(span), "it is declared here");
         }
-        None => Ok(None),
+        Also::Number(number) => format!(in alloc;
+            "its number is {number}; globals are numbered from 0 to 511"
+        )?,
+        Also::Cells(cells) => format!(in alloc;
+            "it has {cells} cells: vectors, variables, parameters and what is held while it works"
+        )?,
+        Also::Places(places) => format!(in alloc;
+            "it has {places}; cut it into several files, which share routines by GLOBAL"
+        )?,
+    };
+    message.set_help(alloc, help.as_str())
+}
+
+/// Where names are known.
+const KNOWN: &str =
+    "a name is known in the block, routine or FOR that declares it, from its declaration on";
+
+/// The most names that are compared with one that means nothing.
+const MOST_LIKE: usize = 4;
+
+/// Adds where a name is declared; whether it is anywhere.
+fn add_declared(
+    alloc: Global,
+    message: &mut Message,
+    read: Read<'_, '_>,
+    place: usize,
+    name: &[u8],
+) -> Result<bool, Memory> {
+    let Some(found) = declaration_of(alloc, read.tokens, place, name)? else {
+        return Ok(false)
+    };
+    let mut sentence = shown(alloc, name)?;
+    sentence.push_str(" ")?;
+    sentence.push_str(found.sentence)?;
+    let span = span_of(read.tokens, read.sources, read.main, found.index);
+    message.add_note(alloc, span, sentence.as_str())?;
+    message.set_help(alloc, KNOWN)?;
+    Ok(true)
+}
+
+/// Adds a name that is like one that means nothing, and known there; else where the one most like it is declared.
+fn add_like(
+    alloc: Global,
+    message: &mut Message,
+    read: Read<'_, '_>,
+    place: usize,
+    name: &[u8],
+) -> Result<(), Memory> {
+    let mut passed: Vec<&[u8]> = Vec::new(alloc);
+    for _ in 0..MOST_LIKE {
+        let Some(near) = nearest(alloc, read.tokens, name, passed.as_slice())? else {
+            break
+        };
+        if is_known(alloc, read.tokens, place, near)? {
+            let near = shown(alloc, near)?;
+            let help = format!(in alloc;
+                "did you mean {near}? Names are as they are written, capitals and small letters apart"
+            )?;
+            return message.set_help(alloc, help.as_str());
+        }
+        passed.push(near)?;
     }
+    if let Some(near) = passed.first() {
+        if add_declared(alloc, message, read, place, near)? {
+            return Ok(());
+        }
+    }
+    message.set_help(
+        alloc,
+        "declare it in front of its use; capitals and small letters are told apart",
+    )
+}
+
+/// Adds what is said of a name that means nothing at a place.
+fn add_undeclared(
+    alloc: Global,
+    message: &mut Message,
+    read: Read<'_, '_>,
+    place: usize,
+    name: &[u8],
+) -> Result<(), Memory> {
+    if is_of_library(name) && !read.gets_library(alloc)? {
+        return message.set_help(
+            alloc,
+            "the library declares it: write GET \"LIBHDR\" at the head of the file",
+        );
+    }
+    if add_declared(alloc, message, read, place, name)? {
+        return Ok(());
+    }
+    if is_of_further_library(name) {
+        return message.set_help(
+            alloc,
+            "the further library has it: GET \"EXTHDR\", and build with --library ext",
+        );
+    }
+    add_like(alloc, message, read, place, name)
 }
 
 /// Whether the token with this index stands behind VEC.
 fn stands_behind_vector(tokens: &[Token<'_>], index: usize) -> bool {
-    match tokens.get(index.saturating_sub(1)) {
-        Some(before) => index > 0 && is_symbol(before, Symbol::Vector),
+    match back(tokens, index, 1) {
+        Some(token) => is_symbol(token, Symbol::Vector),
         None => false,
+    }
+}
+
+/// Adds what is said of a fault at a place beside its sentence.
+fn add_more(
+    alloc: Global,
+    message: &mut Message,
+    read: Read<'_, '_>,
+    fault: &ScopeFault,
+    found: FaultPlace,
+) -> Result<(), Memory> {
+    add_second(alloc, message, read, found.also)?;
+    let place = found.at.first;
+    match fault {
+        ScopeFault::Undeclared(name) => add_undeclared(
+            alloc,
+            message,
+            read,
+            place,
+            name.as_slice(),
+        ),
+        ScopeFault::NotConstant if stands_behind_vector(read.tokens, place) => message.set_help(
+            alloc,
+            "the size of a vector is a constant: take the largest that is needed, perhaps by MANIFEST",
+        ),
+        _ => Ok(()),
     }
 }
 
@@ -294,40 +392,30 @@ pub fn scope_message(
     let Ok(tokens) = lex(alloc, sources, main) else {
         return Ok(None)
     };
-    let Ok(section) = parse(alloc, tokens.as_slice()) else {
+    let read = Read {
+        sources,
+        main,
+        tokens: tokens.as_slice(),
+    };
+    let found = first_fault(alloc, read.tokens)?;
+    let token = match found {
+        Some(found) => read.tokens.get(found.at.first),
+        None => None,
+    };
+    let Some(said) = said_of_name(fault).or(said_of(fault, token)) else {
         return Ok(None)
     };
-    let tokens = tokens.as_slice();
-    let found = match resolve(alloc, &section) {
-        Ok(_) => None,
-        Err(refused) => fault_place(alloc, tokens, &section, refused)?,
+    let place = match found {
+        Some(found) => Some(read.stretch(found.at)),
+        None => None,
     };
-    let place = found
-        .as_ref()
-        .map(|found| stretch(tokens, sources, main, found.at));
-    let token = found.as_ref().and_then(|found| tokens.get(found.at.first));
-    let is_size = match &found {
-        Some(found) => stands_behind_vector(tokens, found.at.first),
-        None => false,
-    };
-    let Some(message) = message_at(alloc, main, fault, place, token)? else {
-        return Ok(None)
-    };
-    let message = match found {
-        Some(found) => with_second(alloc, message, (tokens, sources), found.also)?,
-        None => message,
-    };
-    Ok(Some(match fault {
-        ScopeFault::Undeclared(name) => {
-            let help = undeclared_help(alloc, sources, main, tokens, name.as_slice())?;
-            Message { help, ..message }
-        }
-        ScopeFault::NotConstant if is_size => message.helped(
-            alloc,
-            Some(
-                "the size of a vector is a constant: take the largest that is needed, perhaps by MANIFEST",
-            ),
-        )?,
-        _ => message,
-    }))
+    let sentence = said.sentence(alloc)?;
+    let mut message = Message::new(alloc, main, place, sentence.as_str())?;
+    if let Some(help) = said.help {
+        message.set_help(alloc, help)?;
+    }
+    if let Some(found) = found {
+        add_more(alloc, &mut message, read, fault, found)?;
+    }
+    Ok(Some(message))
 }

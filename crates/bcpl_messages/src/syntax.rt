@@ -4,9 +4,11 @@ ghost use Rattle.bcpl_messages.specs.Spans.{IsSpanOf};
 use crate::brackets::{open_before, tag};
 use crate::likeness::reserved_word;
 use crate::message::Message;
-use crate::trial::{Change, Reach, read_with};
-use crate::wanted::{could_stand, wanted_at};
-use crate::words::{is_symbol, shown};
+use crate::neighbours::{help_for_name, help_for_neighbours, help_for_token};
+use crate::sides::help_for_sides;
+use crate::trial::{Change, read_with};
+use crate::wanted::{could_be, wanted_at};
+use crate::words::{back, is_symbol, shown};
 use bc_lex::{Source, lex};
 use bc_lex_tokens::{Symbol, Token, TokenKind};
 use bc_parse::ParseError;
@@ -90,11 +92,7 @@ fn is_remedy(
         return Ok(false);
     }
     let kind = TokenKind::Symbol(remedy.meant);
-    Ok(match read_with(alloc, tokens, at, Change::Replace(kind))? {
-        Reach::End => true,
-        Reach::Behind(next) => next > refused.saturating_add(1),
-        Reach::Before => false,
-    })
+    Ok(read_with(alloc, tokens, at, Change::Replace(kind))?.is_behind(refused))
 }
 
 /// In how many tokens, the one that is refused and those in front of it, a remedy is looked for.
@@ -116,99 +114,137 @@ fn remedied(
     Ok(None)
 }
 
-/// How a token is spelled; nothing where there is none.
-fn text_of<'s>(token: Option<&Token<'s>>) -> &'s [u8] {
-    match token {
-        Some(token) => token.text,
-        None => b"",
+/// What must stand at a place, and in front of it, for a guess.
+#[derive(Clone, Copy)]
+enum Site {
+    /// Anything.
+    Any,
+    /// This symbol.
+    At(Symbol),
+    /// A name in front.
+    BehindName,
+    /// Something on the line of what stands in front.
+    OnLine,
+    /// The same, and a name in front.
+    OnLineBehindName,
+}
+
+/// What is tried with the parser.
+#[derive(Clone, Copy)]
+enum Trial {
+    /// This symbol could stand in front of the place.
+    Stands(Symbol),
+    /// A declaration could, and no command.
+    StandsOutside,
+    /// With this symbol in front more is read than the token at the place.
+    Behind(Symbol),
+    /// So with a pair of brackets.
+    BehindBrackets,
+    /// So with brackets around the token.
+    Enclosed,
+}
+
+/// A guess of what was meant, by what could stand at a place.
+struct Guess {
+    site: Site,
+    trial: Trial,
+    help: &'static str,
+}
+
+/// The guesses, in the order in which they are tried.
+const GUESSES: [Guess; 8] = [
+    Guess {
+        site: Site::At(Symbol::Do),
+        trial: Trial::Stands(Symbol::Return),
+        help: "no command begins with DO; a loop that tests behind its command is written $( .. $) REPEATWHILE E",
+    },
+    Guess {
+        site: Site::OnLine,
+        trial: Trial::Behind(Symbol::Semicolon),
+        help: "commands, and declarations, stand apart by ; or a line break",
+    },
+    Guess {
+        site: Site::OnLineBehindName,
+        trial: Trial::Enclosed,
+        help: "what a routine is called with stands in brackets, as in WRITEN(X)",
+    },
+    Guess {
+        site: Site::Any,
+        trial: Trial::Stands(Symbol::Into),
+        help: "a SWITCHON is written SWITCHON E INTO $( CASE 1: .. DEFAULT: .. $)",
+    },
+    Guess {
+        site: Site::Any,
+        trial: Trial::Stands(Symbol::Else),
+        help: "TEST has two commands, as in TEST E THEN C ELSE D; with one, write IF E DO C",
+    },
+    Guess {
+        site: Site::At(Symbol::Comma),
+        trial: Trial::Stands(Symbol::Colon),
+        help: "each value has its own: CASE 1: CASE 2: .. for two, and N:K; M:L in GLOBAL",
+    },
+    Guess {
+        site: Site::BehindName,
+        trial: Trial::BehindBrackets,
+        help: "a routine is declared and called with brackets, as in NEWLINE()",
+    },
+    Guess {
+        site: Site::Any,
+        trial: Trial::StandsOutside,
+        help: "outside routines stand declarations alone; commands stand in a routine, as in LET START() BE $( .. $)",
+    },
+];
+
+/// Whether a name stands in front of a place.
+fn is_behind_name(tokens: &[Token<'_>], index: usize) -> bool {
+    match back(tokens, index, 1) {
+        Some(token) => matches!(token.kind, TokenKind::Name(_)),
+        None => false,
     }
 }
 
-/// Whether an octal number ends in front of a digit that is none of its own.
-fn is_octal(before: Option<&Token<'_>>, at: Option<&Token<'_>>) -> bool {
-    let (Some(before), Some(at)) = (before, at) else {
-        return false
-    };
-    before.text.starts_with(b"#")
-        && before.end == at.start
-        && (at.text.starts_with(b"8") || at.text.starts_with(b"9"))
-}
-
-/// What is said of two tokens side by side that are known mistakes.
-fn help_for_pair(before: Option<&Token<'_>>, at: Option<&Token<'_>>) -> Option<&'static str> {
-    if is_octal(before, at) {
-        return Some(
-            "octal digits, which stand behind #, go from 0 to 7; a decimal number has no #",
-        );
-    }
-    match (text_of(before), text_of(at)) {
-        (b"=", b"=") => Some("equality is written with one ="),
-        (b"=", b"<") => Some("at most is written <="),
-        (b"=", b">") => Some("at least is written >="),
-        (b"FOR", b"LET") => Some("FOR declares its variable itself, as in FOR I = 1 TO 9 DO .."),
-        (b"RETURN", _) => Some(
-            "RETURN gives no value; a function gives that of the expression behind its =, as in LET F(X) = VALOF $( .. RESULTIS X $)",
-        ),
-        (b"~", b"=") | (b"!", b"=") => Some("unequal is written ~= or NE"),
-        (b"<" | b">", b">" | b"=") => Some("unequal is written ~= or NE, and shifts << and >>"),
-        (b"+", b"+") | (b"+", b"=") => Some("to add to X, write X := X + 1"),
-        (b"-", b"-") | (b"-", b"=") => Some("to take from X, write X := X - 1"),
-        (b"&", b"&") => Some("and is written with one &"),
-        (b"|", b"|") => Some("or is written with one |"),
-        (
-            _,
-            b"<"
-            | b"<="
-            | b">"
-            | b">="
-            | b"="
-            | b"~="
-            | b"LE"
-            | b"GE"
-            | b"EQ"
-            | b"NE"
-            | b"LS"
-            | b"GR",
-        ) => { Some("relations don't chain: write (A <= B) & (B <= C)") }
-        _ => None,
+/// Whether a token stands at a place, and another one in front of it on its line.
+fn is_on_line(tokens: &[Token<'_>], index: usize) -> bool {
+    match tokens.get(index) {
+        Some(token) => index > 0 && !token.line_before,
+        None => false,
     }
 }
 
-/// What is said of the token that is refused by itself.
-fn help_for_token(token: Option<&Token<'_>>) -> Option<&'static str> {
-    let TokenKind::Symbol(symbol) = token?.kind else {
-        return None;
-    };
-    match symbol {
-        Symbol::Else => Some(
-            "ELSE and OR belong to TEST .. THEN .. ELSE; an IF has no second command, and the operator or is written |",
-        ),
-        Symbol::And => Some(
-            "AND goes on with a declaration that LET begins; the operator and is written &",
-        ),
-        Symbol::Let | Symbol::Manifest | Symbol::Static | Symbol::Global => {
-            Some(
-                "the declarations of a block stand in front of its commands, apart by ; or line breaks; open a block by $( for further ones",
-            )
+/// Whether a place is one for a guess.
+fn is_site(tokens: &[Token<'_>], index: usize, site: Site) -> bool {
+    match site {
+        Site::Any => true,
+        Site::At(symbol) => match tokens.get(index) {
+            Some(token) => is_symbol(token, symbol),
+            None => false,
+        },
+        Site::BehindName => is_behind_name(tokens, index),
+        Site::OnLine => is_on_line(tokens, index),
+        Site::OnLineBehindName => is_on_line(tokens, index) && is_behind_name(tokens, index),
+    }
+}
+
+/// Whether the parser takes what a guess tries.
+fn is_taken(
+    alloc: Global,
+    tokens: &[Token<'_>],
+    index: usize,
+    trial: Trial,
+) -> Result<bool, Memory> {
+    let change = match trial {
+        Trial::Stands(symbol) => return could_be(alloc, tokens, index, symbol),
+        Trial::StandsOutside => {
+            return Ok(
+                could_be(alloc, tokens, index, Symbol::Let)?
+                    && !could_be(alloc, tokens, index, Symbol::Return)?,
+            );
         }
-        Symbol::If
-        | Symbol::Unless
-        | Symbol::While
-        | Symbol::Until
-        | Symbol::For
-        | Symbol::SwitchOn
-        | Symbol::Test
-        | Symbol::Return
-        | Symbol::Break
-        | Symbol::OpenSection => {
-            Some(
-                "this begins a command; where an expression stands, write VALOF $( .. RESULTIS E $)",
-            )
-        }
-        Symbol::Vector => Some("a vector is declared by LET V = VEC K, alone in its definition"),
-        Symbol::ResultIs => Some("RESULTIS stands in VALOF $( .. $)"),
-        _ => None,
-    }
+        Trial::Behind(symbol) => Change::Insert(TokenKind::Symbol(symbol)),
+        Trial::BehindBrackets => Change::InsertBrackets,
+        Trial::Enclosed => Change::Enclose,
+    };
+    Ok(read_with(alloc, tokens, index, change)?.is_behind(index))
 }
 
 /// What is said of the place that is refused, by what could stand there.
@@ -217,108 +253,120 @@ fn help_for_place(
     tokens: &[Token<'_>],
     index: usize,
 ) -> Result<Option<&'static str>, Memory> {
-    let is_symbol_at = |at: usize, symbol: Symbol| match tokens.get(at) {
-        Some(token) => is_symbol(token, symbol),
-        None => false,
-    };
-    if is_symbol_at(index, Symbol::Semicolon)
-        && is_symbol_at(index.saturating_add(1), Symbol::Else)
-    {
-        return Ok(Some("no ; stands in front of ELSE"));
-    }
-    if could_stand(alloc, tokens, index, TokenKind::Symbol(Symbol::Into))? {
-        return Ok(Some("a SWITCHON is written SWITCHON E INTO $( CASE 1: .. DEFAULT: .. $)"));
-    }
-    if could_stand(alloc, tokens, index, TokenKind::Symbol(Symbol::Else))? {
-        return Ok(Some(
-            "TEST has two commands, as in TEST E THEN C ELSE D; with one, write IF E DO C",
-        ));
-    }
-    if is_symbol_at(index, Symbol::Comma)
-        && could_stand(alloc, tokens, index, TokenKind::Symbol(Symbol::Colon))?
-    {
-        return Ok(Some(
-            "each value has its own: CASE 1: CASE 2: .. for two, and N:K; M:L in GLOBAL",
-        ));
-    }
-    let is_further = match read_with(alloc, tokens, index, Change::InsertBrackets)? {
-        Reach::End => true,
-        Reach::Behind(next) => next > index.saturating_add(1),
-        Reach::Before => false,
-    };
-    let follows_name = index > 0
-        && matches!(
-            tokens.get(index - 1),
-            Some(Token {
-                kind: TokenKind::Name(_),
-                ..
-            })
-        );
-    if is_further && follows_name {
-        return Ok(Some("a routine is declared and called with brackets, as in NEWLINE()"));
-    }
-    if could_stand(alloc, tokens, index, TokenKind::Symbol(Symbol::Let))?
-        && !could_stand(alloc, tokens, index, TokenKind::Symbol(Symbol::Return))?
-    {
-        return Ok(Some(
-            "outside routines stand declarations alone; commands stand in a routine, as in LET START() BE $( .. $)",
-        ));
+    for guess in &GUESSES {
+        if is_site(tokens, index, guess.site) && is_taken(alloc, tokens, index, guess.trial)? {
+            return Ok(Some(guess.help));
+        }
     }
     Ok(None)
 }
 
-/// What is said of a name that is an operator or a bracket in other languages.
-fn help_for_name(name: &[u8]) -> Option<&'static str> {
-    match name {
-        b"MOD" | b"mod" => Some("the remainder is written REM"),
-        b"XOR" | b"xor" => Some("exclusive or is written NEQV"),
-        b"BEGIN" | b"begin" => Some("a block is opened by $( and closed by $)"),
-        b"END" | b"end" => Some("a block is closed by $)"),
-        _ => None,
+/// The word of the list of names that is open in front of a place: MANIFEST, STATIC or GLOBAL, if there is one.
+fn list_word(alloc: Global, tokens: &[Token<'_>], index: usize) -> Result<Option<Symbol>, Memory> {
+    let open = open_before(alloc, tokens, index)?;
+    let Some(bracket) = open.last() else {
+        return Ok(None)
+    };
+    let Some(token) = back(tokens, *bracket, 1) else {
+        return Ok(None)
+    };
+    for symbol in [Symbol::Manifest, Symbol::Static, Symbol::Global] {
+        if is_symbol(token, symbol) {
+            return Ok(Some(symbol));
+        }
     }
+    Ok(None)
+}
+
+/// What is said of a place in a list of names.
+fn help_for_list(
+    alloc: Global,
+    tokens: &[Token<'_>],
+    index: usize,
+) -> Result<Option<&'static str>, Memory> {
+    let Some(word) = list_word(alloc, tokens, index)? else {
+        return Ok(None)
+    };
+    if is_site(tokens, index, Site::At(Symbol::Vector)) {
+        return Ok(Some(
+            "such a name has a constant; a routine declares the vector, by LET V = VEC 10, and can keep its address in a static or a global",
+        ));
+    }
+    Ok(if !is_behind_name(tokens, index) {
+        None
+    } else if word.is(Symbol::Global) {
+        Some("each name has its number, as in GLOBAL $( N:100 $)")
+    } else {
+        Some("each name has its value, as in MANIFEST $( N = 10 $)")
+    })
+}
+
+/// What is said of a name that is a reserved word in other letters, or an operator or a bracket in other languages.
+fn help_for_word(
+    alloc: Global,
+    token: Option<&Token<'_>>,
+    is_first: bool,
+) -> Result<Option<String>, Memory> {
+    let Some(
+        Token {
+            kind: TokenKind::Name(name),
+            ..
+        },
+    ) = token
+    else {
+        return Ok(None);
+    };
+    if let Some(word) = reserved_word(alloc, name)? {
+        let name = shown(alloc, name)?;
+        let old = if is_first {
+            "; bcpl convert brings old sources across"
+        } else {
+            ""
+        };
+        return Ok(Some(format!(in alloc; "{name} is a name; the reserved word is {word}{old}")?));
+    }
+    match help_for_name(name) {
+        Some(help) => Ok(Some(String::from_str(alloc, help)?)),
+        None => Ok(None),
+    }
+}
+
+/// What may have been meant, where that is always said in the same words.
+fn help_in_words(
+    alloc: Global,
+    tokens: &[Token<'_>],
+    index: usize,
+) -> Result<Option<&'static str>, Memory> {
+    if let Some(help) = remedied(alloc, tokens, index)? {
+        return Ok(Some(help));
+    }
+    if let Some(help) = help_for_list(alloc, tokens, index)? {
+        return Ok(Some(help));
+    }
+    if let Some(help) = help_for_place(alloc, tokens, index)? {
+        return Ok(Some(help));
+    }
+    Ok(help_for_token(tokens.get(index)))
 }
 
 /// What may have been meant, where tokens can't be read on at this index.
 fn help_for(alloc: Global, tokens: &[Token<'_>], index: usize) -> Result<Option<String>, Memory> {
     let at = tokens.get(index);
-    let before = if index > 0 {
-        tokens.get(index - 1)
-    } else {
-        None
-    };
+    let before = back(tokens, index, 1);
     for token in [at, before] {
-        if let Some(
-            Token {
-                kind: TokenKind::Name(name),
-                ..
-            },
-        ) = token
-        {
-            if let Some(word) = reserved_word(alloc, name)? {
-                let name = shown(alloc, name)?;
-                let old = if index == 0 {
-                    "; bcpl convert brings old sources across"
-                } else {
-                    ""
-                };
-                return Ok(Some(format!(in alloc;
-                    "{name} is a name; the reserved word is {word}{old}"
-                )?));
-            }
-            if let Some(help) = help_for_name(name) {
-                return Ok(Some(String::from_str(alloc, help)?));
-            }
+        if let Some(help) = help_for_word(alloc, token, index == 0)? {
+            return Ok(Some(help));
         }
     }
-    let help = match help_for_pair(before, at) {
+    let known = help_for_neighbours(tokens, index);
+    if known.is_none() {
+        if let Some(help) = help_for_sides(alloc, tokens, index)? {
+            return Ok(Some(help));
+        }
+    }
+    let help = match known {
         Some(help) => Some(help),
-        None => match remedied(alloc, tokens, index)? {
-            Some(help) => Some(help),
-            None => match help_for_place(alloc, tokens, index)? {
-                Some(help) => Some(help),
-                None => help_for_token(at),
-            },
-        },
+        None => help_in_words(alloc, tokens, index)?,
     };
     Ok(match help {
         Some(help) => Some(String::from_str(alloc, help)?),

@@ -14,21 +14,67 @@ pub enum Change {
     InsertSection,
     /// A pair of round brackets stands there, on the line of the token in front of it.
     InsertBrackets,
+    /// Round brackets stand around the token at the place, on the line of the token in front of it.
+    Enclose,
 }
 
-/// A token of this kind where another one stands.
-fn in_place<'s>(kind: TokenKind<'static>, at: &Token<'s>) -> Token<'s> {
-    Token {
-        kind,
-        text: b"",
-        line_before: at.line_before,
-        file: at.file,
-        start: at.start,
-        end: at.end,
+impl Change {
+    /// How many tokens there are more.
+    fn added(self) -> usize {
+        match self {
+            Change::Replace(_) => 0,
+            Change::Insert(_) => 1,
+            Change::InsertSection | Change::InsertBrackets | Change::Enclose => 2,
+        }
+    }
+
+    /// How many of the tokens at the place are replaced.
+    fn taken(self) -> usize {
+        match self {
+            Change::Replace(_) | Change::Enclose => 1,
+            Change::Insert(_) | Change::InsertSection | Change::InsertBrackets => 0,
+        }
     }
 }
 
-/// The token at the place, or where it is the end, one behind the last. None where there are no tokens.
+/// How far changed tokens are read.
+#[derive(Clone, Copy)]
+pub enum Reach {
+    /// The change is refused.
+    Before,
+    /// What is refused is the token with this index, as they were counted before the change.
+    Behind(usize),
+    /// All are read.
+    End,
+}
+
+impl Reach {
+    /// Whether the change is read.
+    pub fn is_read(self) -> bool {
+        !matches!(self, Reach::Before)
+    }
+
+    /// Whether more is read than the token with this index.
+    pub fn is_behind(self, index: usize) -> bool {
+        match self {
+            Reach::Before => false,
+            Reach::Behind(next) => next > index.saturating_add(1),
+            Reach::End => true,
+        }
+    }
+}
+
+/// A token of this kind where another one stands.
+fn in_place<'s>(kind: TokenKind<'s>, at: &Token<'s>, line_before: bool) -> Token<'s> {
+    Token {
+        kind,
+        text: b"",
+        line_before,
+        ..*at
+    }
+}
+
+/// The token at the place, or where it is the end, the last. None where there are no tokens.
 fn place_of<'s>(tokens: &[Token<'s>], index: usize) -> Option<Token<'s>> {
     match tokens.get(index) {
         Some(token) => Some(*token),
@@ -36,8 +82,72 @@ fn place_of<'s>(tokens: &[Token<'s>], index: usize) -> Option<Token<'s>> {
     }
 }
 
+/// Adds two symbols where this token stands.
+fn add_pair<'s>(
+    changed: &mut Vec<Token<'s>>,
+    pair: [Symbol; 2],
+    at: &Token<'s>,
+    line_before: bool,
+) -> Result<(), Memory> {
+    for symbol in pair {
+        changed.push(in_place(TokenKind::Symbol(symbol), at, line_before))?;
+    }
+    Ok(())
+}
+
+/// Adds what a change puts at the place of a token.
+fn add_change<'s>(
+    changed: &mut Vec<Token<'s>>,
+    at: &Token<'s>,
+    change: Change,
+) -> Result<(), Memory> {
+    let open = TokenKind::Symbol(Symbol::OpenBracket);
+    let close = TokenKind::Symbol(Symbol::CloseBracket);
+    match change {
+        Change::Insert(kind) | Change::Replace(kind) => {
+            changed.push(in_place(kind, at, at.line_before))?;
+        }
+        Change::InsertSection => {
+            add_pair(
+                changed,
+                [Symbol::OpenSection, Symbol::CloseSection],
+                at,
+                at.line_before,
+            )?;
+        }
+        Change::InsertBrackets => {
+            add_pair(
+                changed,
+                [Symbol::OpenBracket, Symbol::CloseBracket],
+                at,
+                false,
+            )?;
+        }
+        Change::Enclose => {
+            changed.push(in_place(open, at, false))?;
+            changed.push(*at)?;
+            changed.push(in_place(close, at, false))?;
+        }
+    }
+    Ok(())
+}
+
+/// The tokens with another one of this kind at a place. Memory is answered where a growth was refused.
+pub fn replaced<'s>(
+    alloc: Global,
+    tokens: &[Token<'s>],
+    index: usize,
+    kind: TokenKind<'s>,
+) -> Result<Vec<Token<'s>>, Memory> {
+    let mut changed = Vec::from_slice(alloc, tokens)?;
+    if let Some(token) = changed.get_mut(index) {
+        token.kind = kind;
+    }
+    Ok(changed)
+}
+
 /// How far the tokens are read with a change at a place: the index of the token, counted without the change, which is refused, or
-/// None where all are read. Memory is answered where a growth was refused.
+/// the end where all are read. Memory is answered where a growth was refused.
 pub fn read_with(
     alloc: Global,
     tokens: &[Token<'_>],
@@ -47,65 +157,26 @@ pub fn read_with(
     let Some(at) = place_of(tokens, index) else {
         return Ok(Reach::Before)
     };
-    let mut changed = Vec::new(alloc);
-    for token in tokens.get(..index).unwrap_or(&[]) {
-        changed.push(*token)?;
-    }
-    let added = match change {
-        Change::Insert(kind) => {
-            changed.push(in_place(kind, &at))?;
-            1
-        }
-        Change::Replace(kind) => {
-            changed.push(in_place(kind, &at))?;
-            0
-        }
-        Change::InsertBrackets => {
-            let kinds = [Symbol::OpenBracket, Symbol::CloseBracket];
-            for symbol in kinds {
-                let token = in_place(TokenKind::Symbol(symbol), &at);
-                changed.push(Token {
-                    line_before: false,
-                    ..token
-                })?;
-            }
-            2
-        }
-        Change::InsertSection => {
-            changed.push(in_place(TokenKind::Symbol(Symbol::OpenSection), &at))?;
-            changed.push(in_place(TokenKind::Symbol(Symbol::CloseSection), &at))?;
-            2
-        }
-    };
-    let skipped = match change {
-        Change::Replace(_) => index.saturating_add(1),
-        _ => index,
-    };
-    for token in tokens.get(skipped..).unwrap_or(&[]) {
-        changed.push(*token)?;
-    }
-    match parse(alloc, changed.as_slice()) {
+    let mut changed = Vec::from_slice(alloc, tokens.get(..index).unwrap_or(&[]))?;
+    add_change(&mut changed, &at, change)?;
+    let rest = index.saturating_add(change.taken());
+    changed.extend_from_slice(tokens.get(rest..).unwrap_or(&[]))?;
+    read_up_to(alloc, changed.as_slice(), index, change.added())
+}
+
+/// How far tokens are read of which so many are added at a place.
+fn read_up_to(
+    alloc: Global,
+    changed: &[Token<'_>],
+    index: usize,
+    added: usize,
+) -> Result<Reach, Memory> {
+    match parse(alloc, changed) {
         Ok(_) => Ok(Reach::End),
         Err(ParseError::Memory) => Err(Memory),
-        Err(ParseError::Expected(refused) | ParseError::TooDeep(refused)) => {
-            let after = refused.saturating_sub(added);
-            Ok(if refused <= index {
-                Reach::Before
-            } else {
-                Reach::Behind(after)
-            })
+        Err(ParseError::Expected(refused) | ParseError::TooDeep(refused)) if refused > index => {
+            Ok(Reach::Behind(refused.saturating_sub(added)))
         }
         Err(_) => Ok(Reach::Before),
     }
-}
-
-/// How far changed tokens are read.
-#[derive(Clone, Copy, PartialEq, Eq)]
-pub enum Reach {
-    /// The change is refused.
-    Before,
-    /// What is refused is the token with this index, as they were counted before the change.
-    Behind(usize),
-    /// All are read.
-    End,
 }

@@ -1,45 +1,43 @@
-use crate::trial::{Change, Reach, read_with};
-use crate::words::quoted;
+use crate::trial::{Change, read_with};
 use bc_lex_tokens::{Symbol, Token, TokenKind};
 use bc_word::Memory;
 use std::alloc::Global;
 
-/// The symbols that are told one by one where they could stand, those that tell most first.
-const TOLD: [Symbol; 16] = [
-    Symbol::Assign,
-    Symbol::Do,
-    Symbol::Else,
-    Symbol::Be,
-    Symbol::To,
-    Symbol::By,
-    Symbol::Into,
-    Symbol::Equal,
-    Symbol::CloseBracket,
-    Symbol::Comma,
-    Symbol::Colon,
-    Symbol::OpenBracket,
-    Symbol::Arrow,
-    Symbol::And,
-    Symbol::Let,
-    Symbol::Semicolon,
+/// The symbols that are told one by one where they could stand, as a sentence quotes them, those that tell most first.
+const TOLD: [(Symbol, &str); 16] = [
+    (Symbol::Assign, "`:=`"),
+    (Symbol::Do, "DO"),
+    (Symbol::Else, "ELSE"),
+    (Symbol::Be, "BE"),
+    (Symbol::To, "TO"),
+    (Symbol::By, "BY"),
+    (Symbol::Into, "INTO"),
+    (Symbol::Equal, "`=`"),
+    (Symbol::CloseBracket, "`)`"),
+    (Symbol::Comma, "`,`"),
+    (Symbol::Colon, "`:`"),
+    (Symbol::OpenBracket, "`(`"),
+    (Symbol::Arrow, "`->`"),
+    (Symbol::And, "AND"),
+    (Symbol::Let, "LET"),
+    (Symbol::Semicolon, "`;`"),
 ];
 
 /// The most things that are told.
 const MOST: usize = 4;
 
-/// Whether a token of this kind could stand in front of the token at the place. Memory is answered where a growth was refused.
-pub fn could_stand(
+/// Whether a token of this kind could stand there.
+fn could_stand(
     alloc: Global,
     tokens: &[Token<'_>],
     index: usize,
     kind: TokenKind<'static>,
 ) -> Result<bool, Memory> {
-    let reach = read_with(alloc, tokens, index, Change::Insert(kind))?;
-    Ok(reach != Reach::Before)
+    Ok(read_with(alloc, tokens, index, Change::Insert(kind))?.is_read())
 }
 
-/// Whether a symbol could stand there.
-fn could_be(
+/// Whether a symbol could stand in front of the token at the place. Memory is answered where a growth was refused.
+pub fn could_be(
     alloc: Global,
     tokens: &[Token<'_>],
     index: usize,
@@ -76,19 +74,40 @@ fn is_hidden(symbol: Symbol, begun: Beginnings) -> bool {
         Symbol::Let => begun.declaration,
         Symbol::OpenBracket => begun.expression || begun.command || begun.operator,
         Symbol::Equal | Symbol::Arrow => begun.operator,
-        Symbol::And | Symbol::Semicolon => begun.declaration || begun.command || begun.operator,
+        Symbol::And => begun.declaration || begun.command || begun.operator,
+        Symbol::Semicolon => begun.declaration || begun.command,
         _ => false,
     }
+}
+
+/// Adds the symbols that could stand in front of the token at the place.
+fn add_symbols(
+    alloc: Global,
+    things: &mut Vec<&'static str>,
+    tokens: &[Token<'_>],
+    index: usize,
+    begun: Beginnings,
+) -> Result<(), Memory> {
+    for (symbol, told) in &TOLD {
+        let is_asked = things.len() < MOST && !is_hidden(*symbol, begun);
+        if is_asked && could_be(alloc, tokens, index, *symbol)? {
+            things.push(*told)?;
+        }
+    }
+    Ok(())
 }
 
 /// The things that could stand in front of the token at the place.
 fn things(alloc: Global, tokens: &[Token<'_>], index: usize) -> Result<Vec<&'static str>, Memory> {
     let begun = what_begins(alloc, tokens, index)?;
+    let has_section = !begun.command
+        && read_with(alloc, tokens, index, Change::InsertSection)?.is_read();
     let kinds = [
         (begun.declaration, "a declaration"),
         (begun.command, "a command"),
         (begun.expression && !begun.command, "an expression"),
         (begun.name && !begun.expression && !begun.command, "a name"),
+        (has_section, "`$(`"),
     ];
     let mut things = Vec::new(alloc);
     for (is_wanted, thing) in kinds {
@@ -96,17 +115,7 @@ fn things(alloc: Global, tokens: &[Token<'_>], index: usize) -> Result<Vec<&'sta
             things.push(thing)?;
         }
     }
-    if !begun.command && read_with(alloc, tokens, index, Change::InsertSection)? != Reach::Before {
-        things.push("`$(`")?;
-    }
-    for symbol in TOLD {
-        if things.len() < MOST
-            && !is_hidden(symbol, begun)
-            && could_be(alloc, tokens, index, symbol)?
-        {
-            things.push(quoted(symbol))?;
-        }
-    }
+    add_symbols(alloc, &mut things, tokens, index, begun)?;
     if begun.operator {
         things.push("an operator")?;
     }

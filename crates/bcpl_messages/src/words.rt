@@ -27,25 +27,10 @@ pub fn is_symbol(token: &Token<'_>, symbol: Symbol) -> bool {
     }
 }
 
-/// The first spelling of a symbol, as a sentence quotes it; empty for one that no sentence names.
-pub fn quoted(symbol: Symbol) -> &'static str {
-    match symbol {
-        Symbol::Assign => "`:=`",
-        Symbol::OpenBracket => "`(`",
-        Symbol::CloseBracket => "`)`",
-        Symbol::Comma => "`,`",
-        Symbol::Semicolon => "`;`",
-        Symbol::Colon => "`:`",
-        Symbol::Equal => "`=`",
-        Symbol::Arrow => "`->`",
-        Symbol::Do => "DO",
-        Symbol::Else => "ELSE",
-        Symbol::Be => "BE",
-        Symbol::To => "TO",
-        Symbol::By => "BY",
-        Symbol::Into => "INTO",
-        Symbol::Let => "LET",
-        Symbol::And => "AND",
-        _ => "",
+/// The token in front of a place, so many tokens back.
+pub fn back<'t, 's>(tokens: &'t [Token<'s>], index: usize, count: usize) -> Option<&'t Token<'s>> {
+    match index.checked_sub(count) {
+        Some(place) => tokens.get(place),
+        None => None,
     }
 }

@@ -6,10 +6,11 @@ use crate::fields::{code_text, field_of, piece_text};
 use crate::least::least_of;
 use crate::placed::{Placed, Stretch, Text, add_help, add_place};
 use bc_cert_defs::CheckFault;
-use bc_cert_lines::{code_line, end_line, node_line, root_line};
+use bc_cert_lines::{NodeLine, code_line, end_line, node_line, root_line};
+use bc_cert_node::LeastWords;
 use bc_cert_trees::Rooted;
 use bc_rules::{code_of, next_label, words};
-use bc_rules_defs::Piece;
+use bc_rules_defs::{Piece, Table};
 use bc_word::Memory;
 use std::alloc::Global;
 
@@ -69,50 +70,50 @@ impl<'a> Lined<'a> {
     }
 }
 
+/// What may stand at a line behind another one, and what is wrong with it, where these are always the same words.
+fn fixed_sentence(before: &[u8], line: &[u8]) -> Option<&'static str> {
+    match before.first() {
+        Some(b'B' | b'C') if end_line(line).is_some() => {
+            Some("the number of the end line is not that of the entries")
+        }
+        Some(b'B' | b'C') => Some(
+            "an entry, `E segment item target first words`, or the end, `Z entries`, is wanted here",
+        ),
+        Some(b'R') => Some("a code line is wanted here: `C`, then a field for each piece"),
+        Some(b'Z') => Some("nothing may stand behind the end line"),
+        _ => None,
+    }
+}
+
+/// What is wrong with a line where a node line or a root line is wanted, and this is no node line.
+fn no_node(line: &[u8]) -> &'static str {
+    if root_line(line).is_some() {
+        "a root line wants one tree in front of it, or two for an assignment, at its level"
+    } else {
+        "a node line, `level form any push false true rules`, or a root line, `R ..`, is wanted here"
+    }
+}
+
 /// What may stand at a line, and what is wrong with this one.
 fn line_sentence(alloc: Global, lined: Lined<'_>, index: usize) -> Result<String, Memory> {
     let line = lined.line(index);
-    let before = if index > 0 {
-        lined.line(index - 1)
-    } else {
-        b""
+    let before = match index.checked_sub(1) {
+        Some(before) => lined.line(before),
+        None => b"",
     };
-    Ok(match before.first() {
-        Some(b'B' | b'C') => {
-            if end_line(line).is_some() {
-                String::from_str(
-                    alloc,
-                    "the number of the end line is not that of the entries",
-                )?
-            } else {
-                String::from_str(
-                    alloc,
-                    "an entry, `E segment item target first words`, or the end, `Z entries`, is wanted here",
-                )?
-            }
-        }
-        Some(b'R') => String::from_str(
-            alloc,
-            "a code line is wanted here: `C`, then a field for each piece",
-        )?,
-        Some(b'Z') => String::from_str(alloc, "nothing may stand behind the end line")?,
-        _ => match node_line(line) {
+    let sentence = match fixed_sentence(before, line) {
+        Some(sentence) => sentence,
+        None => match node_line(line) {
             Some(node) => {
                 let parts = node.form.parts();
-                format!(in alloc;
+                return Ok(format!(in alloc;
                     "in front of a node stand the trees of its parts, each at its level, and here they don't; the parts of this node: {parts}"
-                )?
+                )?);
             }
-            None if root_line(line).is_some() => String::from_str(
-                alloc,
-                "a root line wants one tree in front of it, or two for an assignment, at its level",
-            )?,
-            None => String::from_str(
-                alloc,
-                "a node line, `level form any push false true rules`, or a root line, `R ..`, is wanted here",
-            )?,
+            None => no_node(line),
         },
-    })
+    };
+    Ok(String::from_str(alloc, sentence)?)
 }
 
 /// A line's number as an index.
@@ -141,6 +142,52 @@ fn number(alloc: Global, words: Option<u128>) -> Result<String, Memory> {
     })
 }
 
+/// What the numbers of a node line are of, in their order.
+const NUMBERS: [&str; 4] = [
+    "of the value",
+    "of the value where B becomes what A was",
+    "of a test that jumps on false",
+    "of a test that jumps on true",
+];
+
+/// A number of a node line that is not the least.
+#[derive(Clone, Copy)]
+struct WrongNumber {
+    /// The index of its field.
+    field: usize,
+    what: &'static str,
+    right: Option<u128>,
+    written: Option<u128>,
+}
+
+/// The first number of a node line that is not the least.
+fn wrong_number(least: &LeastWords, line: &NodeLine) -> Option<WrongNumber> {
+    let costs = line.costs;
+    let right = [least.any, least.push, least.on_false, least.on_true];
+    let written = [
+        Some(costs.any),
+        costs.push,
+        Some(costs.on_false),
+        Some(costs.on_true),
+    ];
+    for (index, what) in NUMBERS.iter().enumerate() {
+        let right = right.get(index).copied()?;
+        let written = match written.get(index).copied()? {
+            Some(words) => Some(u128::from(words)),
+            None => None,
+        };
+        if right != written {
+            return Some(WrongNumber {
+                field: index.saturating_add(2),
+                what: *what,
+                right,
+                written,
+            });
+        }
+    }
+    None
+}
+
 /// The lines on a number of a node that is not the least.
 fn wrong_cost(
     alloc: Global,
@@ -149,7 +196,6 @@ fn wrong_cost(
     node: usize,
 ) -> Result<String, Memory> {
     let mut report = String::new(alloc);
-    let index = entry.index.saturating_add(1).saturating_add(node);
     let table = table_of(lined.text.bytes, lined.lines);
     let nodes = entry
         .nodes
@@ -159,48 +205,52 @@ fn wrong_cost(
     let (Some(line), Some(least)) = (nodes.last(), least_of(alloc, table, nodes)?) else {
         return Ok(report)
     };
-    let costs = line.costs;
-    let pairs = [
-        (least.any, Some(costs.any), "of the value"),
-        (
-            least.push,
-            costs.push,
-            "of the value where B becomes what A was",
-        ),
-        (
-            least.on_false,
-            Some(costs.on_false),
-            "of a test that jumps on false",
-        ),
-        (
-            least.on_true,
-            Some(costs.on_true),
-            "of a test that jumps on true",
-        ),
-    ];
-    let mut field: usize = 2;
-    for (right, written, what) in pairs {
-        let written = match written {
-            Some(words) => Some(u128::from(words)),
-            None => None,
-        };
-        if right != written {
-            let right = number(alloc, right)?;
-            let written = number(alloc, written)?;
-            let sentence = format!(in alloc;
-                "the least words {what} are {right} by the parts, and {written} stands here"
-            )?;
-            add_place(
-                alloc,
-                &mut report,
-                lined.field(index, field),
-                sentence.as_str(),
-            )?;
-            break;
-        }
-        field = field.saturating_add(1);
+    if let Some(wrong) = wrong_number(&least, line) {
+        let right = number(alloc, wrong.right)?;
+        let written = number(alloc, wrong.written)?;
+        let what = wrong.what;
+        let sentence = format!(in alloc;
+            "the least words {what} are {right} by the parts, and {written} stands here"
+        )?;
+        let index = entry.index.saturating_add(1).saturating_add(node);
+        let place = lined.field(index, wrong.field);
+        add_place(alloc, &mut report, place, sentence.as_str())?;
     }
     Ok(report)
+}
+
+/// The node line that begins so and has these rules; none where they make none.
+fn with_rules(
+    alloc: Global,
+    front: &[u8],
+    before: &str,
+    name: &str,
+) -> Result<Option<NodeLine>, Memory> {
+    let mut line = Vec::from_slice(alloc, front)?;
+    line.extend_from_slice(before.as_bytes())?;
+    line.extend_from_slice(name.as_bytes())?;
+    Ok(node_line(line.as_slice()))
+}
+
+/// Whether the checker takes a node behind these.
+fn is_taken(
+    alloc: Global,
+    table: Table,
+    nodes: &[NodeLine],
+    candidate: &NodeLine,
+) -> Result<bool, Memory> {
+    match takes(alloc, table, nodes, candidate) {
+        Ok(is_right) => Ok(is_right),
+        Err(CheckFault::Memory) => Err(Memory),
+        Err(_) => Ok(false),
+    }
+}
+
+/// The bytes of a node's line in front of its rules.
+fn front_of<'a>(lined: Lined<'a>, index: usize) -> &'a [u8] {
+    let start = lined.place(index).stretch.start;
+    let end = lined.field(index, 6).stretch.start;
+    bytes_at(lined.text.bytes, Stretch { start, end })
 }
 
 /// The rules that the checker would take at a node, as its line would name them.
@@ -216,28 +266,11 @@ fn right_rules(
     if nodes.len() > MOST_NODES {
         return Ok(right);
     }
-    let index = entry.index.saturating_add(1).saturating_add(node);
-    let place = lined.field(index, 6).stretch;
-    let start = lined.place(index).stretch.start;
-    let front = bytes_at(
-        lined.text.bytes,
-        Stretch {
-            start,
-            end: place.start,
-        },
-    );
+    let front = front_of(lined, entry.index.saturating_add(1).saturating_add(node));
     for before in FRONTS {
         for name in NAMES {
-            let mut line = Vec::from_slice(alloc, front)?;
-            line.extend_from_slice(before.as_bytes())?;
-            line.extend_from_slice(name.as_bytes())?;
-            if let Some(candidate) = node_line(line.as_slice()) {
-                let is_right = match takes(alloc, table, nodes, &candidate) {
-                    Ok(is_right) => is_right,
-                    Err(CheckFault::Memory) => return Err(Memory),
-                    Err(_) => false,
-                };
-                if is_right && right.len() < MOST {
+            if let Some(candidate) = with_rules(alloc, front, before, name)? {
+                if is_taken(alloc, table, nodes, &candidate)? && right.len() < MOST {
                     right.push(format!(in alloc; "{before}{name}")?)?;
                 }
             }
@@ -317,34 +350,40 @@ fn first_difference(code: &[Piece], right: &[Piece]) -> usize {
     index
 }
 
-/// The root of an entry, as the checker has it; none where it has none.
-fn root_of(alloc: Global, lined: Lined<'_>, entry: &EntryText) -> Result<Option<Rooted>, Memory> {
-    let Some(root) = entry.root else {
-        return Ok(None)
+/// Adds that the code of the rules is another one from this piece on, and what it is.
+fn add_difference(
+    alloc: Global,
+    report: &mut String,
+    place: Placed<'_>,
+    differs: usize,
+    right: &[Piece],
+) -> Result<(), Memory> {
+    let sentence = match right.get(differs) {
+        Some(piece) => {
+            let wanted = piece_text(alloc, *piece)?;
+            format!(in alloc; "the code of these rules has {wanted} here")?
+        }
+        None => String::from_str(alloc, "the code of these rules ends in front of this")?,
     };
-    let table = table_of(lined.text.bytes, lined.lines);
-    match rooted_of(alloc, table, entry.nodes.as_slice(), root) {
-        Ok(rooted) => Ok(Some(rooted)),
-        Err(CheckFault::Memory) => Err(Memory),
-        Err(_) => Ok(None),
-    }
+    add_place(alloc, report, place, sentence.as_str())?;
+    let whole = code_text(alloc, right)?;
+    let whole = whole.as_str();
+    writeln!(report, "  the whole of it: {whole}")?;
+    Ok(())
 }
 
-/// The lines on code that is not that of the derivation.
-fn wrong_code(alloc: Global, lined: Lined<'_>, entry: &EntryText) -> Result<String, Memory> {
-    let mut report = String::new(alloc);
-    let index = entry
-        .index
-        .saturating_add(entry.nodes.len())
-        .saturating_add(2);
-    let Some(rooted) = root_of(alloc, lined, entry)? else {
-        return Ok(report)
-    };
+/// Adds what is wrong with code that is not that of the derivation.
+fn add_code(
+    alloc: Global,
+    report: &mut String,
+    lined: Lined<'_>,
+    entry: &EntryText,
+    rooted: &Rooted,
+) -> Result<(), Memory> {
     let head = entry.head;
     if next_label(&rooted.root, &rooted.derivation, head.first).is_none() {
         let sentence = "the labels of the derivation would go over 65535, from this first one on";
-        add_place(alloc, &mut report, lined.field(entry.index, 4), sentence)?;
-        return Ok(report);
+        return add_place(alloc, report, lined.field(entry.index, 4), sentence);
     }
     let right = code_of(
         alloc,
@@ -353,35 +392,26 @@ fn wrong_code(alloc: Global, lined: Lined<'_>, entry: &EntryText) -> Result<Stri
         head.target,
         head.first,
     )?;
+    let index = entry
+        .index
+        .saturating_add(entry.nodes.len())
+        .saturating_add(2);
     let Some(code) = code_line(alloc, lined.line(index))? else {
-        return Ok(report)
+        return Ok(())
     };
     let differs = first_difference(code.as_slice(), right.as_slice());
-    let sentence = match right.get(differs) {
-        Some(piece) => {
-            let wanted = piece_text(alloc, *piece)?;
-            format!(in alloc; "the code of these rules has {wanted} here")?
-        }
-        None => String::from_str(alloc, "the code of these rules ends in front of this")?,
-    };
-    add_place(
-        alloc,
-        &mut report,
-        lined.field(index, differs.saturating_add(1)),
-        sentence.as_str(),
-    )?;
-    let whole = code_text(alloc, right.as_slice())?;
-    let whole = whole.as_str();
-    writeln!(report, "  the whole of it: {whole}")?;
-    Ok(report)
+    let place = lined.field(index, differs.saturating_add(1));
+    add_difference(alloc, report, place, differs, right.as_slice())
 }
 
-/// The lines on a number of words that is not that of the code.
-fn wrong_words(alloc: Global, lined: Lined<'_>, entry: &EntryText) -> Result<String, Memory> {
-    let mut report = String::new(alloc);
-    let Some(rooted) = root_of(alloc, lined, entry)? else {
-        return Ok(report)
-    };
+/// Adds what is wrong with a number of words that is not that of the code.
+fn add_words(
+    alloc: Global,
+    report: &mut String,
+    lined: Lined<'_>,
+    entry: &EntryText,
+    rooted: &Rooted,
+) -> Result<(), Memory> {
     let head = entry.head;
     let right = code_of(
         alloc,
@@ -395,10 +425,35 @@ fn wrong_words(alloc: Global, lined: Lined<'_>, entry: &EntryText) -> Result<Str
     let sentence = format!(in alloc; "the code has {count} words, and {written} stands here")?;
     add_place(
         alloc,
-        &mut report,
+        report,
         lined.field(entry.index, 5),
         sentence.as_str(),
-    )?;
+    )
+}
+
+/// The lines on code that is not that of the derivation, or on a number of words that is not that of the code.
+fn wrong_code(
+    alloc: Global,
+    lined: Lined<'_>,
+    entry: &EntryText,
+    is_of_words: bool,
+) -> Result<String, Memory> {
+    let mut report = String::new(alloc);
+    let Some(root) = entry.root else {
+        return Ok(report)
+    };
+    let table = table_of(lined.text.bytes, lined.lines);
+    match rooted_of(alloc, table, entry.nodes.as_slice(), root) {
+        Ok(rooted) => {
+            if is_of_words {
+                add_words(alloc, &mut report, lined, entry, &rooted)?;
+            } else {
+                add_code(alloc, &mut report, lined, entry, &rooted)?;
+            }
+        }
+        Err(CheckFault::Memory) => return Err(Memory),
+        Err(_) => {}
+    }
     Ok(report)
 }
 
@@ -432,9 +487,31 @@ fn in_entry(
     match fault {
         CheckFault::WrongCost(_, node) => wrong_cost(alloc, lined, &entry, node_index(node)),
         CheckFault::WrongRule(_, node) => wrong_rule(alloc, lined, &entry, node_index(node)),
-        CheckFault::WrongCode(_) => wrong_code(alloc, lined, &entry),
-        CheckFault::WrongWords(_) => wrong_words(alloc, lined, &entry),
+        CheckFault::WrongCode(_) => wrong_code(alloc, lined, &entry, false),
+        CheckFault::WrongWords(_) => wrong_code(alloc, lined, &entry, true),
         _ => Ok(String::new(alloc)),
+    }
+}
+
+/// What is said of a fault of a certificate's form: the line's index, the sentence, and the help.
+fn said_of_form(fault: CheckFault, count: usize) -> Option<(usize, &'static str, &'static str)> {
+    match fault {
+        CheckFault::Header => Some((
+            0,
+            "the first line of a certificate is `BCPLCERT 2`, or `BCPLCERT 1` for the first rule table",
+            "the certificate comes in front of the texts: bcpl check CERT TEXT",
+        )),
+        CheckFault::TooDeep(line) => Some((
+            index_of(line),
+            "more than 400 nodes stand one within another up to this one",
+            "no build makes such a tree: the parser refuses it",
+        )),
+        CheckFault::Truncated => Some((
+            count.saturating_sub(1),
+            "the certificate ends with this line, which is not its end line, or has no line feed",
+            "the last line is `Z` and the number of the entries; perhaps the end of the file is lost",
+        )),
+        _ => None,
     }
 }
 
@@ -446,38 +523,20 @@ pub fn check_lines(alloc: Global, text: Text<'_>, fault: CheckFault) -> Result<S
         text,
         lines: lines.as_slice(),
     };
+    if let Some((index, sentence, help)) = said_of_form(fault, lines.len()) {
+        return at_line(alloc, lined, index, sentence, help);
+    }
     match fault {
-        CheckFault::Header => at_line(
-            alloc,
-            lined,
-            0,
-            "the first line of a certificate is `BCPLCERT 2`, or `BCPLCERT 1` for the first rule table",
-            "the certificate comes in front of the texts: bcpl check CERT TEXT",
-        ),
         CheckFault::Line(line) => {
             let index = index_of(line);
             let sentence = line_sentence(alloc, lined, index)?;
             let help = "docs/certificate.md has the form of each line";
             at_line(alloc, lined, index, sentence.as_str(), help)
         }
-        CheckFault::TooDeep(line) => at_line(
-            alloc,
-            lined,
-            index_of(line),
-            "more than 400 nodes stand one within another up to this one",
-            "no build makes such a tree: the parser refuses it",
-        ),
-        CheckFault::Truncated => at_line(
-            alloc,
-            lined,
-            lines.len().saturating_sub(1),
-            "the certificate ends with this line, which is not its end line, or has no line feed",
-            "the last line is `Z` and the number of the entries; perhaps the end of the file is lost",
-        ),
         CheckFault::WrongCost(entry, _)
         | CheckFault::WrongRule(entry, _)
         | CheckFault::WrongCode(entry)
         | CheckFault::WrongWords(entry) => in_entry(alloc, lined, entry, fault),
-        CheckFault::Read | CheckFault::Memory => Ok(String::new(alloc)),
+        _ => Ok(String::new(alloc)),
     }
 }

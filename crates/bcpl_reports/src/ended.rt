@@ -1,12 +1,11 @@
 use crate::instruction::decoded;
-use crate::names::library_name;
 use crate::placed::{Placed, Text, add_help, add_place};
-use crate::sizes::addresses;
 use crate::text_items::item_at;
 use bc_machine_defs::End;
 use bc_machine_image::Image;
 use bc_text_items::{Item, Segment};
 use bc_word::Memory;
+use bcpl_segments::{addresses, library_name};
 use std::alloc::Global;
 
 /// Where a run stood when it ended.

@@ -2,7 +2,7 @@ use bc_cert_lines::NodeLine;
 use bc_cert_node::{Facts, Form, LeastWords, Node, words_as_operand};
 use bc_core::CoreExp;
 use bc_rules_defs::Table;
-use bc_word::{Memory, Op};
+use bc_word::Memory;
 use std::alloc::Global;
 
 /// The trees of node lines that no whole has taken yet, with what the rules ask of them.
@@ -12,59 +12,76 @@ struct Trees {
     facts: Vec<Facts>,
 }
 
+/// The last one, in a box; none where there is none.
+fn last(alloc: Global, parts: &mut Vec<CoreExp>) -> Result<Option<Box<CoreExp>>, Memory> {
+    match parts.pop() {
+        Some(part) => Ok(Some(Box::new(alloc, part)?)),
+        None => Ok(None),
+    }
+}
+
 /// The two last ones.
-fn pair(parts: &mut Vec<CoreExp>) -> Option<(CoreExp, CoreExp)> {
-    let right = parts.pop()?;
-    let left = parts.pop()?;
-    Some((left, right))
+fn pair(
+    alloc: Global,
+    parts: &mut Vec<CoreExp>,
+) -> Result<Option<(Box<CoreExp>, Box<CoreExp>)>, Memory> {
+    let Some(right) = last(alloc, parts)? else {
+        return Ok(None)
+    };
+    match last(alloc, parts)? {
+        Some(left) => Ok(Some((left, right))),
+        None => Ok(None),
+    }
 }
 
-/// An expression with one part.
-fn one_part(alloc: Global, form: Form, part: CoreExp) -> Result<CoreExp, Memory> {
-    let part = Box::new(alloc, part)?;
-    Ok(match form {
-        Form::Neg => CoreExp::Neg(part),
-        Form::Not => CoreExp::Not(part),
-        _ => CoreExp::Load(part),
-    })
-}
-
-/// An expression with two parts.
-fn two_parts(alloc: Global, op: Op, left: CoreExp, right: CoreExp) -> Result<CoreExp, Memory> {
-    let left = Box::new(alloc, left)?;
-    Ok(CoreExp::Bin(op, left, Box::new(alloc, right)?))
-}
-
-/// The expression of a node over its parts; none where they are too few.
-fn whole(alloc: Global, form: Form, parts: Vec<CoreExp>) -> Result<Option<CoreExp>, Memory> {
-    let mut parts = parts;
-    Ok(match form {
+/// An expression without parts.
+fn leaf(form: Form) -> Option<CoreExp> {
+    match form {
         Form::Num(n) => Some(CoreExp::Num(n)),
         Form::Frame(offset) => Some(CoreExp::Frame(offset)),
         Form::Glob(n) => Some(CoreExp::Glob(n)),
         Form::Place(label) => Some(CoreExp::Place(label)),
         Form::Valof(number) => Some(CoreExp::Valof(number)),
-        Form::Load | Form::Neg | Form::Not => match parts.pop() {
-            Some(part) => Some(one_part(alloc, form, part)?),
+        _ => None,
+    }
+}
+
+/// The expression of a node whose last part is this, over its other parts; none where they are too few.
+fn over(
+    alloc: Global,
+    form: Form,
+    parts: Vec<CoreExp>,
+    last_part: Box<CoreExp>,
+) -> Result<Option<CoreExp>, Memory> {
+    let mut parts = parts;
+    Ok(match form {
+        Form::Neg => Some(CoreExp::Neg(last_part)),
+        Form::Not => Some(CoreExp::Not(last_part)),
+        Form::Load => Some(CoreExp::Load(last_part)),
+        Form::Bin(op) => match last(alloc, &mut parts)? {
+            Some(left) => Some(CoreExp::Bin(op, left, last_part)),
             None => None,
         },
-        Form::Bin(op) => match pair(&mut parts) {
-            Some((left, right)) => Some(two_parts(alloc, op, left, right)?),
+        Form::Cond => match pair(alloc, &mut parts)? {
+            Some((condition, this)) => Some(CoreExp::Cond(condition, this, last_part)),
             None => None,
         },
-        Form::Cond => match (parts.pop(), pair(&mut parts)) {
-            (Some(that), Some((condition, this))) => {
-                let condition = Box::new(alloc, condition)?;
-                let this = Box::new(alloc, this)?;
-                Some(CoreExp::Cond(condition, this, Box::new(alloc, that)?))
-            }
-            _ => None,
-        },
-        Form::Call(_) => match parts.pop() {
-            Some(routine) => Some(CoreExp::Call(parts, Box::new(alloc, routine)?)),
-            None => None,
-        },
+        Form::Call(_) => Some(CoreExp::Call(parts, last_part)),
+        _ => None,
     })
+}
+
+/// The expression of a node over its parts; none where they are too few.
+fn whole(alloc: Global, form: Form, parts: Vec<CoreExp>) -> Result<Option<CoreExp>, Memory> {
+    let found = leaf(form);
+    if found.is_some() {
+        return Ok(found);
+    }
+    let mut parts = parts;
+    match last(alloc, &mut parts)? {
+        Some(last_part) => over(alloc, form, parts, last_part),
+        None => Ok(None),
+    }
 }
 
 impl Trees {

@@ -1,10 +1,9 @@
-use crate::names::library_name;
 use crate::placed::{Placed, Text, add_help, add_note, add_place};
-use crate::sizes::{SegmentSize, segment_words, too_large};
 use crate::text_items::item_at;
 use bc_link::LinkError;
 use bc_text_items::{Base, Item, Segment};
 use bc_word::Memory;
+use bcpl_segments::{SegmentSize, library_name, segment_words, too_large};
 use std::alloc::Global;
 
 /// Whether an item speaks of a label.

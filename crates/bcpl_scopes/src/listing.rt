@@ -39,9 +39,9 @@ pub struct Scopes<'p, 's> {
 struct Listing<'p, 's> {
     page: Page,
     scopes: Scopes<'p, 's>,
-    lines: Lines,
-    leaves: Vec<Token<'s>>,
-    walk: Walk<'p, 's>,
+    lines: &'p Lines,
+    leaves: &'p [Token<'s>],
+    walk: &'p Walk<'p, 's>,
 }
 
 /// Whether a routine sets this global.
@@ -283,13 +283,12 @@ pub fn scope_listing(alloc: Global, scopes: Scopes<'_, '_>) -> Result<Vec<u8>, M
     let mut listing = Listing {
         page: Page::new(alloc),
         scopes,
-        lines,
-        leaves,
-        walk,
+        lines: &lines,
+        leaves: leaves.as_slice(),
+        walk: &walk,
     };
     listing.add_frames()?;
     listing.add_data()?;
     listing.add_globals()?;
-    let Listing { page, .. } = listing;
-    Ok(page.into_text())
+    Ok(listing.page.into_text())
 }

@@ -54,10 +54,11 @@ struct Listing<'p, 's> {
     page: Page,
     program: Program<'p, 's>,
     text: &'s [u8],
-    lines: Lines,
-    leaves: Vec<Token<'s>>,
-    marks: Marks,
-    places: Vec<usize>,
+    lines: &'p Lines,
+    leaves: &'p [Token<'s>],
+    marks: &'p Marks,
+    /// The leaf of each place.
+    places: &'p [usize],
     /// For each root whether some of its items were told.
     begun: Vec<bool>,
     /// How many lines of the file are told.
@@ -357,6 +358,21 @@ impl<'p, 's> Listing<'p, 's> {
         Ok(end)
     }
 
+    /// Adds all items in runs of one owner, the end of the text, and the sizes.
+    fn add_all(&mut self) -> Result<(), Memory> {
+        let count = self.program.items.len();
+        let mut at: usize = 0;
+        for _ in 0..count {
+            if at >= count {
+                break;
+            }
+            at = self.add_run(at)?;
+        }
+        self.page.add(b"Z")?;
+        self.page.end_line()?;
+        self.add_sizes()
+    }
+
     /// A line of sizes.
     fn add_size(&mut self, words: u64, what: &str) -> Result<(), Memory> {
         self.page.add(b"/ ")?;
@@ -395,27 +411,36 @@ fn unit(words: u64) -> &'static str {
     if words == 1 { "word" } else { "words" }
 }
 
-/// The code of a file's section, each source line as a comment in front of its roots and of what is its commands' own, with
-/// labels, data, and the sizes at the end. Without its comments it is the text of the segment. Memory is answered where a
-/// growth was refused.
-pub fn code_listing(alloc: Global, program: Program<'_, '_>) -> Result<Vec<u8>, Memory> {
-    let count = program.items.len();
-    let outline = Outline::new(alloc, program.section)?;
-    let marks = Marks::new(alloc, &outline, count, program.entries)?;
-    let Outline { places, .. } = outline;
-    let text = program.files.text(program.main);
-    let lines = Lines::new(alloc, text)?;
-    let leaves = leaves_of(alloc, program.tokens)?;
-    let begun = vec![in alloc; false; program.entries.len()]?;
-    let mut listing = Listing {
-        page: Page::new(alloc),
-        program,
-        text,
+/// What a listing of code is made from beside the program.
+#[derive(Clone, Copy)]
+struct Beside<'p, 's> {
+    lines: &'p Lines,
+    leaves: &'p [Token<'s>],
+    marks: &'p Marks,
+    places: &'p [usize],
+}
+
+/// The listing of a program's code.
+fn listed<'p, 's>(
+    alloc: Global,
+    program: Program<'p, 's>,
+    beside: Beside<'p, 's>,
+) -> Result<Vec<u8>, Memory> {
+    let Beside {
         lines,
         leaves,
         marks,
         places,
-        begun,
+    } = beside;
+    let mut listing = Listing {
+        page: Page::new(alloc),
+        program,
+        text: program.files.text(program.main),
+        lines,
+        leaves,
+        marks,
+        places,
+        begun: vec![in alloc; false; program.entries.len()]?,
         told: 0,
         last: None,
         sizes: Sizes {
@@ -424,16 +449,23 @@ pub fn code_listing(alloc: Global, program: Program<'_, '_>) -> Result<Vec<u8>, 
             data: 0,
         },
     };
-    let mut at: usize = 0;
-    for _ in 0..count {
-        if at >= count {
-            break;
-        }
-        at = listing.add_run(at)?;
-    }
-    listing.page.add(b"Z")?;
-    listing.page.end_line()?;
-    listing.add_sizes()?;
-    let Listing { page, .. } = listing;
-    Ok(page.into_text())
+    listing.add_all()?;
+    Ok(listing.page.into_text())
+}
+
+/// The code of a file's section, each source line as a comment in front of its roots and of what is its commands' own, with
+/// labels, data, and the sizes at the end. Without its comments it is the text of the segment. Memory is answered where a
+/// growth was refused.
+pub fn code_listing(alloc: Global, program: Program<'_, '_>) -> Result<Vec<u8>, Memory> {
+    let outline = Outline::new(alloc, program.section)?;
+    let marks = Marks::new(alloc, &outline, program.items.len(), program.entries)?;
+    let lines = Lines::new(alloc, program.files.text(program.main))?;
+    let leaves = leaves_of(alloc, program.tokens)?;
+    let beside = Beside {
+        lines: &lines,
+        leaves: leaves.as_slice(),
+        marks: &marks,
+        places: outline.places.as_slice(),
+    };
+    listed(alloc, program, beside)
 }

@@ -59,30 +59,33 @@ pub enum Purpose {
     Finish,
 }
 
+/// What is told of each purpose, in their order.
+const WORDS: [&str; 19] = [
+    "the routine",
+    "the return at its end",
+    "the end of the VALOF",
+    "each turn begins here",
+    "LOOP goes here",
+    "the way back; BREAK goes behind it",
+    "BREAK goes here",
+    "it goes on here",
+    "the jump past ELSE",
+    "the switch",
+    "ENDCASE goes here",
+    "a label",
+    "BREAK",
+    "LOOP",
+    "ENDCASE",
+    "GOTO",
+    "RESULTIS",
+    "RETURN",
+    "FINISH",
+];
+
 impl Purpose {
     /// What is told of it.
     pub fn words(self) -> &'static str {
-        match self {
-            Purpose::Routine => "the routine",
-            Purpose::End => "the return at its end",
-            Purpose::Valof => "the end of the VALOF",
-            Purpose::Turn => "each turn begins here",
-            Purpose::Onward => "LOOP goes here",
-            Purpose::Back => "the way back; BREAK goes behind it",
-            Purpose::Behind => "BREAK goes here",
-            Purpose::Join => "it goes on here",
-            Purpose::Past => "the jump past ELSE",
-            Purpose::Switch => "the switch",
-            Purpose::Switched => "ENDCASE goes here",
-            Purpose::Label => "a label",
-            Purpose::Break => "BREAK",
-            Purpose::Loop => "LOOP",
-            Purpose::EndCase => "ENDCASE",
-            Purpose::Goto => "GOTO",
-            Purpose::ResultIs => "RESULTIS",
-            Purpose::Return => "RETURN",
-            Purpose::Finish => "FINISH",
-        }
+        WORDS.get(self as usize).copied().unwrap_or("")
     }
 }
 

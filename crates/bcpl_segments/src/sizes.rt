@@ -3,7 +3,7 @@ use bc_word::Memory;
 use std::alloc::Global;
 
 /// The address of the first segment.
-pub const FIRST_ADDRESS: usize = 520;
+const FIRST_ADDRESS: usize = 520;
 
 /// The greatest address at which the stack may begin.
 const GREATEST_BASE: usize = 65_472;

@@ -1,0 +1,184 @@
+//! Where a name is declared that means nothing at the place where it is used.
+
+use crate::brackets::open_before;
+use crate::words::is_symbol;
+use bc_lex_tokens::{Symbol, Token, TokenKind};
+use bc_word::Memory;
+use std::alloc::Global;
+
+/// What the names declare that stand next.
+#[derive(Clone, Copy)]
+enum Listed {
+    Nothing,
+    /// Variables, vectors and routines.
+    Defined,
+    Parameters,
+    /// The variable of a FOR.
+    Counter,
+    /// The names of MANIFEST, STATIC or GLOBAL.
+    Constants,
+}
+
+/// How a name is declared.
+#[derive(Clone, Copy)]
+enum Kind {
+    Defined,
+    Parameter,
+    Counter,
+    Constant,
+    Label,
+}
+
+/// Where a name is declared, and what is said of it behind the name.
+#[derive(Clone, Copy)]
+pub struct Declared {
+    /// The index of the token.
+    pub index: usize,
+    pub sentence: &'static str,
+}
+
+/// What the names behind a symbol declare, given what those in front of it did.
+fn behind_symbol(listed: Listed, symbol: Symbol) -> Listed {
+    match (listed, symbol) {
+        (_, Symbol::Let | Symbol::And) => Listed::Defined,
+        (_, Symbol::For) => Listed::Counter,
+        (_, Symbol::Manifest | Symbol::Static | Symbol::Global) => Listed::Constants,
+        (_, Symbol::CloseSection) => Listed::Nothing,
+        (Listed::Constants, _) => Listed::Constants,
+        (Listed::Defined, Symbol::OpenBracket) => Listed::Parameters,
+        (Listed::Defined | Listed::Parameters, Symbol::Comma) => listed,
+        _ => Listed::Nothing,
+    }
+}
+
+/// What the names behind a token declare, given what those in front of it did.
+fn behind(listed: Listed, token: &Token<'_>) -> Listed {
+    match token.kind {
+        TokenKind::Symbol(symbol) => behind_symbol(listed, symbol),
+        TokenKind::Name(_) => match listed {
+            Listed::Counter => Listed::Nothing,
+            _ => listed,
+        },
+        _ => match listed {
+            Listed::Constants => listed,
+            _ => Listed::Nothing,
+        },
+    }
+}
+
+/// Whether the token at a place is this symbol.
+fn is_at(tokens: &[Token<'_>], place: usize, symbol: Symbol) -> bool {
+    match tokens.get(place) {
+        Some(token) => is_symbol(token, symbol),
+        None => false,
+    }
+}
+
+/// Whether an entry of a list, or a command, begins with the token at a place.
+fn begins(tokens: &[Token<'_>], place: usize) -> bool {
+    let Some(before) = place.checked_sub(1) else {
+        return true
+    };
+    let is_on_new_line = match tokens.get(place) {
+        Some(token) => token.line_before,
+        None => false,
+    };
+    is_on_new_line
+        || is_at(tokens, before, Symbol::Semicolon)
+        || is_at(tokens, before, Symbol::OpenSection)
+        || is_at(tokens, before, Symbol::Colon)
+}
+
+/// How the name at a place is declared there, if it is, given what the tokens in front of it list.
+fn kind_at(tokens: &[Token<'_>], place: usize, listed: Listed) -> Option<Kind> {
+    let next = place.saturating_add(1);
+    match listed {
+        Listed::Defined => Some(Kind::Defined),
+        Listed::Parameters => Some(Kind::Parameter),
+        Listed::Counter => Some(Kind::Counter),
+        Listed::Constants => {
+            let has_value = is_at(tokens, next, Symbol::Equal)
+                || is_at(tokens, next, Symbol::Colon);
+            (has_value && begins(tokens, place)).then_some(Kind::Constant)
+        }
+        Listed::Nothing => {
+            let is_label = is_at(tokens, next, Symbol::Colon) && begins(tokens, place);
+            is_label.then_some(Kind::Label)
+        }
+    }
+}
+
+/// Whether the block in which a name is declared has the place where it is used, too.
+fn encloses(
+    alloc: Global,
+    tokens: &[Token<'_>],
+    declared: usize,
+    used: usize,
+    kind: Kind,
+) -> Result<bool, Memory> {
+    let mut open = open_before(alloc, tokens, declared)?;
+    if let Kind::Constant = kind {
+        let _list = open.pop();
+    }
+    let Some(innermost) = open.pop() else {
+        return Ok(true)
+    };
+    Ok(
+        open_before(alloc, tokens, used)?
+            .iter()
+            .any(|bracket| *bracket == innermost),
+    )
+}
+
+/// What is said of a declaration at one place whose name is used at another.
+fn sentence_on(kind: Kind, is_enclosed: bool, is_behind: bool) -> &'static str {
+    match kind {
+        Kind::Parameter => "is a parameter here, known in this routine alone",
+        Kind::Counter => "is declared here for a FOR, and known in it alone",
+        Kind::Label => "is a label here, of another routine or an inner block",
+        Kind::Defined | Kind::Constant => {
+            if is_enclosed && is_behind {
+                "is declared here, behind its use"
+            } else {
+                "is declared here, within another block"
+            }
+        }
+    }
+}
+
+/// Where a name is declared that means nothing at the token with this index: the first declaration of a block that has the token, else
+/// the first of all. Memory is answered where a growth was refused.
+pub fn declaration_of(
+    alloc: Global,
+    tokens: &[Token<'_>],
+    used: usize,
+    name: &[u8],
+) -> Result<Option<Declared>, Memory> {
+    let mut listed = Listed::Nothing;
+    let mut first = None;
+    for (place, token) in tokens.iter().enumerate() {
+        if is_named(token, name) {
+            if let Some(kind) = kind_at(tokens, place, listed) {
+                let is_enclosed = encloses(alloc, tokens, place, used, kind)?;
+                let found = Declared {
+                    index: place,
+                    sentence: sentence_on(kind, is_enclosed, place > used),
+                };
+                if is_enclosed && matches!(kind, Kind::Defined | Kind::Constant) {
+                    return Ok(Some(found));
+                }
+                first = first.or(Some(found));
+            }
+        }
+        listed = behind(listed, token);
+    }
+    Ok(first)
+}
+
+/// Whether a token is this name.
+fn is_named(token: &Token<'_>, name: &[u8]) -> bool {
+    match token.kind {
+        TokenKind::Name(found) => found == name,
+        _ => false,
+    }
+}

@@ -1,0 +1,238 @@
+//! Tokens side by side, and tokens by themselves, that are known mistakes.
+
+use crate::words::{back, is_symbol};
+use bc_lex_tokens::{Symbol, Token, TokenKind};
+
+/// What is said of two spellings side by side; an empty one is that of any token. The first that fits counts.
+const PAIRS: [(&[u8], &[u8], &str); 25] = [
+    (b"=", b"=", "equality is written with one ="),
+    (b"=", b"<", "at most is written <="),
+    (b"=", b">", "at least is written >="),
+    (
+        b"FOR",
+        b"LET",
+        "FOR declares its variable itself, as in FOR I = 1 TO 9 DO ..",
+    ),
+    (
+        b"RETURN",
+        b"",
+        "RETURN gives no value; a function gives that of the expression behind its =, as in LET F(X) = VALOF $( .. RESULTIS X $)",
+    ),
+    (b"~", b"=", "unequal is written ~= or NE"),
+    (b"!", b"=", "unequal is written ~= or NE"),
+    (
+        b"<",
+        b">",
+        "unequal is written ~= or NE, and shifts << and >>",
+    ),
+    (
+        b"<",
+        b"=",
+        "unequal is written ~= or NE, and shifts << and >>",
+    ),
+    (
+        b">",
+        b">",
+        "unequal is written ~= or NE, and shifts << and >>",
+    ),
+    (
+        b">",
+        b"=",
+        "unequal is written ~= or NE, and shifts << and >>",
+    ),
+    (b"+", b"+", "to add to X, write X := X + 1"),
+    (b"+", b"=", "to add to X, write X := X + 1"),
+    (b"-", b"-", "to take from X, write X := X - 1"),
+    (b"-", b"=", "to take from X, write X := X - 1"),
+    (b"&", b"&", "and is written with one &"),
+    (b"|", b"|", "or is written with one |"),
+    (
+        b"DO",
+        b";",
+        "a command stands behind DO; one that does nothing is written $( $)",
+    ),
+    (
+        b"THEN",
+        b";",
+        "a command stands behind THEN; one that does nothing is written $( $)",
+    ),
+    (
+        b"MANIFEST",
+        b"",
+        "the names stand between $( and $), as in MANIFEST $( N = 10; M = 20 $)",
+    ),
+    (
+        b"STATIC",
+        b"",
+        "the names stand between $( and $), as in STATIC $( N = 10; M = 20 $)",
+    ),
+    (
+        b"GLOBAL",
+        b"",
+        "the names stand between $( and $), as in GLOBAL $( N:100; M:101 $)",
+    ),
+    (
+        b"NEXT",
+        b"",
+        "FOR has no NEXT: its body is one command, or a block of several, $( .. $)",
+    ),
+    (
+        b"next",
+        b"",
+        "FOR has no NEXT: its body is one command, or a block of several, $( .. $)",
+    ),
+    (
+        b"Next",
+        b"",
+        "FOR has no NEXT: its body is one command, or a block of several, $( .. $)",
+    ),
+];
+
+/// The signs of relations.
+const RELATIONS: [&[u8]; 12] = [
+    b"<", b"<=", b">", b">=", b"=", b"~=", b"LE", b"GE", b"EQ", b"NE", b"LS", b"GR",
+];
+
+/// What is said of a name that is an operator or a bracket in other languages.
+const NAMES: [(&[u8], &str); 8] = [
+    (b"MOD", "the remainder is written REM"),
+    (b"mod", "the remainder is written REM"),
+    (b"XOR", "exclusive or is written NEQV"),
+    (b"xor", "exclusive or is written NEQV"),
+    (b"BEGIN", "a block is opened by $( and closed by $)"),
+    (b"begin", "a block is opened by $( and closed by $)"),
+    (b"END", "a block is closed by $)"),
+    (b"end", "a block is closed by $)"),
+];
+
+const COMMAND: &str =
+    "this begins a command; where an expression stands, write VALOF $( .. RESULTIS E $)";
+
+const DECLARATION: &str =
+    "the declarations of a block stand in front of its commands, apart by ; or line breaks; open a block by $( for further ones";
+
+/// What is said of a symbol that is refused by itself.
+const SYMBOLS: [(Symbol, &str); 18] = [
+    (
+        Symbol::Else,
+        "ELSE and OR belong to TEST .. THEN .. ELSE; an IF has no second command, and the operator or is written |",
+    ),
+    (
+        Symbol::And,
+        "AND goes on with a declaration that LET begins; the operator and is written &",
+    ),
+    (Symbol::Let, DECLARATION),
+    (Symbol::Manifest, DECLARATION),
+    (Symbol::Static, DECLARATION),
+    (Symbol::Global, DECLARATION),
+    (Symbol::If, COMMAND),
+    (Symbol::Unless, COMMAND),
+    (Symbol::While, COMMAND),
+    (Symbol::Until, COMMAND),
+    (Symbol::For, COMMAND),
+    (Symbol::SwitchOn, COMMAND),
+    (Symbol::Test, COMMAND),
+    (Symbol::Return, COMMAND),
+    (Symbol::Break, COMMAND),
+    (Symbol::OpenSection, COMMAND),
+    (
+        Symbol::Vector,
+        "a vector is declared by LET V = VEC K, alone in its definition",
+    ),
+    (Symbol::ResultIs, "RESULTIS stands in VALOF $( .. $)"),
+];
+
+/// How a token is spelled; nothing where there is none.
+fn text_of<'s>(token: Option<&Token<'s>>) -> &'s [u8] {
+    match token {
+        Some(token) => token.text,
+        None => b"",
+    }
+}
+
+/// Whether an octal number ends in front of a digit that is none of its own.
+fn is_octal(before: Option<&Token<'_>>, at: Option<&Token<'_>>) -> bool {
+    let (Some(before), Some(at)) = (before, at) else {
+        return false
+    };
+    before.text.starts_with(b"#")
+        && before.end == at.start
+        && (at.text.starts_with(b"8") || at.text.starts_with(b"9"))
+}
+
+/// Whether a token is a name.
+fn is_name(token: Option<&Token<'_>>) -> bool {
+    match token {
+        Some(token) => matches!(token.kind, TokenKind::Name(_)),
+        None => false,
+    }
+}
+
+/// Whether a token is LET or AND.
+fn is_let(token: Option<&Token<'_>>) -> bool {
+    match token {
+        Some(token) => is_symbol(token, Symbol::Let) || is_symbol(token, Symbol::And),
+        None => false,
+    }
+}
+
+/// What is said of two spellings side by side.
+fn help_for_pair(before: &[u8], at: &[u8]) -> Option<&'static str> {
+    for (first, second, help) in &PAIRS {
+        if *first == before && (second.is_empty() || *second == at) {
+            return Some(*help);
+        }
+    }
+    if RELATIONS.iter().any(|relation| *relation == at) {
+        return Some("relations don't chain: write (A <= B) & (B <= C)");
+    }
+    None
+}
+
+/// What is said of the tokens around a place that are known mistakes.
+pub fn help_for_neighbours(tokens: &[Token<'_>], index: usize) -> Option<&'static str> {
+    let at = tokens.get(index);
+    let before = back(tokens, index, 1);
+    if is_octal(before, at) {
+        return Some(
+            "octal digits, which stand behind #, go from 0 to 7; a decimal number has no #",
+        );
+    }
+    if let Some(help) = help_for_pair(text_of(before), text_of(at)) {
+        return Some(help);
+    }
+    let earlier = back(tokens, index, 2);
+    if is_let(earlier) && is_name(before) && is_name(at) {
+        return Some("a variable has no type, and is declared by LET X = 1");
+    }
+    let earlier = text_of(earlier);
+    if earlier == b"-".as_slice() && text_of(before) == b"-".as_slice() {
+        return Some("to take from X, write X := X - 1");
+    }
+    let next = text_of(tokens.get(index.saturating_add(1)));
+    if text_of(at) == b";".as_slice() && next == b"ELSE".as_slice() {
+        return Some("no ; stands in front of ELSE");
+    }
+    None
+}
+
+/// What is said of a name that is an operator or a bracket in other languages.
+pub fn help_for_name(name: &[u8]) -> Option<&'static str> {
+    for (known, help) in &NAMES {
+        if *known == name {
+            return Some(*help);
+        }
+    }
+    None
+}
+
+/// What is said of the token that is refused by itself.
+pub fn help_for_token(token: Option<&Token<'_>>) -> Option<&'static str> {
+    let token = token?;
+    for (symbol, help) in &SYMBOLS {
+        if is_symbol(token, *symbol) {
+            return Some(*help);
+        }
+    }
+    None
+}
