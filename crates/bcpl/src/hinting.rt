@@ -95,14 +95,15 @@ pub fn with_hints<T: Drop, F: Files>(
         Err(failure) if taken.shows => failure,
         done => return done,
     };
+    if is_of_two_setters(&failure.cause) {
+        return Err(match named_twice(rt, taken.paths) {
+            Some(path) => explained(failure, line_on_twice(alloc, path)),
+            None => failure,
+        });
+    }
     if is_of_content(&failure.cause, taken.wanted) {
         let lines = lines_on_files(rt, alloc, failure.told(), taken);
         return Err(explained(failure, lines));
-    }
-    if is_of_two_setters(&failure.cause)
-        && let Some(path) = named_twice(rt, taken.paths)
-    {
-        return Err(explained(failure, line_on_twice(alloc, path)));
     }
     Err(failure)
 }

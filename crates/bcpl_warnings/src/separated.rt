@@ -37,6 +37,16 @@ fn line_start(tokens: &[Token<'_>], index: usize) -> usize {
     at
 }
 
+/// The index of the first token of the line on which the token with this index stands, behind a bracket that opens a section.
+fn first_behind_bracket(tokens: &[Token<'_>], index: usize) -> usize {
+    let start = line_start(tokens, index);
+    if start < index && is_at(tokens, start, Symbol::OpenSection) {
+        start + 1
+    } else {
+        start
+    }
+}
+
 /// How the line that begins with the token with this index looks, where that is not how it is read.
 pub fn misread(sources: &[Source<'_>], tokens: &[Token<'_>], index: usize) -> Option<Looks> {
     if index == 0 || !is_line_start(tokens, index) || !can_end(tokens, index - 1) {
@@ -48,7 +58,7 @@ pub fn misread(sources: &[Source<'_>], tokens: &[Token<'_>], index: usize) -> Op
     if !is_bracket && !is_sign && !is_minus {
         return None;
     }
-    let before = indented(sources, tokens, line_start(tokens, index - 1));
+    let before = indented(sources, tokens, first_behind_bracket(tokens, index - 1));
     let own = indented(sources, tokens, index);
     if is_minus {
         if own <= before {
