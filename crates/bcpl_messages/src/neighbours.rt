@@ -176,17 +176,28 @@ fn is_let(token: Option<&Token<'_>>) -> bool {
     }
 }
 
+/// Whether a spelling is this one, or any where this one is empty.
+fn is_meant(wanted: &[u8], found: &[u8]) -> bool {
+    wanted.is_empty() || wanted == found
+}
+
+/// Whether a spelling is the sign of a relation.
+fn is_relation(found: &[u8]) -> bool {
+    RELATIONS.iter().any(|relation| *relation == found)
+}
+
 /// What is said of two spellings side by side.
 fn help_for_pair(before: &[u8], at: &[u8]) -> Option<&'static str> {
     for (first, second, help) in &PAIRS {
-        if *first == before && (second.is_empty() || *second == at) {
+        if *first == before && is_meant(second, at) {
             return Some(*help);
         }
     }
-    if RELATIONS.iter().any(|relation| *relation == at) {
-        return Some("relations don't chain: write (A <= B) & (B <= C)");
+    if is_relation(at) {
+        Some("relations don't chain: write (A <= B) & (B <= C)")
+    } else {
+        None
     }
-    None
 }
 
 /// What is said of the tokens around a place that are known mistakes.

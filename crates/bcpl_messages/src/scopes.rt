@@ -94,7 +94,7 @@ fn misplaced<'a>(token: Option<&Token<'_>>) -> Said<'a> {
     if let Some(token) = token {
         for (symbol, sentence, help) in &MISPLACED {
             if is_symbol(token, *symbol) {
-                return Said::plain(sentence, help);
+                return Said::plain(*sentence, *help);
             }
         }
     }
@@ -220,11 +220,11 @@ fn first_fault(alloc: Global, tokens: &[Token<'_>]) -> Result<Option<FaultPlace>
 }
 
 /// Whether a name has a meaning at a place where another one has none, and where no fault stands in front.
-fn is_known(
+fn is_known<'s>(
     alloc: Global,
-    tokens: &[Token<'_>],
+    tokens: &[Token<'s>],
     place: usize,
-    name: &[u8],
+    name: &'s [u8],
 ) -> Result<bool, Memory> {
     let changed = replaced(alloc, tokens, place, TokenKind::Name(name))?;
     Ok(match first_fault(alloc, changed.as_slice())? {
@@ -287,14 +287,14 @@ fn add_declared(
 }
 
 /// Adds a name that is like one that means nothing, and known there; else where the one most like it is declared.
-fn add_like(
+fn add_like<'s>(
     alloc: Global,
     message: &mut Message,
-    read: Read<'_, '_>,
+    read: Read<'_, 's>,
     place: usize,
     name: &[u8],
 ) -> Result<(), Memory> {
-    let mut passed: Vec<&[u8]> = Vec::new(alloc);
+    let mut passed: Vec<&'s [u8]> = Vec::new(alloc);
     for _ in 0..MOST_LIKE {
         let Some(near) = nearest(alloc, read.tokens, name, passed.as_slice())? else {
             break

@@ -65,12 +65,14 @@ impl Reach {
 }
 
 /// A token of this kind where another one stands.
-fn in_place<'s>(kind: TokenKind<'s>, at: &Token<'s>, line_before: bool) -> Token<'s> {
+fn in_place<'s>(kind: TokenKind<'static>, at: &Token<'s>, line_before: bool) -> Token<'s> {
     Token {
         kind,
         text: b"",
         line_before,
-        ..*at
+        file: at.file,
+        start: at.start,
+        end: at.end,
     }
 }
 
