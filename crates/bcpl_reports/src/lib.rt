@@ -17,7 +17,6 @@ mod text_items;
 mod texts;
 
 pub use against::against_lines;
-pub use bcpl_segments::library_name;
 pub use checked::check_lines;
 pub use ended::{Stop, ended_lines};
 pub use linked::link_lines;

@@ -1,7 +1,7 @@
 use crate::declared::{Declarations, Meaning};
 use crate::tokens::{is_at, name_at, symbol_at};
 use bc_lex_tokens::{Symbol, Token, TokenKind};
-use bcpl_reports::library_name;
+use bcpl_segments::library_name;
 
 /// The globals of the library that are no routines of it.
 const NO_ROUTINES: [&[u8]; 3] = [b"START", b"TERMINATOR", b"RESULT2"];

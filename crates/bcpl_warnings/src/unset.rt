@@ -4,7 +4,7 @@ use crate::tokens::{is_at, name_at};
 use bc_lex::{Source, lex};
 use bc_lex_tokens::{Symbol, Token};
 use bc_word::Memory;
-use bcpl_reports::library_name;
+use bcpl_segments::library_name;
 use std::alloc::Global;
 
 /// The globals of a program that something may set.
