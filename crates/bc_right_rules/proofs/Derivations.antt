@@ -20,7 +20,7 @@ use Rattle.bc_gen_defs.specs.Bodies.{BodiesCode}
 use Rattle.bc_right_steps.specs.Landing.{Moment, Later, Stands, Does}
 use Rattle.bc_right_steps.specs.Goals.{value_goal, test_goal, end_goal}
 use Rattle.bc_right_steps.specs.Premises.{Levelled, AllLevelled, CallLands, ValofsLand, StoresLast}
-use Rattle.bc_right_rules.specs.Right.{DerivationsAreRight}
+use Rattle.bc_right_rules.specs.Right.{DerivationsAreRight, EachDerivationIsRight}
 use Rattle.bc_right_rules.proofs.Filling.{filled}
 use Rattle.bc_right_rules.proofs.Stretches.{as_value}
 use Rattle.bc_right_rules.proofs.Values.{Gives, v0_gives, v1_gives, v2_gives, v3_gives, v4_gives, v6_gives, v7_gives, v8_gives, v9_gives, v10_gives, v11_gives}
@@ -121,4 +121,13 @@ derivations_are_right T choice address levels S = record {
     limits = λ K old e p s first a c end limit st room l.
         let d = choice (Assign (s + 2) e (Frame (s + 1))) in limit_right C address levels V S most bodies places works valofs d l K old p 0 first (first + root_labels d) a c end limit st room;
   };
+}
+
+-- one derivation
+pub each_derivation_is_right : EachDerivationIsRight
+each_derivation_is_right address levels S most C V bodies around = record {
+  values = λ d s t f g l K old p a c end limit st room. (gives C address levels V S most bodies around.places around.calls around.valofs d s t f l).does K old p a c end limit g st room;
+  tests = λ d s t f g l K old p a c end limit st room. (tests C address levels V S most bodies around.places around.calls around.valofs d s t f l).does K old p a c end limit g st room;
+  assigns = λ d t f g lv la K old p b c end limit st room.
+      assign_right C address levels V S most bodies around.places around.calls around.valofs d lv la K old p t f g b c end limit st room;
 }
