@@ -34,7 +34,7 @@ use Rattle.bc_core.specs.Same.{end_of}
 use Rattle.bc_core.specs.Value.{Context, value, given}
 use Rattle.bc_rules_defs.specs.declared.rule.Mode.{Mode}
 use Rattle.bc_rules_defs.specs.declared.rule.Mode.TheVariants.{Any, Push}
-pub use Rattle.bc_right_rules.specs.Right.{Kept, gets_goal}
+pub use Rattle.bc_right_rules.specs.Single.{Kept}
 use Rattle.bc_right_steps.specs.Leads.{machine, StopsAt, AreWords}
 use Rattle.bc_right_steps.specs.CodeAt.{HasWords}
 use Rattle.bc_right_steps.specs.Landing.{Moment, moment, Later, Stands, Reached, Goal, Lands, Does}
@@ -48,6 +48,10 @@ use Rattle.bc_right_steps.proofs.Agreeing.{holds_up}
 use Rattle.bc_right_steps.proofs.Operands.{Reads, operand_reads}
 use Rattle.bc_right_steps.proofs.Steps.{step_stops, stops_from, later_then, later_refl, at_end, behind_item, acts, went, plain, at_place, Onward, bind_from, lands_from, lands_done, does_map}
 use Rattle.bc_right_steps.proofs.Holding.{reached_from, held_at}
+
+-- a value lands behind its code, in A
+abbrev pub gets_goal : Mode → (was end : ℕ) → Goal ℕ
+gets_goal m was end v a b c gain turns = (a ≡ v) × (c ≡ end) × Kept m was b
 
 pub as_value : {K : Moment} {most top p limit a c : ℕ} (m : Mode) (was end : ℕ) (r : Run ℕ) → Does K most top p limit a c (gets_goal m was end) r → Does K most top p limit a c (value_goal end) r
 as_value m was end r d = does_map (gets_goal m was end) (value_goal end) r (λ v a1 b1 c1 g turns w. (w.0, w.1)) d
