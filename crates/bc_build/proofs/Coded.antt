@@ -4,6 +4,7 @@ use Rattle.std.specs.Prelude.{None, Result, Ok, Err, IfErr}
 use Rattle.std.specs.Result.{IsErrAnd}
 use Rattle.std.proofs.lemmas.List.{map-append, drop_all}
 use Rattle.bc_text_items.specs.declared.item.Item.{Item}
+use Rattle.bc_rules_defs.specs.Entry.{Entry}
 use Rattle.bc_rules_defs.specs.View.{entry as entry_view}
 use Rattle.bc_rules_defs.specs.declared.entry.Entry as code
 use Rattle.bc_parse_tree.specs.Tree.{Declarations}
@@ -11,11 +12,14 @@ use Rattle.bc_lex.specs.Files.{File}
 use Rattle.bc_link.specs.Refusals.{refusal_of}
 use Rattle.bc_link.specs.Linked.{image_of, IsRefusal}
 use Rattle.bc_run.specs.Runs.{behind}
+use Rattle.bc_gen_labels.specs.Laws.{LabelsStandOnce, SectionsKeepRules}
 use Rattle.bc_build.specs.Compiled.{IsAccepted, AreAccepted}
 use Rattle.bc_build.specs.Code.{items_of, in_segment, entries_of, entries_from, IsCompiled}
 use Rattle.bc_build.specs.Built.{IsBuilt}
 use Rattle.bc_build.specs.Refused.{IsMainRefusal, IsRefused}
 use Rattle.bc_build.specs.Steps.{IsLinked, IsLinkRefusal, AreCoded}
+use Rattle.bc_build.proofs.Linking.{link_fault}
+use Rattle.bc_build.proofs.Rooted.{of_sections}
 use Rattle.bc_build.specs.declared.building.Built.{Built}
 use Rattle.bc_build.specs.declared.build_error.BuildError.{BuildError}
 use Rattle.bc_build.specs.declared.build_error.BuildError.TheVariants.{Lex, Parse, Scope, Gen, Link, Memory}
@@ -86,6 +90,7 @@ built_from files mains n segments entries built a l = record {
   only = λ others h. let x = a.only others h in nothing_left files a.sections others x.0 x.1 x.2;
   segments = l.segments_are ∙ a.segments_are;
   entries = ap (map entry_view) l.entries_are ∙ a.entries_are;
+  roots = ap (λ (es : List Entry). map (λ (e : Entry). e.root) es) (ap (map entry_view) l.entries_are ∙ a.entries_are) ∙ of_sections 0 a.sections;
   linked = subst (λ s. refusal_of (behind s) ≡ None) a.segments_are l.accepted;
   image = l.image_is ∙ ap (λ s. image_of (behind s)) a.segments_are;
 }
@@ -101,15 +106,16 @@ main_refused files mains n main left segments entries (Link e) a h = absurd h
 main_refused files mains n main left segments entries Memory a h = tt
 
 -- the segments are not linked
-pub link_refused : (files : List File) (mains : List ℕ) (n : ℕ) (segments : List (List Item)) (entries : List code.Entry) (e : BuildError)
+pub link_refused : LabelsStandOnce → SectionsKeepRules → (files : List File) (mains : List ℕ) (n : ℕ) (segments : List (List Item)) (entries : List code.Entry) (e : BuildError)
     → AreCoded files mains n [] segments entries → IsLinkRefusal segments e → IsRefused files mains e
-link_refused files mains n segments entries (Lex at e) a h = absurd h
-link_refused files mains n segments entries (Parse at e) a h = absurd h
-link_refused files mains n segments entries (Scope at e) a h = absurd h
-link_refused files mains n segments entries (Gen at e) a h = absurd h
-link_refused files mains n segments entries (Link e) a h =
-    (a.sections, subst (AreAccepted files mains) (append-nil a.sections) (a.accepted [] tt), subst (λ s. IsRefusal (refusal_of (behind s)) e) a.segments_are h)
-link_refused files mains n segments entries Memory a h = tt
+link_refused once keep files mains n segments entries (Lex at e) a h = absurd h
+link_refused once keep files mains n segments entries (Parse at e) a h = absurd h
+link_refused once keep files mains n segments entries (Scope at e) a h = absurd h
+link_refused once keep files mains n segments entries (Gen at e) a h = absurd h
+link_refused once keep files mains n segments entries (Link e) a h =
+    let accepted = subst (AreAccepted files mains) (append-nil a.sections) (a.accepted [] tt) in
+    (a.sections, accepted, link_fault once keep files mains a.sections e accepted (subst (λ s. IsRefusal (refusal_of (behind s)) e) a.segments_are h))
+link_refused once keep files mains n segments entries Memory a h = tt
 
 -- an error that is this one
 pub err_is : {X : Type 0} (r : Result X BuildError) (e : BuildError) (P : BuildError → Type 0) → IsErrAnd r (λ x. x ≡ e) → P e → IfErr r P

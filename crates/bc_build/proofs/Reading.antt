@@ -23,7 +23,7 @@ use Rattle.bc_parse_tree.specs.Tree.{Declarations}
 use Rattle.bc_scope_defs.specs.Translation.{core_of}
 use Rattle.bc_rules_defs.specs.declared.rule.Table.TheVariants.{Two}
 use Rattle.bc_select_defs.specs.Chosen.{chosen}
-use Rattle.bc_gen_sizes.proofs.Sections.{sections_have_their_size}
+use Rattle.bc_gen_roots.proofs.Words.{size_is_by_the_roots}
 use Rattle.bc_gen.specs.Chosen.{coding}
 use Rattle.bc_build.specs.Code.{items_of}
 use Rattle.bc_build.specs.Size.{section_words, words_of, HasSize}
@@ -39,7 +39,7 @@ reads_as segments image items linked is =
 
 items_words : (section : Declarations) → size_of_all (items_of section) ≡ section_words section
 unfolding coding
-items_words section = sections_have_their_size Two (chosen Two) (core_of section)
+items_words section = size_is_by_the_roots Two (chosen Two) (core_of section)
 
 segments_words : (sections : List Declarations) → size_of_segments (map items_of sections) ≡ words_of sections
 segments_words [] = refl

@@ -17,6 +17,7 @@ use Rattle.bc_run.specs.Runs.{behind}
 use Rattle.bc_parse_tree.specs.Tree.{Declarations}
 use Rattle.bc_core.specs.Map.{Map, IsMap}
 use Rattle.bc_core.specs.Commands.{Core}
+use Rattle.bc_core.specs.Meaning.{meaning}
 use Rattle.bc_core.specs.Same.{Same}
 use Rattle.bc_scope_defs.specs.Translation.{core_of}
 use Rattle.bc_scope_defs.specs.Sections.{meaning_of_sections}
@@ -24,13 +25,14 @@ use Rattle.bc_rules_defs.specs.declared.rule.Table.TheVariants.{Two}
 use Rattle.bc_select_defs.specs.Chosen.{chosen}
 use Rattle.bc_gen_defs.specs.Bodies.{Coding, coding_of}
 use Rattle.bc_gen_defs.specs.Section.{section_items}
-use Rattle.bc_right_programs.specs.Linked.{LinkedMapIsMap, library_items, segments_of, sections_of, addresses_from, linked_map}
+use Rattle.bc_right_programs.specs.Linked.{LinkedMapIsMap, ProgramsRun, library_items, segments_of, sections_of, addresses_from, linked_map}
 use Rattle.bc_right_sections.specs.Whole.{IsFaultless, SectionsRun}
 use Rattle.bc_gen.specs.Chosen.{coding}
 use Rattle.bc_lex.specs.Files.{File}
 use Rattle.bc_build.specs.Compiled.{AreAccepted}
 use Rattle.bc_build.specs.Code.{items_of}
 use Rattle.bc_build.specs.Runs.{addresses, RunsAsMeant}
+use Rattle.bc_build.specs.Generated.{GeneratedRuns}
 
 all_faultless : (files : List File) (mains : List ℕ) (sections : List Declarations) → AreAccepted files mains sections → All IsFaultless sections
 all_faultless files [] [] h = All-nil IsFaultless
@@ -79,3 +81,12 @@ runs_as_meant maps runs files mains sections image accepted linked is words =
     subst (RunsAsMeant sections) (sym here)
     (linked_runs maps runs sections (all_faultless files mains sections accepted) (subst (λ s. refusal_of s ≡ None) e linked)
     (λ i. subst (λ (x : Image). slice_index x.words i < 65536) here (words i)))
+
+-- what `generate` gives for any Cores that fit
+pub generated_runs : ProgramsRun → GeneratedRuns
+unfolding coding
+generated_runs programs_run cores fit linked words streams bytes n =
+    let c = coding_of (chosen Two) in
+    let segments = segments_of c cores in
+    subst (λ m. Same (meaning cores m streams n) n (start (store_of segments) (stack_base_of segments) streams)) (sym (addresses_are c cores))
+    (programs_run Two (chosen Two) cores fit linked words streams bytes n)

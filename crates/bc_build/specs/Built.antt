@@ -1,5 +1,6 @@
 -- What a program is built to.
-use Rattle.std.specs.Prelude.{ℕ, ◌≡◌, List, map, None}
+use Rattle.std.specs.Prelude.{ℕ, ◌≡◌, List, map, flat_map, None}
+use Rattle.bc_rules_defs.specs.Entry.{Entry}
 use Rattle.bc_rules_defs.specs.View.{entry as entry_view}
 use Rattle.bc_parse_tree.specs.Tree.{Declarations}
 use Rattle.bc_lex.specs.Files.{File}
@@ -8,9 +9,11 @@ use Rattle.bc_link.specs.Linked.{image_of}
 use Rattle.bc_run.specs.Runs.{behind}
 use Rattle.bc_build.specs.Compiled.{AreAccepted}
 use Rattle.bc_build.specs.Code.{items_of, entries_from}
+use Rattle.bc_build.specs.Size.{section_roots}
 use Rattle.bc_build.specs.declared.building.Built.{Built}
 
--- The mains are sections, and no others. There is a segment a section, and the entries of all; the image is that which
+-- The mains are sections, and no others. There is a segment a section, and the entries of all, which are those of their roots,
+-- as a walk over the commands meets them; the image is that which
 -- the linker gives for the primitives followed by the segments.
 pub record IsBuilt (files : List File) (mains : List ℕ) (built : Built) : Type 0 where
   pub sections : List Declarations
@@ -18,5 +21,6 @@ pub record IsBuilt (files : List File) (mains : List ℕ) (built : Built) : Type
   pub only : (others : List Declarations) → AreAccepted files mains others → others ≡ sections
   pub segments : built.segments.items ≡ map items_of sections
   pub entries : map entry_view built.entries.items ≡ entries_from 0 sections
+  pub roots : map (λ (e : Entry). e.root) (map entry_view built.entries.items) ≡ flat_map section_roots sections
   pub linked : refusal_of (behind (map items_of sections)) ≡ None
   pub image : built.image ≡ image_of (behind (map items_of sections))

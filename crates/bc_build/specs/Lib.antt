@@ -1,5 +1,6 @@
 pub mod Compiled
 pub mod Code
+pub mod Size
 pub mod Built
 pub mod Refused
 pub mod Steps
@@ -7,5 +8,7 @@ pub mod Ranges
 pub mod Runs
 pub mod Least
 pub mod Certified
-pub mod Size
 pub mod Text
+pub mod Taken
+pub mod Generated
+pub mod Ended

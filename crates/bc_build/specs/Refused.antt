@@ -14,8 +14,10 @@ use Rattle.bc_gen_defs.specs.Section.{labels_suffice}
 use Rattle.bc_gen.specs.Chosen.{coding}
 use Rattle.bc_gen.specs.declared.gen_error.GenError.{GenError}
 use Rattle.bc_gen.specs.declared.gen_error.GenError.TheVariants as gen_errors
-use Rattle.bc_link.specs.Refusals.{refusal_of}
-use Rattle.bc_link.specs.Linked.{IsRefusal}
+use Rattle.bc_link.specs.Refusals.{global_twice, too_large}
+use Rattle.bc_link.specs.declared.link_error.LinkError.{LinkError}
+use Rattle.bc_link.specs.declared.link_error.LinkError.TheVariants as links
+use Rattle.bc_text_items.specs.declared.item.Item.{Item}
 use Rattle.bc_run.specs.Runs.{behind}
 use Rattle.bc_build.specs.Compiled.{IsSection, IsAccepted, AreAccepted}
 use Rattle.bc_build.specs.Code.{items_of}
@@ -57,9 +59,17 @@ abbrev pub IsFirstRefusal : List File → List ℕ → BuildError → Type 0
 IsFirstRefusal files [] e = ⊥
 IsFirstRefusal files (main ∷ mains) e = IsMainRefusal files main e ⊎ ((section : Declarations) × IsAccepted files main section × IsFirstRefusal files mains e)
 
+-- the linker refuses a program for a global that is set twice, or else for its size, and never for a label
+abbrev pub IsLinkFault : List (List Item) → LinkError → Type 0
+IsLinkFault segments (links.GlobalTwice number) = global_twice segments ≡ Some (links.GlobalTwice number)
+IsLinkFault segments links.TooLarge = (global_twice segments ≡ None) × (too_large segments ≡ Some links.TooLarge)
+IsLinkFault segments links.Memory = Unit {0}
+IsLinkFault segments (links.LabelTwice k label) = ⊥
+IsLinkFault segments (links.LabelUnset k label) = ⊥
+
 abbrev pub IsRefused : List File → List ℕ → BuildError → Type 0
 IsRefused files mains Memory = Unit {0}
-IsRefused files mains (Link e) = (sections : List Declarations) × AreAccepted files mains sections × IsRefusal (refusal_of (behind (map items_of sections))) e
+IsRefused files mains (Link e) = (sections : List Declarations) × AreAccepted files mains sections × IsLinkFault (behind (map items_of sections)) e
 IsRefused files mains (Lex at e) = IsFirstRefusal files mains (Lex at e)
 IsRefused files mains (Parse at e) = IsFirstRefusal files mains (Parse at e)
 IsRefused files mains (Scope at e) = IsFirstRefusal files mains (Scope at e)

@@ -118,6 +118,8 @@ pub fn build(alloc: Global, sources: &[Source<'_>], mains: &[usize]) -> Result<B
     ensures text { IfOk result (λ built. ReadsAs built.segments.items built.image) }
     ensures refused { IfErr result (IsRefused (files_of sources.now) mains.now) }
 {
+    bc_gen_labels::laws::labels_stand_once();
+    bc_gen_labels::laws::sections_keep_rules();
     bc_right_sections::laws::sections_run();
     bc_right_programs::laws::linked_map_is_map();
     let mut segments = Vec::new(alloc);

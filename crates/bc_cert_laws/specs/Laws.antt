@@ -13,7 +13,7 @@ use Rattle.bc_rules.specs.Derivation.{IsDerivation}
 use Rattle.bc_cert_write.specs.Certificate.{Derived, entry_of, certificate}
 use Rattle.bc_cert_laws.specs.Entries.{IsNumber, Says, SamePiece}
 use Rattle.bc_cert_laws.specs.Written.{HasRoom, HasFewest, verdict_of}
-use Rattle.bc_cert_laws.specs.Faults.{IsUnended, Lacks}
+use Rattle.bc_cert_laws.specs.Faults.{IsUnended, Lacks, the_end, Reaches}
 use Rattle.bc_cert_laws.specs.Judging.{judged}
 
 -- what the checker makes of bytes is what they say, or their first fault
@@ -23,6 +23,10 @@ pub record IsJudged (bytes : List ℕ) : Type 0 where
 
 abbrev pub JudgedIsSaid : Type 0
 JudgedIsSaid = (bytes : List ℕ) → IsJudged bytes
+
+-- bytes say this just where right lines lead to the end with it
+abbrev pub SaysIsReached : Type 0
+SaysIsReached = (bytes : List ℕ) (v : Verdict) → Says bytes v ↔ Reaches bytes (the_end v.table v.entries)
 
 -- bytes say one thing or have one first fault, and not both
 pub record HasOneAnswer (bytes : List ℕ) : Type 0 where

@@ -1,6 +1,6 @@
 //! Laws of certificates. Each is the contract of a function that does nothing.
 
-ghost use Rattle.bc_cert_laws.specs.Laws.{AcceptedIsLeast, CertificateIsSaid, HaveCertificate, JudgedIsSaid, LongerFaults, OneAnswer};
+ghost use Rattle.bc_cert_laws.specs.Laws.{AcceptedIsLeast, CertificateIsSaid, HaveCertificate, JudgedIsSaid, LongerFaults, OneAnswer, SaysIsReached};
 
 /// What the checker makes of bytes is what they say where they are an accepted certificate, and their first fault where they are
 /// none; and it makes that of them.
@@ -11,6 +11,12 @@ pub fn judged_is_said()
 /// Bytes say one thing or have one first fault, and never both.
 pub fn one_answer()
     ensures { OneAnswer }
+{}
+
+/// What bytes say as a whole, and where their lines lead one by one, agree: they say a verdict just where right lines lead to the
+/// end with it.
+pub fn says_is_reached()
+    ensures { SaysIsReached }
 {}
 
 /// The certificate of derivations of least words by table 2 is accepted, where its numbers have room, and says just these entries.

@@ -19,6 +19,7 @@ use Rattle.bc_core.specs.Commands.{Block, Routine, Body, Gives, Valof}
 use Rattle.bc_core.specs.Commands as commands
 use Rattle.bc_core.specs.Level.{level_behind_parameters}
 use Rattle.bc_core.specs.Layout.{Bodies, cells_of_valofs, cells_of_block, cells_of_body, frame_size}
+use Rattle.bc_core.proofs.Liveness.{filled_outside}
 use Rattle.bc_core.specs.Store.{Cell, Dead, Unset, Set, cell_at, closed}
 use Rattle.bc_core.specs.Outcome as outcomes
 use Rattle.bc_core.specs.Outcome.{Outcome, Done, Ended, Going, Wild, Run, wild, then_do, choose, in_turn, left}
@@ -210,13 +211,24 @@ calls_at {O = O} {p = p} {s = s} {v = v} {b = b} {c = c} {end = end} {m = m} {st
     ∙ ap (λ z. running (machine v b v f (slice_set (slice_set m f p) z (c + operation_size bases.Number s)) st.streams)) after
     ∙ ap (λ z. running (machine v b v f (linked f p z m) st.streams)) over)
     (holds_held f (f + 1) end st.cells (slice_set m f p) (holds_held f f p st.cells m r.holds d0) d1)
-    (record { low = r.later.low; keeps = record { dead = r.later.keeps.dead; same = λ a lt d. linked_same f p end a m (omega (arith, r.later.low)) ∙ r.later.keeps.same a lt d } })
+    (record {
+      low = r.later.low;
+      keeps = record {
+        dead = r.later.keeps.dead;
+        same = λ a lt d. linked_same f p end a m (omega (arith, r.later.low)) ∙ r.later.keeps.same a lt d;
+        unset = λ a lt u. let k = r.later.keeps.unset a lt u in (k.0, linked_same f p end a m (omega (arith, r.later.low)) ∙ k.1);
+      };
+    })
 
 -- cells below a frame, and its links, are no arguments
 passed_later : (M : Moment) (f top k : ℕ) (vs : List ℕ) (cells : List Cell) (m : List ℕ) → f + 2 ≤ top → Later M (moment f cells m) → Later M (moment top (passed k (f + 2) vs cells) m)
 passed_later M f top k vs cells m le l = record {
   low = omega (arith, l.low);
-  keeps = record { dead = λ a lt d. passed_outside k (f + 2) vs cells a (inl (omega (arith, l.low))) ∙ l.keeps.dead a lt d; same = l.keeps.same };
+  keeps = record {
+    dead = λ a lt d. passed_outside k (f + 2) vs cells a (inl (omega (arith, l.low))) ∙ l.keeps.dead a lt d;
+    same = l.keeps.same;
+    unset = λ a lt u. l.keeps.unset a lt (sym (passed_outside k (f + 2) vs cells a (inl (omega (arith, l.low)))) ∙ u);
+  };
 }
 
 -- the links of a frame are dead
@@ -275,7 +287,14 @@ module _ (address : ℕ → ℕ) (S K : Moment) (old : Later S K) (most n : ℕ)
           leads = back.leads;
           holds = given_back f k (passed k (f + 2) vs cells) st.cells (linked f p end m) m1 links r.later.keeps h1;
           since = since;
-          later = record { low = later.low; keeps = record { dead = λ a lt d. ⊎_elim (λ e. e) (λ e. e ∙ now.keeps.dead a lt d) (filled_either k (f + 2) Dead st.cells a); same = now.keeps.same } };
+          later = record {
+            low = later.low;
+            keeps = record {
+              dead = λ a lt d. ⊎_elim (λ e. e) (λ e. e ∙ now.keeps.dead a lt d) (filled_either k (f + 2) Dead st.cells a);
+              same = now.keeps.same;
+              unset = λ a lt u. now.keeps.unset a lt (sym (filled_outside k (f + 2) Dead st.cells a (inl (omega (arith, later.low)))) ∙ u);
+            };
+          };
         },
         omega (arith, l.6),
         (l.7.0, refl),
@@ -324,7 +343,7 @@ framed_lands S n v k size run own body = record {
         leads = there.leads;
         holds = subst (λ z. Holds z cells1 m1) sum (passed_holds k (f + 2) vs st.cells m1 args1 holds2);
         since = passed_later K f (f + 2) k vs st.cells m1 (omega arith) at_f;
-        later = record { low = top_le; keeps = record { dead = λ a lt d. d; same = λ a lt d. refl } };
+        later = record { low = top_le; keeps = record { dead = λ a lt d. d; same = λ a lt d. refl; unset = λ a lt u. (u, refl) } };
       }))))
 
 module _ (S : Moment) (program : List Placed) (stands : ProgramStands S program) (library : LibraryLands S program) where

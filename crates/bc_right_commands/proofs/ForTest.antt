@@ -40,6 +40,9 @@ set_same n w c e h = let f : Set n ≡ Set w = sym e ∙ h in cc
 never_set : (w : ℕ) (c : Cell) → c ≡ Dead → c ≡ Set w → ⊥
 never_set w c e h = let f : Dead ≡ Set w = sym e ∙ h in cc
 
+never_unset : (c : Cell) → c ≡ Dead → c ≡ Unset → ⊥
+never_unset c e h = let f : Dead ≡ Unset = sym e ∙ h in cc
+
 -- what the test comes to, by the variable's cell
 abbrev tested : Rel → Cell → ℕ → Run Bool
 tested rel Dead n st = Wild
@@ -92,7 +95,14 @@ module _ (C : Context) (address levels : ℕ → ℕ) (V : Bodies) (S : Moment) 
         let at_s : (p + s) % 65536 ≡ p + s = omega arith in
         let at_k : (p + (s + 1)) % 65536 ≡ k = omega arith in
         let all = later_then old now in
-        let old1 : Later S M = record { low = all.low; keeps = record { dead = λ i lt d. get_or-set_other st.cells k i (Set n) Dead (λ e. omega (arith, held.above)) ∙ all.keeps.dead i lt d; same = all.keeps.same } } in
+        let old1 : Later S M = record {
+          low = all.low;
+          keeps = record {
+            dead = λ i lt d. get_or-set_other st.cells k i (Set n) Dead (λ e. omega (arith, held.above)) ∙ all.keeps.dead i lt d;
+            same = all.keeps.same;
+            unset = λ i lt u. all.keeps.unset i lt (sym (get_or-set_other st.cells k i (Set n) Dead (λ e. omega (arith, held.above))) ∙ u);
+          };
+        } in
         let first_is : cell_at st1.cells ((p + s) % 65536) ≡ cell_at st.cells ((p + s) % 65536) = get_or-set_other st.cells k ((p + s) % 65536) (Set n) Dead (λ e. omega arith) in
         on O x t b m st here is_n gone set (nat_le 32768 by) (cell_at st.cells ((p + s) % 65536)) refl
         (subst (λ z. Lands M most M x t top p limit (test_goal true (address target) end) z) (truth_is (nat_le 32768 by) p s n st1 (cell_at st.cells ((p + s) % 65536)) first_is (ap (λ z. cell_at st1.cells z) at_k ∙ set))
@@ -144,6 +154,10 @@ module _ (C : Context) (address levels : ℕ → ℕ) (V : Bodies) (S : Moment) 
                 dead = here.later.keeps.dead;
                 same = λ q lt d. ⊎_elim (λ ne. r.later.keeps.same q (omega (arith, here.later.low)) (other q ne ∙ here.later.keeps.dead q lt d))
                     (λ at. ap (λ z. slice_index m1 z) at ∙ r.holds.agrees k n set ∙ sym is_n ∙ sym (ap (λ z. slice_index m z) at)) (differ q k) ∙ here.later.keeps.same q lt d;
+                unset = λ q lt u.
+                    let h = here.later.keeps.unset q lt u in
+                    let away = λ (at : q ≡ k). never_unset (cell_at st.cells k) gone (sym (ap (λ z. cell_at st.cells z) at) ∙ u) in
+                    (h.0, (r.later.keeps.unset q (omega (arith, here.later.low)) (other q away ∙ u)).1 ∙ h.1);
               };
             };
           },

@@ -44,7 +44,7 @@ module _ (S : Moment) (program : List Placed) (address : ℕ → ℕ) (stack_bas
   O = moment top S.cells S.store
 
   keeps : Keeps S.top S.cells S.store S.cells S.store
-  keeps = record { dead = λ a lt d. d; same = λ a lt d. refl }
+  keeps = record { dead = λ a lt d. d; same = λ a lt d. refl; unset = λ a lt u. (u, refl) }
 
   first : Reached S (suc n) O x n top stack_base 0 0 0 0 S.store st
   unfolding x st top O

@@ -46,6 +46,9 @@ live_inside cells a live = ⊎_elim (λ lt. lt) (λ ge. absurd (live (get_or-eq_
 set_is : (v w : ℕ) (k : Cell) → k ≡ Set v → k ≡ Set w → v ≡ w
 set_is v w k e h = let f : Set v ≡ Set w = sym e ∙ h in cc
 
+set_is_not_unset : (w : ℕ) (k : Cell) → k ≡ Set w → k ≡ Unset → ⊥
+set_is_not_unset w k e h = let f : Set w ≡ Unset = sym e ∙ h in cc
+
 -- a live cell is set, in the source and in the store
 sets : {K : Moment} {most : ℕ} {O : Moment} {x : State} {t top p a b c g : ℕ} {m : List ℕ} {st : outcomes.State} (at w end limit : ℕ) → (cell_at st.cells at ≡ Dead → ⊥) → a ≡ w → step (machine a b c p m st.streams) ≡ running (machine a b end p (slice_set m at a) st.streams) → Reached K most O x t top p a b c g m st → st.turns ≤ limit
     → Lands K most O x t top p limit (end_goal end) (Done tt (record st { cells = slice_set st.cells at (Set w) }))
@@ -71,6 +74,10 @@ sets {O = O} {t = t} {top = top} {a = a} {g = g} {m = m} {st = st} at w end limi
         keeps = record {
           dead = λ i lt d. let k = r.later.keeps.dead i lt d in get_or-set_other cells at i (Set w) Dead (away i k) ∙ k;
           same = λ i lt d. let k = r.later.keeps.dead i lt d in get_or-set_other m at i a 0 (away i k) ∙ r.later.keeps.same i lt d;
+          unset = λ i lt u.
+              let other = λ (e : i ≡ at). set_is_not_unset w (cell_at (slice_set cells at (Set w)) at) (get_or-set_same cells at (Set w) Dead inside) (ap (λ z. cell_at (slice_set cells at (Set w)) z) (sym e) ∙ u) in
+              let k = r.later.keeps.unset i lt (sym (get_or-set_other cells at i (Set w) Dead other) ∙ u) in
+              (k.0, get_or-set_other m at i a 0 other ∙ k.1);
         };
       };
     }) le refl

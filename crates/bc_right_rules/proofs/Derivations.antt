@@ -44,7 +44,7 @@ without_levelled levels _ a b c s e ha hb = absurd (let f : None ≡ Some c = e 
 module _ (C : Context) (address levels : ℕ → ℕ) (V : Bodies) (S : Moment) (most : ℕ) (bodies : BodiesCode Item) (places : (l : ℕ) → address l ≡ C.place l)
     (works : (v : ℕ) → CallLands S most v (C.call v)) (valofs : ValofsLand address levels S most V bodies C.valof) where
   mutual
-    gives : {T : Table} {e : Exp} {m : Mode} (d : Derives T e (Gets m)) (s t f : ℕ) → Levelled levels e s → Gives C address levels V S most bodies m e s (code d s t f)
+    pub gives : {T : Table} {e : Exp} {m : Mode} (d : Derives T e (Gets m)) (s t f : ℕ) → Levelled levels e s → Gives C address levels V S most bodies m e s (code d s t f)
     gives (v0 d) s t f l = v0_gives C address levels V S most bodies places (gives d s t f l)
     gives (v1 h) s t f l = v1_gives C address levels V S most bodies places h s
     gives (v2 d) s t f l = v2_gives C address levels V S most bodies places (gives d s t f l)
@@ -69,7 +69,7 @@ module _ (C : Context) (address levels : ℕ → ℕ) (V : Bodies) (S : Moment) 
     gives (v22 {es = es} ds r) s t f l = call_gives C address levels V S most bodies (all_code ds (s + 2) t f) works (gives_all ds (s + 2) t f l.0) (gives r (s + 2 + count es) t (f + all_labels ds) l.1)
     gives v22_valof s t f l = valof_gives C address levels V S most bodies f valofs l
 
-    tests : {T : Table} {e : Exp} {sense : Bool} (d : Derives T e (Jumps sense)) (s t f : ℕ) → Levelled levels e s → Tests C address levels V S most bodies sense e s t (code d s t f)
+    pub tests : {T : Table} {e : Exp} {sense : Bool} (d : Derives T e (Jumps sense)) (s t f : ℕ) → Levelled levels e s → Tests C address levels V S most bodies sense e s t (code d s t f)
     tests (j1 d) s t f l = j1_tests C address levels V S most bodies (tests d s t f l)
     tests (j2 a b) s t f l = j2_tests C address levels V S most bodies (tests a (s + 1) t f l.0) (tests b (s + 1) t (f + labels a) l.1)
     tests (j3 a b) s t f l = j3_tests C address levels V S most bodies (tests a (s + 1) f (f + 1) l.0) (tests b (s + 1) t (f + 1 + labels a) l.1)
@@ -92,7 +92,7 @@ module _ (C : Context) (address levels : ℕ → ℕ) (V : Bodies) (S : Moment) 
       → Does K most (p + s) p limit a c (test_goal sense (address t) end) (truth C e p s)
   test_right {s = s} (rules.test d) l K old p t f g a c end limit st room = (tests d s t f l).does K old p a c end limit g st room
 
-  assign_right : {T : Table} {s : ℕ} {e h : Exp} (d : RootDerives T (Assign s e h)) → Levelled levels e (side_level h s) → Levelled levels h (side_level h s) → (K : Moment) → Later S K → (p t f g a c end limit : ℕ) → Stands address S c (filled levels bodies (root_code d t f) g) end → p + cells_of_assignment V e h s ≤ 65536
+  pub assign_right : {T : Table} {s : ℕ} {e h : Exp} (d : RootDerives T (Assign s e h)) → Levelled levels e (side_level h s) → Levelled levels h (side_level h s) → (K : Moment) → Later S K → (p t f g a c end limit : ℕ) → Stands address S c (filled levels bodies (root_code d t f) g) end → p + cells_of_assignment V e h s ≤ 65536
       → Does K most (p + s) p limit a c (end_goal end) (assign C e h p s)
   assign_right {s = s} {e = e} {h = h} (a1 {o = o} is v) le lh K old p t f g a c end limit st room =
       a1_assigns C address levels V S most bodies places h is (gives v s t f (subst (λ z. Levelled levels e z) (side_is h o s is) le)) K old p a c end limit g st room
@@ -103,7 +103,7 @@ module _ (C : Context) (address levels : ℕ → ℕ) (V : Bodies) (S : Moment) 
       let side = side_above h s none in
       a3_assigns C address levels V S most bodies places s none (gives x (s + 1) t f (subst (λ z. Levelled levels e z) side le)) (gives y (s + 1) t (f + labels x) (subst (λ z. Levelled levels h z) side lh)) K old p a c end limit g st room
 
-  limit_right : {T : Table} {s k : ℕ} {e : Exp} (d : RootDerives T (Assign s e (Frame k))) → Levelled levels e s → (K : Moment) → Later S K → (p t f g a c end limit : ℕ) → Stands address S c (filled levels bodies (root_code d t f) g) end → p + cells_of_exp V e s ≤ 65536
+  pub limit_right : {T : Table} {s k : ℕ} {e : Exp} (d : RootDerives T (Assign s e (Frame k))) → Levelled levels e s → (K : Moment) → Later S K → (p t f g a c end limit : ℕ) → Stands address S c (filled levels bodies (root_code d t f) g) end → p + cells_of_exp V e s ≤ 65536
       → StoresLast address S K most (p + s) p limit a c k end (value C e p s)
   limit_right {s = s} (a1 is v) l K old p t f g a c end limit st room = limit_stores C address levels V S most bodies places is (gives v s t f l) K old p a c end limit g st room
   limit_right (a2 none free x y) l K old p t f g a c end limit st room = absurd (let h : Some _ ≡ None = none in cc)

@@ -34,6 +34,7 @@ use Rattle.bc_core.specs.Same.{end_of}
 use Rattle.bc_core.specs.Value.{Context, value, given}
 use Rattle.bc_rules_defs.specs.declared.rule.Mode.{Mode}
 use Rattle.bc_rules_defs.specs.declared.rule.Mode.TheVariants.{Any, Push}
+pub use Rattle.bc_right_rules.specs.Single.{Kept}
 use Rattle.bc_right_steps.specs.Leads.{machine, StopsAt, AreWords}
 use Rattle.bc_right_steps.specs.CodeAt.{HasWords}
 use Rattle.bc_right_steps.specs.Landing.{Moment, moment, Later, Stands, Reached, Goal, Lands, Does}
@@ -47,11 +48,6 @@ use Rattle.bc_right_steps.proofs.Agreeing.{holds_up}
 use Rattle.bc_right_steps.proofs.Operands.{Reads, operand_reads}
 use Rattle.bc_right_steps.proofs.Steps.{step_stops, stops_from, later_then, later_refl, at_end, behind_item, acts, went, plain, at_place, Onward, bind_from, lands_from, lands_done, does_map}
 use Rattle.bc_right_steps.proofs.Holding.{reached_from, held_at}
-
--- in Push, B is what A was
-abbrev pub Kept : Mode → (was b : ℕ) → Type 0
-Kept Any was b = Unit {0}
-Kept Push was b = b ≡ was
 
 -- a value lands behind its code, in A
 abbrev pub gets_goal : Mode → (was end : ℕ) → Goal ℕ

@@ -21,7 +21,7 @@ use Rattle.bc_rules_defs.specs.declared.rule.Mode.TheVariants.{Any, Push}
 use Rattle.bc_rules_defs.specs.declared.rule.Aim.TheVariants.{Gets}
 use Rattle.bc_rules_defs.specs.Rules as rules
 use Rattle.bc_rules_defs.specs.Rules.{Derives, v0, v1, v6, v11, v12, v15, v16, v17, v18, v19, v22, j6, j8, no_more, one_more, RootDerives, test, a2}
-use Rattle.bc_rules_defs.specs.Code.{root_code}
+use Rattle.bc_rules_defs.specs.Code.{code, root_code}
 use Rattle.bc_gen_defs.specs.Bodies.{BodiesCode, fill}
 use Rattle.bc_right_steps.specs.Leads.{machine}
 
@@ -57,6 +57,31 @@ push = v1 refl
 
 abbrev get : {T : _} {k : ℕ} → Derives T (at k) (Gets Any)
 get = v0 (v1 refl)
+
+-- A and B after n instructions of this code at 0, where A was 40, with its frame behind it
+abbrev from_forty : {T : _} {e : Exp} {m : _} → (n : ℕ) → Derives T e (Gets m) → ℕ × ℕ
+from_forty n d =
+    let words = assembled (λ l. 0) (fill (λ i. i) (λ n. 0) no_body (code d 6 0 1) 9).0 in
+    let now = (runs n (machine 40 0 0 (length words) (words ++ frame) no_stream)).0.registers in (now.a, now.b)
+
+abbrev eleven : Exp
+eleven = Bin Add (at 2) (at 4)
+
+-- 2 + 9 in Push: B is what A was
+abbrev in_push : Derives One eleven (Gets Push)
+in_push = v6 refl push
+
+pub in_push_keeps : from_forty 2 in_push ≡ (11, 40)
+unfolding runs step
+in_push_keeps = refl
+
+-- otherwise B may be another, here the first operand
+abbrev in_any : Derives One eleven (Gets Any)
+in_any = v12 get push
+
+pub in_any_loses : from_forty 3 in_any ≡ (11, 2)
+unfolding runs step
+in_any_loses = refl
 
 -- (2 + 3) * (9 - 5), by two derivations
 abbrev product : Exp
@@ -109,6 +134,14 @@ assignment_means = refl
 pub addressed_sets : slice_index (runs 5 (machine 0 0 0 5 (words_of 0 addressed ++ 0 ∷ 0 ∷ 4 ∷ 5 ∷ 1 ∷ 7 ∷ 0 ∷ 0 ∷ []) no_stream)).0.store 9 ≡ 7
 unfolding runs step
 addressed_sets = refl
+
+-- nothing else changes but what is held at the level, the address 9
+abbrev after_addressed : List ℕ → List ℕ
+after_addressed frame = (runs 5 (machine 0 0 0 5 (words_of 0 addressed ++ frame) no_stream)).0.store
+
+pub addressed_leaves : after_addressed (0 ∷ 0 ∷ 4 ∷ 5 ∷ 1 ∷ 7 ∷ 0 ∷ 0 ∷ []) ≡ words_of 0 addressed ++ 0 ∷ 0 ∷ 4 ∷ 5 ∷ 7 ∷ 7 ∷ 9 ∷ 0 ∷ []
+unfolding runs step
+addressed_leaves = refl
 
 -- x + f() and f() + x, where f sets x from 7 to 5 and gives 3: x is global 2, f is global 1
 abbrev x : Exp

@@ -1,4 +1,4 @@
--- That each derivation is right on the machine.
+-- That each derivation is right on the machine, whichever is chosen for a root.
 use Rattle.std.specs.Prelude.{ℕ}
 use Rattle.bc_core.specs.Tree.{Root}
 use Rattle.bc_rules_defs.specs.declared.rule.Table.{Table}

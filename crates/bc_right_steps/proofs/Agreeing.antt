@@ -14,10 +14,11 @@ pub keeps_then : (top : ℕ) (c0 c1 c2 : List Cell) (m0 m1 m2 : List ℕ) → Ke
 keeps_then top c0 c1 c2 m0 m1 m2 k l = record {
   dead = λ a lt d. l.dead a lt (k.dead a lt d);
   same = λ a lt d. l.same a lt (k.dead a lt d) ∙ k.same a lt d;
+  unset = λ a lt u. let after = l.unset a lt u in let before = k.unset a lt after.0 in (before.0, after.1 ∙ before.1);
 }
 
 pub keeps_down : (top top1 : ℕ) (c0 c1 : List Cell) (m0 m1 : List ℕ) → top ≤ top1 → Keeps top1 c0 m0 c1 m1 → Keeps top c0 m0 c1 m1
-keeps_down top top1 c0 c1 m0 m1 le k = record { dead = λ a lt d. k.dead a (omega arith) d; same = λ a lt d. k.same a (omega arith) d }
+keeps_down top top1 c0 c1 m0 m1 le k = record { dead = λ a lt d. k.dead a (omega arith) d; same = λ a lt d. k.same a (omega arith) d; unset = λ a lt u. k.unset a (omega arith) u }
 
 pub holds_up : (top top1 : ℕ) (cells : List Cell) (m : List ℕ) → top ≤ top1 → Holds top cells m → Holds top1 cells m
 holds_up top top1 cells m le h = record { agrees = h.agrees; above = λ a ge. h.above a (omega arith); whole = h.whole; spans = h.spans }
@@ -36,7 +37,7 @@ holds_held top a v cells m h d = record {
 }
 
 pub keeps_held : (top a v : ℕ) (cells : List Cell) (m : List ℕ) → top ≤ a → Keeps top cells m cells (slice_set m a v)
-keeps_held top a v cells m le = record { dead = λ n lt d. d; same = λ n lt d. get_or-set_other m a n v 0 (λ e. omega arith) }
+keeps_held top a v cells m le = record { dead = λ n lt d. d; same = λ n lt d. get_or-set_other m a n v 0 (λ e. omega arith); unset = λ n lt u. (u, get_or-set_other m a n v 0 (λ e. omega arith)) }
 
 -- code stays where it is
 words_kept : (top c : ℕ) (ws : List ℕ) (c0 c1 : List Cell) (m0 m1 : List ℕ) → Keeps top c0 m0 c1 m1 → ((a : ℕ) → c ≤ a → a < c + length ws → cell_at c0 a ≡ Dead) → c + length ws ≤ top → HasWords m0 c ws → HasWords m1 c ws

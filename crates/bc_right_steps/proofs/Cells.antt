@@ -56,13 +56,21 @@ closed_holds n top cells m h = record {
 opened_later : (O : Moment) (n top : ℕ) (cells : List Cell) (m : List ℕ) → Later O (moment top cells m) → Later O (moment (top + n) (opened n top cells) m)
 opened_later O n top cells m l = record {
   low = omega (arith, l.low);
-  keeps = record { dead = λ a lt d. filled_outside n top Unset cells a (inl (omega (arith, l.low))) ∙ l.keeps.dead a lt d; same = l.keeps.same };
+  keeps = record {
+    dead = λ a lt d. filled_outside n top Unset cells a (inl (omega (arith, l.low))) ∙ l.keeps.dead a lt d;
+    same = l.keeps.same;
+    unset = λ a lt u. l.keeps.unset a lt (sym (filled_outside n top Unset cells a (inl (omega (arith, l.low)))) ∙ u);
+  };
 }
 
 closed_later : (O : Moment) (n top : ℕ) (cells : List Cell) (m : List ℕ) → O.top ≤ top → Later O (moment (top + n) cells m) → Later O (moment top (closed n top cells) m)
 closed_later O n top cells m low l = record {
   low = low;
-  keeps = record { dead = λ a lt d. ⊎_elim (λ e. e) (λ e. e ∙ l.keeps.dead a lt d) (filled_either n top Dead cells a); same = l.keeps.same };
+  keeps = record {
+    dead = λ a lt d. ⊎_elim (λ e. e) (λ e. e ∙ l.keeps.dead a lt d) (filled_either n top Dead cells a);
+    same = l.keeps.same;
+    unset = λ a lt u. l.keeps.unset a lt (sym (filled_outside n top Dead cells a (inl (omega arith))) ∙ u);
+  };
 }
 
 lands_left : {A : Type 0} (K : Moment) (most : ℕ) (O : Moment) (x : State) (t n top p limit : ℕ) (goal : Goal A) (o : Outcome A) → O.top ≤ top → Lands K most O x t (top + n) p limit goal o → Lands K most O x t top p limit goal (left n top o)

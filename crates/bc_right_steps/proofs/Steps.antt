@@ -46,7 +46,7 @@ later_then {L = L} {M = M} {N = N} k l = record {
 }
 
 pub later_refl : (M : Moment) → Later M M
-later_refl M = record { low = omega arith; keeps = record { dead = λ a lt d. d; same = λ a lt d. refl } }
+later_refl M = record { low = omega arith; keeps = record { dead = λ a lt d. d; same = λ a lt d. refl; unset = λ a lt u. (u, refl) } }
 
 -- code that stands, in its parts
 pub record Parts (address : ℕ → ℕ) (K : Moment) (c : ℕ) (xs ys : List Item) (end : ℕ) : Type 0 where

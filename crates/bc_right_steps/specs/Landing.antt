@@ -20,7 +20,8 @@ pub record Moment : Type 0 where
 abbrev pub moment : ℕ → List Cell → List ℕ → Moment
 moment top cells store = record { top = top; cells = cells; store = store }
 
--- what was dead below the top at the earlier moment is dead still, and as it was in the store
+-- what was dead below the top at the earlier moment is dead still, and as it was in the store; and what is unset now was so,
+-- and is as it was
 pub record Later (M N : Moment) : Type 0 where
   pub low : M.top ≤ N.top
   pub keeps : Keeps M.top M.cells M.store N.cells N.store
