@@ -78,8 +78,8 @@ fn whole(alloc: Global, form: Form, parts: Vec<CoreExp>) -> Result<Option<CoreEx
         return Ok(found);
     }
     let mut parts = parts;
-    match last(alloc, &mut parts)? {
-        Some(last_part) => over(alloc, form, parts, last_part),
+    match parts.pop() {
+        Some(part) => over(alloc, form, parts, Box::new(alloc, part)?),
         None => Ok(None),
     }
 }
