@@ -379,6 +379,35 @@ fn add_more(
     }
 }
 
+/// What is said of a fault of the scopes of a main whose tokens were read.
+fn message_on(
+    alloc: Global,
+    read: Read<'_, '_>,
+    fault: &ScopeFault,
+) -> Result<Option<Message>, Memory> {
+    let found = first_fault(alloc, read.tokens)?;
+    let token = match found {
+        Some(found) => read.tokens.get(found.at.first),
+        None => None,
+    };
+    let Some(said) = said_of_name(fault).or(said_of(fault, token)) else {
+        return Ok(None)
+    };
+    let place = match found {
+        Some(found) => Some(read.stretch(found.at)),
+        None => None,
+    };
+    let sentence = said.sentence(alloc)?;
+    let mut message = Message::new(alloc, read.main, place, sentence.as_str())?;
+    if let Some(help) = said.help {
+        message.set_help(alloc, help)?;
+    }
+    if let Some(found) = found {
+        add_more(alloc, &mut message, read, fault, found)?;
+    }
+    Ok(Some(message))
+}
+
 /// What is said of a fault of the scopes of a main.
 pub fn scope_message(
     alloc: Global,
@@ -397,25 +426,5 @@ pub fn scope_message(
         main,
         tokens: tokens.as_slice(),
     };
-    let found = first_fault(alloc, read.tokens)?;
-    let token = match found {
-        Some(found) => read.tokens.get(found.at.first),
-        None => None,
-    };
-    let Some(said) = said_of_name(fault).or(said_of(fault, token)) else {
-        return Ok(None)
-    };
-    let place = match found {
-        Some(found) => Some(read.stretch(found.at)),
-        None => None,
-    };
-    let sentence = said.sentence(alloc)?;
-    let mut message = Message::new(alloc, main, place, sentence.as_str())?;
-    if let Some(help) = said.help {
-        message.set_help(alloc, help)?;
-    }
-    if let Some(found) = found {
-        add_more(alloc, &mut message, read, fault, found)?;
-    }
-    Ok(Some(message))
+    message_on(alloc, read, fault)
 }

@@ -80,21 +80,22 @@ fn is_hidden(symbol: Symbol, begun: Beginnings) -> bool {
     }
 }
 
-/// Adds the symbols that could stand in front of the token at the place.
-fn add_symbols(
+/// These things, and behind them the symbols that could stand in front of the token at the place.
+fn with_symbols(
     alloc: Global,
-    things: &mut Vec<&'static str>,
+    things: Vec<&'static str>,
     tokens: &[Token<'_>],
     index: usize,
     begun: Beginnings,
-) -> Result<(), Memory> {
+) -> Result<Vec<&'static str>, Memory> {
+    let mut things = things;
     for (symbol, told) in &TOLD {
         let is_asked = things.len() < MOST && !is_hidden(*symbol, begun);
         if is_asked && could_be(alloc, tokens, index, *symbol)? {
             things.push(*told)?;
         }
     }
-    Ok(())
+    Ok(things)
 }
 
 /// The things that could stand in front of the token at the place.
@@ -115,7 +116,7 @@ fn things(alloc: Global, tokens: &[Token<'_>], index: usize) -> Result<Vec<&'sta
             things.push(thing)?;
         }
     }
-    add_symbols(alloc, &mut things, tokens, index, begun)?;
+    let mut things = with_symbols(alloc, things, tokens, index, begun)?;
     if begun.operator {
         things.push("an operator")?;
     }
