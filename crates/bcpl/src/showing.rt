@@ -11,7 +11,7 @@ use bc_lex::{Source, Token, lex};
 use bc_parse::{ParseError, Section, parse, spell};
 use bc_run::primitives;
 use bc_scope::{Core, resolve};
-use bc_text_items::Segment;
+use bc_text_items::{Item, Segment};
 use bcpl_faults::{Cause, Failure};
 use bcpl_messages::Named;
 use bcpl_scopes::{Scopes, Setter, scope_listing};
@@ -20,9 +20,6 @@ use bcpl_words::{Listing, ShowOrder, Sources};
 use std::alloc::Global;
 use std::io::Write;
 use std::rt::Files as Access;
-
-/// What the segments of the libraries are called, in their order.
-const LIBRARIES: [&str; 2] = ["BLIB", "EXTLIB"];
 
 /// What is listed of which source.
 #[derive(Clone, Copy)]
@@ -135,24 +132,28 @@ impl<'a, 's> Shown<'a, 's> {
         core: &Core,
     ) -> Result<Vec<u8>, Failure> {
         let primitives = primitives(alloc)?;
-        let mut setters = Vec::new(alloc);
-        setters.push(Setter {
-            name: "the primitives",
-            items: primitives.items(),
-        })?;
-        for (name, segment) in LIBRARIES.iter().zip(libraries(built)) {
-            setters.push(Setter {
-                name: *name,
-                items: segment.items(),
-            })?;
-        }
+        let library = libraries(built);
+        let setters = [
+            Setter {
+                name: "the primitives",
+                items: primitives.items(),
+            },
+            Setter {
+                name: "BLIB",
+                items: items_at(library, 0),
+            },
+            Setter {
+                name: "EXTLIB",
+                items: items_at(library, 1),
+            },
+        ];
         let scopes = Scopes {
             files: self.files,
             main: self.main,
             tokens,
             section,
             core,
-            setters: setters.as_slice(),
+            setters: &setters,
         };
         Ok(scope_listing(alloc, scopes)?)
     }
@@ -191,6 +192,14 @@ fn libraries(built: &Built) -> &[Segment] {
     }
 }
 
+/// The items of the segment with this index; none where there is none.
+fn items_at(segments: &[Segment], index: usize) -> &[Item] {
+    match segments.get(index) {
+        Some(segment) => segment.items(),
+        None => &[],
+    }
+}
+
 /// The address at which the segment with this index begins, counted from the primitives' on.
 fn start_of(built: &Built, index: usize) -> u64 {
     match built.image.places.as_slice().get(index) {
@@ -211,12 +220,35 @@ fn first_of(built: &Built) -> [u64; 3] {
     ]
 }
 
-/// What is listed of a source.
-fn listed(alloc: Global, shown: &Shown<'_, '_>, listing: Listing) -> Result<Vec<u8>, Failure> {
-    match listing {
+/// What the words ask for beside the sources.
+#[derive(Clone, Copy)]
+struct Asked {
+    /// How many sources the library has, and how many files of `--get` stand behind it.
+    library: usize,
+    gets: usize,
+    listing: Listing,
+    /// Whether the place of a refusal is told.
+    shows: bool,
+}
+
+/// The listing of the last of these sources, which stand under these paths.
+fn listed(
+    alloc: Global,
+    sources: &[Source<'_>],
+    paths: &[&str],
+    asked: Asked,
+) -> Result<Vec<u8>, Failure> {
+    let shown = Shown {
+        files: Files { sources, paths },
+        main: sources.len().saturating_sub(1),
+        library: asked.library,
+        gets: asked.gets,
+        shows: asked.shows,
+    };
+    match asked.listing {
         Listing::Tokens => shown.token_listing(alloc),
         Listing::Tree => shown.tree_listing(alloc),
-        Listing::Scopes | Listing::Code => shown.built_listing(alloc, listing),
+        Listing::Scopes | Listing::Code => shown.built_listing(alloc, asked.listing),
     }
 }
 
@@ -232,17 +264,13 @@ fn listing_of<F: Access>(
     let loaded = sources_of(rt, alloc, given)?;
     let sources = given_to_compiler(alloc, library, loaded.as_slice())?;
     let paths = paths_of(alloc, library, given)?;
-    let shown = Shown {
-        files: Files {
-            sources: sources.as_slice(),
-            paths: paths.as_slice(),
-        },
-        main: sources.len().saturating_sub(1),
+    let asked = Asked {
         library,
         gets: given.gets.len(),
+        listing,
         shows,
     };
-    listed(alloc, &shown, listing)
+    listed(alloc, sources.as_slice(), paths.as_slice(), asked)
 }
 
 /// Does what `show` asks for. `shows` says whether the place of a refusal is told.
