@@ -1,6 +1,6 @@
 //! Laws of programs that were built. Each is the contract of a function that does nothing.
 
-ghost use Rattle.std.specs.Prelude.{ℕ, List, Some, All};
+ghost use Rattle.std.specs.Prelude.{ℕ, List, Some};
 ghost use Rattle.bc_text_items.specs.declared.item.Item.{Item};
 ghost use Rattle.bc_machine_image.specs.declared.image.Image.{Image};
 ghost use Rattle.bc_machine_defs.specs.declared.state.End.{End};
@@ -9,7 +9,6 @@ ghost use Rattle.bc_build.specs.Text.{text_of, ReadsAs, IsRunFrom};
 ghost use Rattle.bc_build.specs.Taken.{CertificateIsTaken};
 ghost use Rattle.bc_build.specs.Generated.{GeneratedRuns};
 ghost use Rattle.bc_parse_tree.specs.Tree.{Declarations};
-ghost use Rattle.bc_right_steps.specs.Leads.{HoldsBytes};
 ghost use Rattle.bc_build.specs.Runs.{RunsAsMeant};
 ghost use Rattle.bc_build.specs.Ended.{EndsAsMeant};
 
@@ -22,12 +21,12 @@ pub fn text_runs<S: Streams>()
         → IsRunFrom image steps (S.known old) (S.known new) (S.content old) (S.content new) (S.failures old) (S.failures new) end }
 {}
 
-/// A run of at most `steps` instructions from an image that `build` gave, over streams whose content is known and whose inputs hold bytes: where it
+/// A run of at most `steps` instructions from an image that `build` gave, over streams whose content is known: where it
 /// finished or met a zero divisor, the sections mean that ending and the output that was written, or they are wild; and where it met an
 /// instruction that is none, they are wild. What `Machine::run` and, by `text_runs`, `run_text` do is such a run.
 pub fn run_ends_as_meant<S: Streams>()
     ensures { (sections : List Declarations) (image : Image) (steps : ℕ) (old new : S) (end : End)
-        → RunsAsMeant sections image → S.known old → All HoldsBytes (S.content old).inputs
+        → RunsAsMeant sections image → S.known old
         → IsRunFrom image steps (S.known old) (S.known new) (S.content old) (S.content new) (S.failures old) (S.failures new) end
         → EndsAsMeant sections image (S.content old) steps (S.content new) end }
 {}

@@ -1,5 +1,5 @@
 -- What a program that was built means, and what its image does.
-use Rattle.std.specs.Prelude.{ℕ, ◌≤◌, List, All}
+use Rattle.std.specs.Prelude.{ℕ, ◌≤◌, List}
 use Rattle.bc_machine_defs.specs.Streams.{Content}
 use Rattle.bc_machine_defs.specs.StreamCalls.{output_of}
 use Rattle.bc_machine_defs.specs.declared.state.End.TheVariants as ends
@@ -9,7 +9,6 @@ use Rattle.bc_parse_tree.specs.Tree.{Declarations}
 use Rattle.bc_core.specs.Same.{IsAt, end_of}
 use Rattle.bc_build.specs.Compiled.{AreAccepted}
 use Rattle.bc_build.specs.Runs.{meant, started, RunsAsMeant}
-use Rattle.bc_right_steps.specs.Leads.{HoldsBytes}
 use Rattle.bc_interpret_steps.specs.Came.{ending}
 use Rattle.bc_interpret.specs.declared.run.Outcome.{Outcome}
 use Rattle.bc_interpret.specs.declared.run.Outcome.TheVariants as outcomes
@@ -40,4 +39,4 @@ MeansOn known content program turns streams streams_new outcome =
 -- and the machine comes from the image to the same
 abbrev pub RunsOn : {T : Type 0} → (T → Type 0) → (T → Content) → Program → (turns : ℕ) → T → T → Outcome → Type 0
 RunsOn known content program turns streams streams_new outcome =
-    known streams → All HoldsBytes (content streams).inputs → RunsTo program.image.now turns (content streams) outcome (content streams_new)
+    known streams → RunsTo program.image.now turns (content streams) outcome (content streams_new)

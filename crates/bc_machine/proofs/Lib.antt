@@ -3,6 +3,7 @@ pub mod Copied
 pub mod Failures
 pub mod FileOutputs
 pub mod FileSteps
+pub mod Held
 pub mod MemoryOutputs
 pub mod Refusals
 pub mod Runs

@@ -2,6 +2,7 @@
 -- were given.
 use Rattle.std.specs.Prelude.{ℕ, List, [], ◌∷◌, map, cond, false, Option, Some, None}
 use Rattle.bc_machine_defs.specs.Streams.{Input, Output, Content}
+use Rattle.bc_machine.specs.Bytes.{HoldBytes}
 use Rattle.bc_machine.specs.Known.{AllKnown}
 use Rattle.bc_machine_defs.specs.StreamStart.{fresh_input}
 use Rattle.bc_machine.specs.declared.names.Named.{Named}
@@ -36,6 +37,10 @@ file_content remaining contents f = record {
 abbrev pub AllTold : {R W : Type 0} → (R → Option (List ℕ)) → (W → Option (List ℕ)) → FileStreams R W → Type 0
 AllTold {R} remaining contents f =
     AllKnown (map (λ (i : FileInput R). remaining i.reader) f.inputs.items) × AllKnown (map contents f.writers.items)
+
+-- and what is left of the readers are bytes
+abbrev pub IsKnown : {R W : Type 0} → (R → Option (List ℕ)) → (W → Option (List ℕ)) → FileStreams R W → Type 0
+IsKnown remaining contents f = AllTold remaining contents f × HoldBytes (file_content remaining contents f).inputs
 
 -- the writers of the outputs, in order
 abbrev pub file_writers : {R W : Type 0} → FileStreams R W → List W

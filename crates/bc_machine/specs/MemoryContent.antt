@@ -1,6 +1,7 @@
 -- What streams in memory hold.
 use Rattle.std.specs.Prelude.{ℕ, ◌+◌, ◌≡◌, ◌≤◌, ◌==◌, List, [], ◌∷◌, map, filter, drop, length, ◌++◌, Option, Some, None, Bool, true, false, cond}
 use Rattle.bc_machine_defs.specs.Streams.{Input, Output, Content, numbered}
+use Rattle.bc_machine.specs.Bytes.{HoldBytes}
 use Rattle.bc_machine.specs.declared.memory.MemoryInput.{MemoryInput}
 use Rattle.bc_machine.specs.declared.names.NamedOutput.{NamedOutput}
 use Rattle.bc_machine.specs.declared.memory.MemoryStreams.{MemoryStreams}
@@ -25,6 +26,10 @@ memory_content m = record {
   input = m.input;
   output = m.output;
 }
+
+-- what is left of the inputs are bytes
+abbrev pub IsKnown : MemoryStreams → Type 0
+IsKnown m = HoldBytes (memory_content m).inputs
 
 -- what was written, each byte behind the number of its output
 abbrev pub memory_written : MemoryStreams → List (ℕ × ℕ)

@@ -165,7 +165,8 @@ impl<R: Read, W: Write> FileStreams<R, W> {
     ghost use Rattle.bc_machine.specs.Refusal.{refusal_of};
     ghost use Rattle.bc_machine.specs.declared.faults.StreamsError.TheVariants as faults;
     ghost use Rattle.bc_machine.specs.Names.{given_names};
-    ghost use Rattle.bc_machine.specs.FileContent.{file_content, file_writers, file_failures, fresh_inputs, fresh_outputs, devices, AllTell, AllTold};
+    ghost use Rattle.bc_machine.specs.FileContent.{file_content, file_writers, file_failures, fresh_inputs, fresh_outputs, devices, AllTell, AllTold, IsKnown};
+    ghost use Rattle.bc_machine.specs.Bytes.{HoldBytes};
 
     /// The streams over these named readers and writers, with input 1 and output 1 selected.
     ///
@@ -183,7 +184,10 @@ impl<R: Read, W: Write> FileStreams<R, W> {
         ensures refused { IfErr result (λ fault. fault ≢ faults.Memory → refusal_of (given_names inputs.items) (given_names outputs.items) ≡ Some fault) }
         ensures accepted { OnOk result (refusal_of (given_names inputs.items) (given_names outputs.items) ≡ None) }
         ensures content { IfOk result (λ streams. file_content R.remaining W.contents streams ≡ opened (fresh_inputs R.remaining inputs.items) (fresh_outputs W.contents outputs.items)) }
-        ensures known { IfOk result (λ streams. AllTell R.remaining inputs.items → AllTell W.contents outputs.items → AllTold R.remaining W.contents streams) }
+        ensures told { IfOk result (λ streams. AllTell R.remaining inputs.items → AllTell W.contents outputs.items → AllTold R.remaining W.contents streams) }
+        // Where what the readers tell are bytes, as it always is of a reader that goes on to its end, the streams are known.
+        ensures known { IfOk result (λ streams. AllTell R.remaining inputs.items → HoldBytes (fresh_inputs R.remaining inputs.items)
+            → AllTell W.contents outputs.items → IsKnown R.remaining W.contents streams) }
         ensures writers { IfOk result (λ streams. file_writers streams ≡ devices outputs.items) }
         ensures unfailed { IfOk result (λ streams. file_failures streams ≡ 0) }
     {
@@ -233,13 +237,15 @@ impl<R: Read, W: Write> FileStreams<R, W> {
 }
 
 impl<R: Read, W: Write> Streams for FileStreams<R, W> {
-    ghost use Rattle.bc_machine.specs.FileContent.{file_content, AllTold, file_failures};
+    ghost use Rattle.bc_machine.specs.FileContent.{file_content, IsKnown, file_failures};
 
     ghost content = { file_content R.remaining W.contents };
 
-    ghost known = { AllTold R.remaining W.contents };
+    ghost known = { IsKnown R.remaining W.contents };
 
     ghost failures = { file_failures };
+
+    ghost holds_bytes = { λ streams known. known.1 };
 
     fn find(&self, side: Side, name: &[u8]) -> Word {
         match side {

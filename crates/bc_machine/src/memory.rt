@@ -46,22 +46,33 @@ impl MemoryInput {
 impl MemoryInput {
     ghost use Rattle.std.specs.Prelude.{◌≡◌, IfOk, map};
     ghost use Rattle.bc_machine_defs.specs.StreamStart.{fresh_input};
+    ghost use Rattle.bc_machine.specs.Bytes.{AreBytes, HoldBytes};
     ghost use Rattle.bc_machine.specs.MemoryContent.{memory_input};
     ghost use Rattle.bc_machine.specs.Names.{named_bytes};
 
+    /// An input of which nothing was read.
+    fn fresh(name: Vec<u8>, bytes: Vec<u8>) -> MemoryInput
+        ensures content { memory_input result ≡ fresh_input name.items bytes.items }
+        ensures bytes { AreBytes (memory_input result).rest }
+    {
+        MemoryInput {
+            name,
+            bytes,
+            at: 0,
+            ended: false,
+        }
+    }
+
     /// The table of these inputs, of which nothing was read.
+    #[tactic(auto, using(crate::proofs::Held::held_more))]
     fn table(alloc: Global, inputs: Vec<Named<Vec<u8>>>) -> Result<Vec<MemoryInput>, Memory>
-        ensures { IfOk result (λ table. map memory_input table.items ≡ map (λ i. fresh_input i.0 i.1) (named_bytes inputs.items)) }
+        ensures content { IfOk result (λ table. map memory_input table.items ≡ map (λ i. fresh_input i.0 i.1) (named_bytes inputs.items)) }
+        ensures bytes { IfOk result (λ table. HoldBytes (map memory_input table.items)) }
     {
         let mut table = Vec::with_capacity(alloc, inputs.len())?;
         for input in inputs {
             let Named { name, device } = input;
-            table.push(MemoryInput {
-                name,
-                bytes: device,
-                at: 0,
-                ended: false,
-            })?;
+            table.push(MemoryInput::fresh(name, device))?;
         }
         Ok(table)
     }
@@ -115,7 +126,7 @@ impl MemoryStreams {
     ghost use Rattle.bc_machine.specs.Refusal.{refusal_of};
     ghost use Rattle.bc_machine.specs.declared.faults.StreamsError.TheVariants as faults;
     ghost use Rattle.bc_machine.specs.Names.{given_names, bytes_of, named_bytes};
-    ghost use Rattle.bc_machine.specs.MemoryContent.{memory_content, memory_written, memory_room, memory_failures};
+    ghost use Rattle.bc_machine.specs.MemoryContent.{memory_content, memory_written, memory_room, memory_failures, IsKnown};
 
     /// The streams over inputs of these names and bytes and outputs of these names, with input 1 and
     /// output 1 selected, and room for `room` bytes of output.
@@ -132,6 +143,7 @@ impl MemoryStreams {
         ensures refused { IfErr result (λ fault. fault ≢ faults.Memory → refusal_of (given_names inputs.items) (bytes_of outputs.items) ≡ Some fault) }
         ensures accepted { OnOk result (refusal_of (given_names inputs.items) (bytes_of outputs.items) ≡ None) }
         ensures content { IfOk result (λ streams. memory_content streams ≡ start_streams (named_bytes inputs.items) (bytes_of outputs.items)) }
+        ensures known { IfOk result (λ streams. IsKnown streams) }
         ensures room { IfOk result (λ streams. memory_room streams ≡ room) }
         ensures unfailed { IfOk result (λ streams. memory_failures streams ≡ 0) }
     {
@@ -169,13 +181,15 @@ impl Streams for MemoryStreams {
     ghost use Rattle.std.specs.Prelude.{◌≡◌, ◌≤◌, OnOk, OnErr, Ok};
     ghost use Rattle.bc_machine_defs.specs.StreamCalls.{select_stream, read_byte, after_read, after_write, end_stream};
     ghost use Rattle.bc_machine.specs.Rose.{Rose};
-    ghost use Rattle.bc_machine.specs.MemoryContent.{memory_content, memory_failures, memory_written, memory_room, written_after, StaysAsRoom, WritesNothing, IsSpent};
+    ghost use Rattle.bc_machine.specs.MemoryContent.{memory_content, memory_failures, memory_written, memory_room, written_after, StaysAsRoom, WritesNothing, IsSpent, IsKnown};
 
     ghost content = { memory_content };
 
-    ghost known = { λ m. Unit {0} };
+    ghost known = { IsKnown };
 
     ghost failures = { memory_failures };
+
+    ghost holds_bytes = { λ streams known. known };
 
     fn find(&self, side: Side, name: &[u8]) -> Word {
         match side {
@@ -186,6 +200,7 @@ impl Streams for MemoryStreams {
 
     fn select(&mut self, side: Side, number: Word)
         ensures content { memory_content self.new ≡ select_stream side number (memory_content self.old) }
+        ensures known { IsKnown self.old → IsKnown self.new }
         ensures stays { WritesNothing self.old self.new }
     {
         match side {
@@ -198,6 +213,7 @@ impl Streams for MemoryStreams {
     fn read(&mut self) -> Result<Option<u8>, DeviceFault>
         ensures byte { result ≡ Ok (read_byte (memory_content self.old)) }
         ensures content { memory_content self.new ≡ after_read (memory_content self.old) }
+        ensures known { IsKnown self.old → IsKnown self.new }
         ensures stays { WritesNothing self.old self.new }
     {
         if self.input == 0 {
@@ -213,6 +229,7 @@ impl Streams for MemoryStreams {
     fn write(&mut self, byte: u8) -> Result<(), DeviceFault>
         ensures ok { OnOk result (memory_content self.new ≡ after_write byte (memory_content self.old)) }
         ensures err { OnErr result (memory_content self.new ≡ memory_content self.old) }
+        ensures known { IsKnown self.old → IsKnown self.new }
         ensures failed { OnErr result (Rose (memory_failures self.old) (memory_failures self.new)) }
         ensures counted { memory_failures self.old ≤ memory_failures self.new }
         ensures written { OnOk result (memory_written self.new ≡ written_after byte self.old) }
@@ -241,6 +258,7 @@ impl Streams for MemoryStreams {
     fn end(&mut self, side: Side) -> Result<(), DeviceFault>
         ensures ended { result ≡ Ok tt }
         ensures content { memory_content self.new ≡ end_stream side (memory_content self.old) }
+        ensures known { IsKnown self.old → IsKnown self.new }
         ensures stays { WritesNothing self.old self.new }
     {
         match side {

@@ -1,6 +1,7 @@
 ghost use Rattle.std.specs.Prelude.{◌≡◌, ◌≤◌, ℕ, OnOk, OnErr, IfOk};
 ghost use Rattle.bc_machine_defs.specs.Streams.{Content};
 ghost use Rattle.bc_machine_defs.specs.StreamCalls.{find_stream, select_stream, read_byte, after_read, after_write, end_stream};
+ghost use Rattle.bc_machine.specs.Bytes.{HoldBytes};
 ghost use Rattle.bc_machine.specs.Rose.{Rose};
 
 use crate::faults::DeviceFault;
@@ -11,13 +12,15 @@ use bc_word::Word;
 /// selected of them.
 ///
 /// Contracts see what the streams hold as their content, where that is known, and count how often a
-/// device failed; the count stays at 2^64 - 1.
+/// device failed; the count stays at 2^64 - 1. What is known of an input are bytes.
 pub trait Streams {
     ghost content: { Self → Content };
 
     ghost known: { Self → Type 0 };
 
     ghost failures: { Self → ℕ };
+
+    ghost holds_bytes: { (streams : Self) → known streams → HoldBytes (content streams).inputs };
 
     /// The number of the stream with this name, or 0 where there is none.
     fn find(&self, side: Side, name: &[u8]) -> Word

@@ -1,4 +1,5 @@
 use Rattle.std.proofs.Common.{Some, None, map, sym, ap, ◌∙◌, subst}
+use Rattle.bc_machine.specs.Bytes.{HoldBytes}
 use Rattle.bc_machine.specs.Known.{AllKnown}
 use Rattle.bc_machine.specs.Names.{given_names}
 use Rattle.bc_machine.specs.Refusal.{refusal_in}
@@ -18,8 +19,11 @@ returns-clause-accepted g c =
     (ap (λ xs. refusal_in (given_names xs)) (sym c.as_slice.ensures.value) ∙ sym c.refusal.ensures ∙ c.in_default.is)
     (ap (λ xs. refusal_in (given_names xs)) (sym c.as_slice-2.ensures.value) ∙ sym c.refusal-2.ensures ∙ c.in_default-refusal.is)
 
-pub returns-clause-known : goal.returns-clause-known
-returns-clause-known g c = λ readers writers. (
+pub returns-clause-told : goal.returns-clause-told
+returns-clause-told g c = λ readers writers. (
   subst AllKnown (sym c.in_ok-inputs.ensures.told) readers,
   subst AllKnown (sym (ap (map g.W.Write.contents) c.in_ok-names.ensures.writers ∙ told_of_devices g.W.Write.contents c.args.outputs.items)) writers,
 )
+
+pub returns-clause-known : goal.returns-clause-known
+returns-clause-known g c = λ readers bytes writers. (returns-clause-told g c readers writers, subst HoldBytes (sym c.in_ok-inputs.ensures.content) bytes)

@@ -15,4 +15,4 @@ returns-clause-content c =
     c.number_of_first-output.ensures.number ∙ ap first_number c.as_slice-4.ensures.value in
     rw (input, output)
     (opens memory_input c.in_ok-inputs.inputs.items c.in_ok-written.written.items c.in_ok-outputs.outputs.items inputs outputs
-    c.in_ok-written.ensures.empty c.in_ok-inputs.ensures c.in_ok-outputs.ensures)
+    c.in_ok-written.ensures.empty c.in_ok-inputs.ensures.content c.in_ok-outputs.ensures)

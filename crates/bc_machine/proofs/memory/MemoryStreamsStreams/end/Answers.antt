@@ -1,7 +1,9 @@
 use Rattle.std.proofs.Common.{arith, ◌≤◌, ◌-◌, ◌+◌, ◌≡◌, true, length, map, slice_set, sym, ap, ◌∙◌, refl}
-use Rattle.bc_machine.specs.MemoryContent.{memory_input, memory_outputs}
+use Rattle.bc_machine_defs.specs.StreamCalls.{end_stream}
+use Rattle.bc_machine.specs.MemoryContent.{memory_content, memory_input, memory_outputs}
 use Rattle.bc_machine.proofs.Tables.{content, ends_input, end_output-at}
 use Rattle.bc_machine.proofs.MemoryOutputs.{numbered_output, memory_outputs-ended, output_at}
+use Rattle.bc_machine.proofs.Held.{held, end_keeps}
 use Rattle.bc_machine.proofs.memory.MemoryStreamsStreams.end.Goals as goal
 
 pub returns-then-self-gt0-clause-content : goal.returns-then-self-gt0-clause-content
@@ -25,3 +27,8 @@ returns-then-self-gt0-2-clause-content c =
     ∙ ap (λ n. slice_set (memory_outputs 1 m.written.items m.outputs.items) (m.output - 1) (output_at n m.written.items (record o { ended = true }))) number)
     ∙ sym (end_output-at inputs (memory_outputs 1 m.written.items m.outputs.items) m.input m.output (output_at m.output m.written.items o)
     (numbered_output m.output m.written.items m.outputs.items o (omega arith) within c.index_mut-output.ensures.value)))
+
+pub returns-then-self-gt0-clause-known : goal.returns-then-self-gt0-clause-known
+returns-then-self-gt0-clause-known c = λ known.
+    let old = memory_content c.args.self.now in
+    held _ (end_stream c.args.side old) (returns-then-self-gt0-clause-content c) (end_keeps c.args.side old known)
