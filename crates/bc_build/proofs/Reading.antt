@@ -57,6 +57,6 @@ pub text_runs : (segments : List (List Item)) (image : Image) (steps : ℕ) (tol
     → IsRunOf (Some (text_of segments)) steps told tells old new before after end → IsRunFrom image steps told tells old new before after end
 text_runs segments image steps told tells old new before after end reads run =
     let read = run.2 in
-    let same = reads.only run.0 (subst (λ bytes. IsText bytes run.0) (sym read.1) read.2) in
+    let same = reads.only run.0 (subst (λ bytes. IsText bytes run.0) (sym read.1) read.3) in
     let e : image_of (behind run.0) ≡ image = ap (λ s. image_of (behind s)) same ∙ sym reads.image_is in
     (run.1, run.4, subst (λ (x : Image). Ran told tells steps (start x.words x.stack_base old) run.1 end before after) e run.5)

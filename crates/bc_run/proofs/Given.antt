@@ -1,11 +1,11 @@
 -- What a reader that tells its bytes has given.
-use Rattle.std.proofs.Common.{◌≡◌, ◌≤◌, ◌∙◌, ℕ, List, [], ◌++◌, take, drop, Option, Some, None, append_assoc, append-nil, ap, sym, inl, inr}
+use Rattle.std.proofs.Common.{◌≡◌, ◌≤◌, ◌∙◌, ℕ, List, [], ◌++◌, length, take, drop, Option, Some, None, append_assoc, append-nil, ap, sym, inl, inr}
 use Rattle.std.specs.Option.{IfSome}
 use Rattle.std.specs.Io.KnownBytes.{Consumes, IsAtEnd}
 use Rattle.std.proofs.lemmas.List.{take-append-drop, take-take}
 use Rattle.bc_text.specs.Faults.{IsFaultOf}
 use Rattle.bc_text.specs.declared.text_error.TextError.{TextError}
-use Rattle.bc_run.specs.Runs.{BeginsWith, IsTextFault}
+use Rattle.bc_run.specs.Runs.{BeginsWith, IsTextFault, text_limit}
 
 -- what was consumed stands in front
 pub begins : (known left : Option (List ℕ)) (bytes : List ℕ) → Consumes known left bytes → IfSome known (BeginsWith bytes)
@@ -37,6 +37,6 @@ all-begin None bytes h = tt
 all-begin (Some xs) bytes h = ([], h ∙ sym (append-nil bytes))
 
 -- what is wrong with all of the bytes
-pub wrong-in-all : (known : Option (List ℕ)) (bytes : List ℕ) (fault : TextError) → IfSome known (λ xs. xs ≡ bytes) → IsFaultOf bytes fault → IsTextFault known fault
-wrong-in-all known bytes fault all (inl first) = inr (inl (bytes, all-begin known bytes all, first))
-wrong-in-all known bytes fault all (inr unended) = inr (inr (unended.0, (bytes, all, unended.1)))
+pub wrong-in-all : (known : Option (List ℕ)) (bytes : List ℕ) (fault : TextError) → IfSome known (λ xs. xs ≡ bytes) → length bytes ≤ text_limit → IsFaultOf bytes fault → IsTextFault known fault
+wrong-in-all known bytes fault all short (inl first) = inr (inl (bytes, all-begin known bytes all, first))
+wrong-in-all known bytes fault all short (inr unended) = inr (inr (unended.0, (bytes, all, short, unended.1)))

@@ -1,5 +1,5 @@
 -- What reading, linking and running a text answers.
-use Rattle.std.specs.Prelude.{ℕ, ◌≡◌, ◌⊎◌, List, ◌∷◌, ◌++◌, Option, None, IfSome}
+use Rattle.std.specs.Prelude.{ℕ, ◌≡◌, ◌≤◌, ◌⊎◌, List, ◌∷◌, ◌++◌, length, Option, None, IfSome}
 use Rattle.bc_text_items.specs.declared.item.Item.{Item}
 use Rattle.bc_machine_defs.specs.Streams.{Content}
 use Rattle.bc_machine_defs.specs.State.{State, start}
@@ -15,9 +15,13 @@ use Rattle.bc_run.specs.Primitives.{primitive_items}
 use Rattle.bc_run.specs.declared.running.RunFault.{RunFault}
 use Rattle.bc_run.specs.declared.running.RunFault.TheVariants as faults
 
--- The segments of the text that a reader gives to its end. Where the reader tells its bytes, they are these.
+-- the most bytes that a text may have
+abbrev pub text_limit : ℕ
+text_limit = 16777216
+
+-- The segments of the text that a reader gives to its end, which isn't longer than a text may be. Where the reader tells its bytes, they are these.
 abbrev pub IsTextOf : Option (List ℕ) → List (List Item) → Type 0
-IsTextOf known segments = (bytes : List ℕ) × IfSome known (λ xs. xs ≡ bytes) × IsText bytes segments
+IsTextOf known segments = (bytes : List ℕ) × IfSome known (λ xs. xs ≡ bytes) × (length bytes ≤ text_limit) × IsText bytes segments
 
 -- the first of these bytes are those
 abbrev pub BeginsWith : List ℕ → List ℕ → Type 0
@@ -28,9 +32,10 @@ BeginsWith bytes all = (rest : List ℕ) × (all ≡ bytes ++ rest)
 abbrev pub HasFaultInFront : Option (List ℕ) → TextError → Type 0
 HasFaultInFront known fault = (bytes : List ℕ) × IfSome known (BeginsWith bytes) × HasFault bytes fault
 
--- The bytes that a reader gives to its end are no text, and go on to one. Where the reader tells its bytes, they are these.
+-- The bytes that a reader gives to its end are no text, go on to one, and aren't more than a text may have. Where the reader tells its bytes,
+-- they are these.
 abbrev pub IsUnendedInAll : Option (List ℕ) → Type 0
-IsUnendedInAll known = (bytes : List ℕ) × IfSome known (λ xs. xs ≡ bytes) × IsUnended bytes
+IsUnendedInAll known = (bytes : List ℕ) × IfSome known (λ xs. xs ≡ bytes) × (length bytes ≤ text_limit) × IsUnended bytes
 
 -- What is wrong with the bytes that a reader gives, or memory was refused. That they are unended is said of all of them,
 -- and any other fault of a front.

@@ -97,7 +97,7 @@ pub fn behind_primitives(alloc: Global, mut segments: Vec<Segment>) -> Result<Ve
 ///
 /// `Text` is the refusal of the text's reader, in front of a failure of `text` that comes later; `Link` that of the
 /// linker. `Read` comes where `text` failed, or gave more than 16,777,216 bytes, and `Memory` where an allocation was
-/// refused. The streams stay as they were then.
+/// refused. The streams stay as they were then. Of more bytes no text is linked, none is run, and none is called unended.
 pub fn run_text<R: Read + Drop, S: Streams>(
     alloc: Global,
     text: R,

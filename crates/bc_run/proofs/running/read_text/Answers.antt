@@ -18,5 +18,5 @@ returns-then-count-eq0-clause-fault g c =
     let all = all-given known _ _ bytes c.read.new.buf c.in-Ok.count c.if-count-eq0.true c.loop.invariant.2 c.in-Ok.ensures.bytes.0 (c.in-Ok.ensures.bytes.1 c.if-count-eq0.true (omega arith)) in
     elim c.match-finish.branch [
       | in-Ok-finish w ↦ rw w.result-is tt
-      | in-Err w ↦ rw w.result-is (wrong-in-all known bytes w.in-Err.fault all (w.in-Err.ensures.answer bytes c.loop.invariant.1))
+      | in-Err w ↦ rw w.result-is (wrong-in-all known bytes w.in-Err.fault all (omega (arith, c.loop.invariant.3)) (w.in-Err.ensures.answer bytes c.loop.invariant.1))
     ]
