@@ -1,3 +1,4 @@
+use crate::expressions::Side;
 use crate::leaves::Leaves;
 use crate::walk::{Beside, End, Walk};
 use bc_parse_tree::{Block, Command, Exp, Item};
@@ -164,9 +165,22 @@ impl<'s> Walk<'s> {
     ) -> Result<u64, End> {
         let addresses = self.side(places, levels)?;
         self.note_roots(&addresses.leaves)?;
-        let contents = self.side(values, levels)?;
-        self.assignable(places, &addresses.leaves)?;
-        Ok(widest(held, &addresses.widths, &contents.widths))
+        let contents = self.contents(values, levels, places, &addresses.leaves)?;
+        Ok(widest(held, &addresses.widths, &contents))
+    }
+
+    /// The values of an assignment at these levels, whose places stand at these leaves: how many cells each takes.
+    #[cycle(places)]
+    fn contents(
+        &mut self,
+        values: &[Exp<'s>],
+        levels: &[u64],
+        places: &[Exp<'s>],
+        leaves: &[Leaves],
+    ) -> Result<Vec<u64>, End> {
+        let Side { widths, .. } = self.side(values, levels)?;
+        self.assignable(places, leaves)?;
+        Ok(widths)
     }
 
     /// Roots, at the first of these leaves each.
@@ -208,8 +222,7 @@ impl<'s> Walk<'s> {
     ) -> Result<u64, End> {
         let mark = self.mark();
         self.scope.declare(variable, Meant::Variable(level))?;
-        self.know_at(variable, leaf)?;
-        self.record.variable(level, 1, leaf)?;
+        self.known_cell(variable, leaf, level)?;
         let width = self.block(allowed.in_a_loop(), body, level.saturating_add(2))?;
         self.leave(mark);
         Ok(width)

@@ -51,9 +51,20 @@ impl<'s> Walk<'s> {
     fn entries(&mut self, storage: Storage, list: &[Constant<'s>]) -> Result<(), End> {
         declare_pending(&mut self.scope, storage, list)?;
         let mut before = IndexMap::new(self.alloc);
+        self.listed_entries(&mut before, storage, list)
+    }
+
+    /// The entries of a list, one by one, behind these names.
+    #[cycle(places)]
+    fn listed_entries(
+        &mut self,
+        before: &mut IndexMap<&'s [u8], u64>,
+        storage: Storage,
+        list: &[Constant<'s>],
+    ) -> Result<(), End> {
         for entry in list {
             let leaf = self.leaf();
-            self.once(&mut before, entry.name, leaf)?;
+            self.once(before, entry.name, leaf)?;
             let _at = self.constant(&entry.value)?;
             self.declared(storage, entry, leaf)?;
         }
@@ -86,8 +97,7 @@ impl<'s> Walk<'s> {
     /// The definitions of a LET.
     #[cycle(places)]
     fn definitions(&mut self, list: &[Definition<'s>], level: u64) -> Result<Extent, End> {
-        let priors = priors_of_let(&mut self.scope, list)?;
-        let level = declare_let(&mut self.scope, &priors, Numbers::start(), level, list)?;
+        let level = self.declared_let(list, level)?;
         let next = self.known();
         self.know_variables(list)?;
         let mut of_let = OfLet {
@@ -96,6 +106,12 @@ impl<'s> Walk<'s> {
         };
         let width = self.defined(&mut of_let, list, level)?;
         Ok(Extent { level, width })
+    }
+
+    /// Declares the names of a LET; gives the level behind its cells.
+    fn declared_let(&mut self, list: &[Definition<'s>], level: u64) -> Result<u64, End> {
+        let priors = priors_of_let(&mut self.scope, list)?;
+        Ok(declare_let(&mut self.scope, &priors, Numbers::start(), level, list)?)
     }
 
     /// The definitions of a LET, one by one: how many cells of the frame they take.
@@ -225,10 +241,15 @@ impl<'s> Walk<'s> {
         let leaf = self.variable(of_let, name)?;
         let _word = self.leaf();
         let _at = self.constant(greatest)?;
+        self.note_vector(name, greatest, leaf)?;
+        Ok(0)
+    }
+
+    /// Notes the cells of a vector, which may not stand outside of routines.
+    fn note_vector(&mut self, name: &'s [u8], greatest: &Exp<'s>, leaf: u64) -> Result<(), End> {
         let cells = u64::from(constant(&self.scope, greatest).get()).saturating_add(2);
         self.note(name, cells, leaf)?;
-        self.inside(Leaves::one(leaf))?;
-        Ok(0)
+        self.inside(Leaves::one(leaf))
     }
 
     /// The parameters of a routine, behind which is this level.
@@ -239,14 +260,14 @@ impl<'s> Walk<'s> {
         for name in names {
             let leaf = self.leaf();
             self.once(&mut before, name, leaf)?;
-            self.parameter(name, leaf, offset)?;
+            self.known_cell(name, leaf, offset)?;
             offset = offset.saturating_add(1);
         }
         Ok((names.len() as u64).saturating_add(2))
     }
 
-    /// A parameter at this offset.
-    fn parameter(&mut self, name: &'s [u8], leaf: u64, offset: u64) -> Result<(), Memory> {
+    /// A variable that is declared at this leaf, with its cell at this offset.
+    pub fn known_cell(&mut self, name: &'s [u8], leaf: u64, offset: u64) -> Result<(), Memory> {
         self.know_at(name, leaf)?;
         self.record.variable(offset, 1, leaf)
     }

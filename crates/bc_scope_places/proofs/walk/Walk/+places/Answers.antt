@@ -14,8 +14,8 @@ initials-rooted-requires t c = (omega (arith, exp_held c.args.list.now c.loop-e.
 pub side-expression-requires : goal.side-expression-requires
 side-expression-requires t c = (omega (arith, exp_held c.args.list.now c.loop-e.e-index c.e-item.result c.loop-e-test.true c.e-item.is, c.decreases), tt)
 
-pub entries-constant-requires : goal.entries-constant-requires
-entries-constant-requires t c = (omega (arith, entry_held c.args.list.now c.loop-entry.entry-index c.entry-item.result c.loop-entry-test.true c.entry-item.is, c.decreases), tt)
+pub listed_entries-constant-requires : goal.listed_entries-constant-requires
+listed_entries-constant-requires t c = (omega (arith, entry_held c.args.list.now c.loop-entry.entry-index c.entry-item.result c.loop-entry-test.true c.entry-item.is, c.decreases), tt)
 
 pub declarations-declaration-requires : goal.declarations-declaration-requires
 declarations-declaration-requires t c = (omega (arith, declaration_held c.args.list.now c.loop-tree.tree-index c.tree-item.result c.loop-tree-test.true c.tree-item.is, c.decreases), tt)

@@ -51,7 +51,10 @@ abbrev pub decreases-declaration : goal.decreases-declaration
 decreases-declaration l = 16 * declaration_size (declaration_view l.tree.now) + 4
 
 abbrev pub decreases-entries : goal.decreases-entries
-decreases-entries l = 16 * entries_size (entries_view l.list.now) + 2
+decreases-entries l = 16 * entries_size (entries_view l.list.now) + 3
+
+abbrev pub decreases-listed_entries : goal.decreases-listed_entries
+decreases-listed_entries l = 16 * entries_size (entries_view l.list.now) + 2
 
 abbrev pub decreases-definitions : goal.decreases-definitions
 decreases-definitions l = 16 * definitions_size (definitions_view l.list.now) + 3
@@ -114,10 +117,13 @@ abbrev pub decreases-guarded : goal.decreases-guarded
 decreases-guarded l = 16 * (exp_size (exp_view l.test.now) + block_size (block_view l.body.now)) + 8
 
 abbrev pub decreases-assignment : goal.decreases-assignment
-decreases-assignment l = 16 * (exps_size (exps_view l.places.now) + exps_size (exps_view l.values.now)) + 3
+decreases-assignment l = 16 * (exps_size (exps_view l.places.now) + exps_size (exps_view l.values.now)) + 4
 
 abbrev pub decreases-sides : goal.decreases-sides
-decreases-sides l = 16 * (exps_size (exps_view l.places.now) + exps_size (exps_view l.values.now)) + 2
+decreases-sides l = 16 * (exps_size (exps_view l.places.now) + exps_size (exps_view l.values.now)) + 3
+
+abbrev pub decreases-contents : goal.decreases-contents
+decreases-contents l = 16 * exps_size (exps_view l.values.now) + 2
 
 abbrev pub decreases-ends : goal.decreases-ends
 decreases-ends l = 16 * (exp_size (exp_view l.start.now) + exp_size (exp_view l.limit.now)) + 2
