@@ -25,7 +25,7 @@ def main():
             best[path] = min(best.get(path, (1e9, 0)), checked(bcpl, path))
     time, memory = best[whole]
     size = os.path.getsize(whole)
-    print(f"{size} bytes: check {size / time / 1e6:.1f} MB/s, twice the entries take {time / best[half][0]:.2f} times as long, {memory / 1e6:.0f} MB of memory with the verdict")
+    print(f"{size} bytes: check {size / time / 1e6:.1f} MB/s, twice the entries take {time / best[half][0]:.2f} times as long, {memory / 1e6:.1f} MB of memory, {memory / size:.3f} bytes a byte")
 
 
 main()

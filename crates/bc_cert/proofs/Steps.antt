@@ -1,5 +1,5 @@
 -- Steps of lines and of bytes.
-use Rattle.std.proofs.Common.{◌≡◌, ℕ, ◌≤◌, List, [], ◌∷◌, ◌++◌, Option, Some, None, Result, Ok, Err, take, drop, refl, ap, sym, ◌∙◌, subst, append_assoc, append-nil}
+use Rattle.std.proofs.Common.{◌≡◌, ℕ, ◌≤◌, ◌==◌, Bool, true, false, cond, List, [], ◌∷◌, ◌++◌, Option, Some, None, Result, Ok, Err, take, drop, refl, ap, sym, ◌∙◌, subst, append_assoc, append-nil}
 use Rattle.std.specs.Option.{IfSome}
 use Rattle.std.specs.Io.KnownBytes.{Consumes, IsAtEnd}
 use Rattle.std.proofs.lemmas.List.{take-append-drop, take-take}
@@ -7,12 +7,14 @@ use Rattle.bc_cert_defs.specs.declared.check_fault.CheckFault.{CheckFault}
 use Rattle.bc_cert_defs.specs.declared.check_fault.CheckFault.TheVariants as faults
 use Rattle.bc_cert_defs.specs.Verdict.{Verdict}
 use Rattle.bc_cert_trees.specs.declared.place.Place.{Place}
+use Rattle.bc_cert_lines.specs.Fields.{Cut, cut, longer}
 use Rattle.bc_cert_trees.specs.Stacks.{◌>>=◌}
 use Rattle.bc_cert_defs.specs.declared.verdict.Verdict as code
 use Rattle.bc_cert_defs.specs.View.{verdict}
 use Rattle.bc_cert_trees.specs.View.{Fails, Gives}
 use Rattle.bc_cert_laws.specs.Judging.{State, between, start, step_at, between_step, place_of, counted, line_step, byte_step, feed_from, finished, judged}
 use Rattle.bc_cert_laws.proofs.Whole.{judged_says, judged_lacks}
+use Rattle.bc_cert.specs.View.{whole_line}
 use Rattle.bc_cert.specs.Answer.{IsSaid, IsLacking, IsFault, IsAnswer}
 
 pub between_line : (line : List ℕ) (st : State) (p : Place) → st.stage ≡ between → p ≡ place_of (counted st) → between_step line p (counted st) ≡ line_step line st
@@ -123,3 +125,52 @@ end_given known middle left bytes now count t f none h e end ok bad = by_fault f
 pub answer_at_end : (known middle left : Option (List ℕ)) (bytes now : List ℕ) (count : ℕ) (t : State × List ℕ) (r : Result code.Verdict CheckFault) → count ≡ 0 → Consumes known middle bytes → Consumes middle left (take count now) → IsAtEnd left → feed_from bytes (start, []) ≡ Ok t → Gives verdict r (finished t) → IsAnswer known r
 answer_at_end known middle left bytes now count t (Ok v) none h e end ok done = verdict_given known middle left bytes now count t (verdict v) none h e end ok done
 answer_at_end known middle left bytes now count t (Err f) none h e end ok done = end_given known middle left bytes now count t f none h e end ok done
+
+-- bytes up to the first end of a line, and those behind it
+abbrev behind_cut : State × List ℕ → List ℕ → Option (List ℕ) → Result (State × List ℕ) CheckFault
+behind_cut s first None = Ok (s.0, s.1 ++ first)
+behind_cut s first (Some more) = whole_line (s.1 ++ first) s.0 >>= (λ t. feed_from more t)
+
+behind_one : (s : State × List ℕ) (b : ℕ) (first : List ℕ) (o : Option (List ℕ)) → behind_cut (s.0, s.1 ++ b ∷ []) first o ≡ behind_cut s (b ∷ first) o
+behind_one s b first None = ap (λ l. Ok (s.0, l)) (append_assoc s.1 (b ∷ []) first)
+behind_one s b first (Some more) = ap (λ l. whole_line l s.0 >>= (λ t. feed_from more t)) (append_assoc s.1 (b ∷ []) first)
+
+abbrev cut_again : ℕ → List ℕ → Bool → Cut
+cut_again b bs t = cond t (record { first = []; behind = Some bs }) (longer (b ∷ []) (cut 10 bs))
+
+feed_again : (b : ℕ) (bs : List ℕ) (s : State × List ℕ) (t : Bool) → feed_from bs (s.0, s.1 ++ b ∷ []) ≡ behind_cut (s.0, s.1 ++ b ∷ []) (cut 10 bs).first (cut 10 bs).behind
+    → cond t (line_step s.1 s.0 >>= (λ st. Ok (st, []))) (Ok (s.0, s.1 ++ b ∷ [])) >>= (λ u. feed_from bs u) ≡ behind_cut s (cut_again b bs t).first (cut_again b bs t).behind
+feed_again b bs s true h = ap (λ l. whole_line l s.0 >>= (λ u. feed_from bs u)) (sym (append-nil s.1))
+feed_again b bs s false h = h ∙ behind_one s b (cut 10 bs).first (cut 10 bs).behind
+
+feed_cut : (text : List ℕ) (s : State × List ℕ) → feed_from text s ≡ behind_cut s (cut 10 text).first (cut 10 text).behind
+feed_cut [] s = ap (λ l. Ok (s.0, l)) (sym (append-nil s.1))
+feed_cut (b ∷ bs) s = feed_again b bs s (b == 10) (feed_cut bs (s.0, s.1 ++ b ∷ []))
+
+feed_at : (text : List ℕ) (s : State × List ℕ) (c : Cut) (o : Option (List ℕ)) → c ≡ cut 10 text → c.behind ≡ o → feed_from text s ≡ behind_cut s c.first o
+feed_at text s c o h i = feed_cut text s ∙ ap (λ x. behind_cut s x.first x.behind) (sym h) ∙ ap (λ x. behind_cut s c.first x) i
+
+-- the last line, which has not ended
+pub feed_last : (text : List ℕ) (s : State × List ℕ) (c : Cut) (all : Result (State × List ℕ) CheckFault) → c ≡ cut 10 text → c.behind ≡ None → feed_from text s ≡ all → Ok (s.0, s.1 ++ c.first) ≡ all
+feed_last text s c all h i k = sym (feed_at text s c None h i) ∙ k
+
+-- a line that ended, and the bytes behind it
+pub feed_on : (text more : List ℕ) (s u : State × List ℕ) (c : Cut) (all : Result (State × List ℕ) CheckFault) → c ≡ cut 10 text → c.behind ≡ Some more → whole_line (s.1 ++ c.first) s.0 ≡ Ok u → feed_from text s ≡ all → feed_from more u ≡ all
+feed_on text more s u c all h i j k = sym (ap (λ r. r >>= (λ t. feed_from more t)) j) ∙ sym (feed_at text s c (Some more) h i) ∙ k
+
+pub fails_more : {A B : Type 0} (f : CheckFault) (r : Result A CheckFault) (g : A → Result B CheckFault) → Fails f r → Fails f (r >>= g)
+fails_more faults.Header r g h = ap (λ q. q >>= g) h
+fails_more (faults.Line l) r g h = ap (λ q. q >>= g) h
+fails_more faults.Truncated r g h = ap (λ q. q >>= g) h
+fails_more (faults.WrongCost i n) r g h = ap (λ q. q >>= g) h
+fails_more (faults.WrongRule i n) r g h = ap (λ q. q >>= g) h
+fails_more (faults.WrongCode i) r g h = ap (λ q. q >>= g) h
+fails_more (faults.WrongWords i) r g h = ap (λ q. q >>= g) h
+fails_more (faults.TooDeep l) r g h = ap (λ q. q >>= g) h
+fails_more faults.Read r g h = ap (λ q. q >>= g) h
+fails_more faults.Memory r g h = tt
+
+-- a line with a fault
+pub feed_fails : (text more : List ℕ) (s : State × List ℕ) (c : Cut) (f : CheckFault) (all : Result (State × List ℕ) CheckFault) → c ≡ cut 10 text → c.behind ≡ Some more → Fails f (whole_line (s.1 ++ c.first) s.0) → feed_from text s ≡ all → Fails f all
+feed_fails text more s c f all h i j k =
+    subst (λ r. Fails f r) (sym (feed_at text s c (Some more) h i) ∙ k) (fails_more f (whole_line (s.1 ++ c.first) s.0) (λ t. feed_from more t) j)

@@ -1,11 +1,13 @@
--- What `check` answers, by the bytes that its reader gave.
-use Rattle.std.specs.Prelude.{◌≡◌, ℕ, List, Option, Result, Ok, Err}
+-- What `check` and `check_sums` answer, by the bytes that its reader gave.
+use Rattle.std.specs.Prelude.{◌≡◌, ℕ, ◌-◌, ◌^◌, min, length, List, Option, Result, Ok, Err}
 use Rattle.std.specs.Option.{IfSome}
 use Rattle.bc_cert_defs.specs.declared.check_fault.CheckFault.{CheckFault}
 use Rattle.bc_cert_defs.specs.declared.check_fault.CheckFault.TheVariants as faults
 use Rattle.bc_cert_defs.specs.declared.verdict.Verdict as code
 use Rattle.bc_cert_defs.specs.Verdict.{Verdict}
 use Rattle.bc_cert_defs.specs.View.{verdict}
+use Rattle.bc_cert.specs.declared.sums.Sums.{Sums}
+use Rattle.bc_cert.specs.View.{sum_of}
 use Rattle.bc_cert_laws.specs.Entries.{Says}
 use Rattle.bc_cert_laws.specs.Faults.{Lacks}
 
@@ -25,3 +27,17 @@ IsFault known f = IsLacking known f
 abbrev pub IsAnswer : Option (List ℕ) → Result code.Verdict CheckFault → Type 0
 IsAnswer known (Ok v) = IsSaid known (verdict v)
 IsAnswer known (Err f) = IsFault known f
+
+-- the sums of a verdict; that of its words is 2^64 - 1 where it is more than that
+pub record AreSums (s : Sums) (v : Verdict) : Type 0 where
+  pub table : s.table ≡ v.table
+  pub entries : s.entries ≡ length v.entries
+  pub words : s.words ≡ min (sum_of v.entries) (2 ^ 64 - 1)
+
+-- these are the sums of what the bytes say that the reader gave
+abbrev pub AreSaid : Option (List ℕ) → Sums → Type 0
+AreSaid known s = (v : Verdict) × IsSaid known v × AreSums s v
+
+abbrev pub IsSumsAnswer : Option (List ℕ) → Result Sums CheckFault → Type 0
+IsSumsAnswer known (Ok s) = AreSaid known s
+IsSumsAnswer known (Err f) = IsFault known f

@@ -1,14 +1,18 @@
 -- For proofs: what a checker has found so far.
-use Rattle.std.specs.Prelude.{◌≡◌, ℕ, true, List, map}
+use Rattle.std.specs.Prelude.{◌≡◌, ℕ, ◌+◌, ◌-◌, ◌^◌, min, true, List, [], ◌∷◌, ◌++◌, map, replicate, Result, Ok}
+use Rattle.bc_core.specs.Tree.{Num, Value}
+use Rattle.bc_cert_defs.specs.Verdict.{Judged, Verdict}
 use Rattle.bc_rules_defs.specs.declared.rule.Table.{Table}
 use Rattle.bc_rules.specs.Fits.{root_fits}
-use Rattle.bc_cert_trees.specs.Stacks.{Rooted}
+use Rattle.bc_cert_defs.specs.declared.check_fault.CheckFault.{CheckFault}
+use Rattle.bc_cert_trees.specs.Stacks.{◌>>=◌, Rooted}
 use Rattle.bc_cert_defs.specs.View.{judged}
 use Rattle.bc_cert_trees.specs.View.{stack, rooted}
 use Rattle.bc_cert.specs.declared.checker.Checker.{Checker}
+use Rattle.bc_cert.specs.declared.sums.Sums.{Sums}
 use Rattle.bc_cert.specs.declared.stage.Stage as code
 use Rattle.bc_cert.specs.declared.stage.Stage.TheVariants as stages
-use Rattle.bc_cert_laws.specs.Judging.{Stage, the_header, between, nodes, code as code_stage, the_end, State}
+use Rattle.bc_cert_laws.specs.Judging.{Stage, the_header, between, nodes, code as code_stage, the_end, State, line_step}
 
 abbrev pub stage : code.Stage → Stage
 stage stages.Header = the_header
@@ -17,11 +21,50 @@ stage (stages.Nodes h) = nodes h
 stage (stages.Code h r) = code_stage h (rooted r.value)
 stage stages.End = the_end
 
+-- over the entries that are at hand
+abbrev pub own : Checker → State
+own c = record { lines = c.lines; table = c.table; entries = map judged c.entries.items; stage = stage c.stage; trees = stack c.trees; nodes = c.nodes }
+
+-- what a checker says of them, and what sums say of a state's entries but for their number and words
+abbrev pub verdict_so_far : Checker → Verdict
+verdict_so_far c = record { table = c.table; entries = map judged c.entries.items }
+
+abbrev pub table_alone : Sums → State → Verdict
+table_alone sums st = record { table = sums.table; entries = st.entries }
+
+-- with entries in front
+abbrev pub behind : List Judged → State → State
+behind js st = record st { entries = js ++ st.entries }
+
+abbrev pub fed_behind : List Judged → State × List ℕ → State × List ℕ
+fed_behind js s = (behind js s.0, s.1)
+
+-- entries of which only their number is kept
+abbrev pub no_entry : Judged
+no_entry = record { segment = 0; item = 0; root = Value 0 (Num 0); target = 0; first = 0; code = []; words = 0 }
+
+abbrev pub gone : ℕ → List Judged
+gone n = replicate n no_entry
+
 abbrev pub state : Checker → State
-state c = record { lines = c.lines; table = c.table; entries = map judged c.entries.items; stage = stage c.stage; trees = stack c.trees; nodes = c.nodes }
+state c = behind (gone c.passed) (own c)
+
+-- the words of entries, in all
+abbrev pub sum_of : List Judged → ℕ
+sum_of [] = 0
+sum_of (j ∷ js) = j.words + sum_of js
+
+-- these words and those of entries, one after another, 2^64 - 1 where they are more
+abbrev pub summed : ℕ → List Judged → ℕ
+summed n [] = n
+summed n (j ∷ js) = summed (min (n + j.words) (2 ^ 64 - 1)) js
 
 abbrev pub fed : Checker → State × List ℕ
 fed c = (state c, c.line.items)
+
+-- a whole line, with none begun behind it
+abbrev pub whole_line : List ℕ → State → Result (State × List ℕ) CheckFault
+whole_line line st = line_step line st >>= (λ s. Ok (s, []))
 
 -- the rules of a root are a derivation of it
 abbrev pub IsDerived : Rooted → Type 0
@@ -33,3 +76,4 @@ pub record Kept (old new : Checker) : Type 0 where
   pub trees : stack new.trees ≡ stack old.trees
   pub lines : new.lines ≡ old.lines
   pub nodes : new.nodes ≡ old.nodes
+  pub passed : new.passed ≡ old.passed

@@ -1,14 +1,16 @@
 // What a check has found so far.
 
-ghost use Rattle.std.specs.Prelude.{◌≡◌, ◌≤◌, ◌<◌, ◌+◌, ◌^◌, length, [], OnOk, IfOk};
-ghost use Rattle.bc_cert_defs.specs.View.{verdict as verdict_of};
+ghost use Rattle.std.specs.Prelude.{◌≡◌, ◌≤◌, ◌<◌, ◌+◌, ◌^◌, ◌++◌, map, length, [], Ok, OnOk, IfOk};
+ghost use Rattle.bc_cert_defs.specs.View.{judged as judged_of, verdict as verdict_of};
 ghost use Rattle.bc_cert_trees.specs.Stacks.{AreParallel};
-ghost use Rattle.bc_cert_trees.specs.View.{rooted as rooted_of, Gives, Steps};
-ghost use Rattle.bc_cert_laws.specs.Judging.{start, place_of, line_step, begin_step, between_step, within_step, code_step, byte_step, feed_from, finished};
-ghost use Rattle.bc_cert.specs.View.{state, fed, Kept};
+ghost use Rattle.bc_cert_trees.specs.View.{rooted as rooted_of, stack as stack_of, Gives, Steps};
+ghost use Rattle.bc_cert_laws.specs.Judging.{start, place_of, line_step, begin_step, between_step, within_step, code_step, feed_from, finished};
+ghost use Rattle.bc_cert.specs.View.{own, state, fed, verdict_so_far, table_alone, whole_line, summed, Kept};
 
 use crate::code::judge_code;
+use crate::ends::first_line;
 use crate::stage::Stage;
+use crate::sums::Sums;
 use bc_cert_defs::{CheckFault, Judged, Verdict};
 use bc_cert_lines::{Head, end_line, entry_line, header, node_line, root_line};
 use bc_cert_trees::{Place, Rooted, Stack};
@@ -27,6 +29,8 @@ pub struct Checker {
     pub lines: u64,
     pub table: Table,
     pub entries: Vec<Judged>,
+    /// How many entries, in front of these, were let go of.
+    pub passed: u32,
     pub stage: Stage,
     /// The trees of the present entry that no whole has taken yet.
     pub trees: Stack,
@@ -40,6 +44,7 @@ impl Checker {
         ensures exact { fed result ≡ (start, []) }
         ensures parallel { AreParallel (state result).trees }
         ensures lines { (result.lines ≡ 0) × (result.nodes ≡ 0) }
+        ensures passed { result.passed ≡ 0 }
     {
         Checker {
             alloc,
@@ -47,6 +52,7 @@ impl Checker {
             lines: 0,
             table: Table::One,
             entries: Vec::new(alloc),
+            passed: 0,
             stage: Stage::Header,
             trees: Stack::new(alloc),
             nodes: 0,
@@ -62,47 +68,83 @@ impl Checker {
         ensures parallel { OnOk result (AreParallel (state self.new).trees) }
         ensures few { OnOk result (self.new.lines ≤ self.old.lines + length bytes.now) }
         ensures nodes { OnOk result (self.new.nodes ≤ self.new.lines) }
+        ensures passed { OnOk result (self.new.passed ≡ self.old.passed) }
     {
-        for byte in bytes {
-            self.take(*byte)?;
+        let mut rest = bytes;
+        for turn in 0..bytes.len() + 1 {
+            let (line, behind) = first_line(rest);
+            let behind = match behind {
+                Some(behind) => behind,
+                None => return self.keep(line),
+            };
+            if let Err(fault) = self.end(line) {
+                return Err(fault);
+            }
+            rest = behind;
         }
         Ok(())
     }
 
-    /// The next byte.
-    fn take(&mut self, byte: u8) -> Result<(), CheckFault>
+    /// Bytes of a line that goes on behind them.
+    fn keep(&mut self, bytes: &[u8]) -> Result<(), CheckFault>
+        ensures exact { Steps (fed self.new) result (Ok (state self.old, self.old.line.items ++ bytes.now)) }
+        ensures trees { OnOk result (stack_of self.new.trees ≡ stack_of self.old.trees) }
+        ensures lines { OnOk result ((self.new.lines ≡ self.old.lines) × (self.new.nodes ≡ self.old.nodes)) }
+        ensures passed { OnOk result (self.new.passed ≡ self.old.passed) }
+    {
+        self.line.extend_from_slice(bytes)?;
+        Ok(())
+    }
+
+    /// The end of the line at work, and its last bytes.
+    #[tactic(auto, using(crate::proofs::Steps::fails_more))]
+    fn end(&mut self, last: &[u8]) -> Result<(), CheckFault>
         requires parallel { AreParallel (state self.old).trees }
         requires few { self.old.lines < 2 ^ 62 }
         requires nodes { self.old.nodes ≤ self.old.lines }
-        ensures exact { Steps (fed self.new) result (byte_step byte (fed self.old)) }
+        ensures exact { Steps (fed self.new) result (whole_line (self.old.line.items ++ last.now) (state self.old)) }
         ensures parallel { OnOk result (AreParallel (state self.new).trees) }
         ensures few { OnOk result (self.new.lines ≤ self.old.lines + 1) }
         ensures nodes { OnOk result (self.new.nodes ≤ self.new.lines) }
+        ensures passed { OnOk result (self.new.passed ≡ self.old.passed) }
     {
-        if byte == b'\n' {
+        if !self.line.is_empty() {
+            self.line.extend_from_slice(last)?;
             let empty = Vec::new(self.alloc);
             let mut line = mem::replace(&mut self.line, empty);
             self.judge(line.as_slice())?;
             line.truncate(0);
             self.line = line;
-        } else {
-            self.line.push(byte)?;
+            return Ok(());
         }
+        self.judge(last)?;
         Ok(())
     }
 
-    /// The verdict, at the end of the input.
-    pub fn finish(self) -> Result<Verdict, CheckFault>
-        ensures { Gives verdict_of result (finished (fed self)) }
+    /// Lets go of the entries that are at hand: from now on they are counted, and no more. Answers the sum of these words and theirs,
+    /// or 2^64 - 1 where it is more than that.
+    pub fn forget(&mut self, words: u64) -> u64
+        requires few { self.old.passed + length self.old.entries.items < 2 ^ 32 }
+        ensures own { own self.new ≡ record (own self.old) { entries = [] } }
+        ensures kept { self.new.line.items ≡ self.old.line.items }
+        ensures passed { self.new.passed ≡ self.old.passed + length self.old.entries.items }
+        ensures words { result ≡ summed words (map judged_of self.old.entries.items) }
+    {
+        let words = sum_from(words, self.entries.as_slice());
+        self.passed += self.entries.len() as u32;
+        self.entries.truncate(0);
+        words
+    }
+
+    /// Whether the input may end here.
+    fn ended(&self) -> Result<(), CheckFault>
+        ensures { Gives (λ _. verdict_so_far self.now) result (finished (own self.now, self.now.line.items)) }
     {
         match self.stage {
             Stage::Header => Err(CheckFault::Header),
             Stage::End => {
                 if self.line.is_empty() {
-                    Ok(Verdict {
-                        table: self.table,
-                        entries: self.entries,
-                    })
+                    Ok(())
                 } else {
                     Err(CheckFault::Truncated)
                 }
@@ -111,14 +153,38 @@ impl Checker {
         }
     }
 
+    /// The verdict over the entries that are at hand, at the end of the input.
+    pub fn finish(self) -> Result<Verdict, CheckFault>
+        ensures { Gives verdict_of result (finished (own self, self.line.items)) }
+    {
+        self.ended()?;
+        Ok(Verdict {
+            table: self.table,
+            entries: self.entries,
+        })
+    }
+
+    /// The sums, at the end of the input: the words in all are these.
+    pub fn sums(self, words: u64) -> Result<Sums, CheckFault>
+        ensures exact { Gives (λ sums. table_alone sums (own self)) result (finished (own self, self.line.items)) }
+        ensures sums { IfOk result (λ sums. (sums.entries ≡ self.passed) × (sums.words ≡ words)) }
+    {
+        self.ended()?;
+        Ok(Sums {
+            table: self.table,
+            entries: u64::from(self.passed),
+            words,
+        })
+    }
+
     /// Where the line at work stands, which was counted.
-    #[tactic(auto, using(crate::proofs::Lengths::seen_length))]
+    #[tactic(auto, using(crate::proofs::Lengths::counted_length))]
     fn place(&self) -> Place
         ensures { result ≡ place_of (state self.now) }
     {
         Place {
             line: self.lines,
-            entry: self.entries.len() as u64,
+            entry: u64::from(self.passed) + self.entries.as_slice().len() as u64,
             node: self.nodes,
         }
     }
@@ -133,6 +199,7 @@ impl Checker {
         ensures parallel { OnOk result (AreParallel (state self.new).trees) }
         ensures few { OnOk result (self.new.lines ≡ self.old.lines + 1) }
         ensures nodes { OnOk result (self.new.nodes ≤ self.new.lines) }
+        ensures passed { OnOk result (self.new.passed ≡ self.old.passed) }
     {
         self.lines += 1;
         let stage = mem::replace(&mut self.stage, Stage::End);
@@ -167,6 +234,7 @@ impl Checker {
         ensures line { OnOk result (self.new.line.items ≡ self.old.line.items) }
         ensures parallel { AreParallel (state self.old).trees → OnOk result (AreParallel (state self.new).trees) }
         ensures lines { OnOk result (self.new.lines ≡ self.old.lines) }
+        ensures passed { OnOk result (self.new.passed ≡ self.old.passed) }
         ensures nodes { OnOk result (self.new.nodes ≤ self.old.nodes) }
     {
         match entry_line(line) {
@@ -200,6 +268,7 @@ impl Checker {
         ensures line { OnOk result (self.new.line.items ≡ self.old.line.items) }
         ensures parallel { OnOk result (AreParallel (state self.new).trees) }
         ensures lines { OnOk result (self.new.lines ≡ self.old.lines) }
+        ensures passed { OnOk result (self.new.passed ≡ self.old.passed) }
         ensures nodes { OnOk result (self.new.nodes ≤ self.old.nodes + 1) }
     {
         match node_line(line) {
@@ -222,6 +291,7 @@ impl Checker {
     }
 
     /// The code line.
+    #[tactic(auto, using(crate::proofs::Lengths::entries_pushed))]
     fn code(
         &mut self,
         head: Head,
@@ -244,4 +314,15 @@ fn boxed(alloc: Global, rooted: Rooted) -> Result<Box<Rooted>, Memory>
     ensures { IfOk result (λ new. rooted_of new.value ≡ rooted_of rooted) }
 {
     Ok(Box::new(alloc, rooted)?)
+}
+
+/// These words and those of entries, or 2^64 - 1 where they are more.
+fn sum_from(words: u64, entries: &[Judged]) -> u64
+    ensures { result ≡ summed words (map judged_of entries.now) }
+{
+    let mut sum = words;
+    for entry in entries {
+        sum = sum.saturating_add(entry.words);
+    }
+    sum
 }

@@ -8,7 +8,7 @@ use std::alloc::Global;
 use std::io::Read;
 
 /// The most bytes that a certificate may have.
-const LIMIT: usize = 1_073_741_824;
+pub const LIMIT: usize = 1_073_741_824;
 
 /// Checks a certificate, which it reads once and line by line.
 ///

@@ -4,7 +4,10 @@
 mod checker;
 mod checking;
 mod code;
+mod ends;
 mod stage;
+mod summing;
+mod sums;
 mod writing;
 
 pub use bc_cert_against::check_against;
@@ -12,4 +15,6 @@ pub use bc_cert_defs::{CheckFault, Judged, Mismatch, Verdict};
 pub use bc_cert_write::CertFault;
 pub use bc_rules_defs::{Entry, Piece, Table};
 pub use checking::check;
+pub use summing::check_sums;
+pub use sums::Sums;
 pub use writing::write_cert;

@@ -18,6 +18,7 @@ pub fn cut(text: &[u8], separator: u8) -> (&[u8], Option<&[u8]>)
 }
 
 /// The first field, and what stands behind it and its blank.
+#[inline(always)]
 pub fn field(text: &[u8]) -> Option<(&[u8], &[u8])>
     ensures { seen_pair result ≡ field_of text.now }
 {
@@ -44,6 +45,7 @@ pub fn behind(line: &[u8], letter: u8) -> Option<&[u8]>
 }
 
 /// The number whose decimal digits these are, without leading zeros.
+#[inline(always)]
 pub fn number(text: &[u8]) -> Option<u64>
     ensures { result ≡ number_of text.now }
 {
@@ -54,6 +56,7 @@ pub fn number(text: &[u8]) -> Option<u64>
     }
 }
 
+#[inline(always)]
 fn digits(text: &[u8]) -> Option<u64>
     ensures { result ≡ digits_from 0 text.now }
 {
@@ -72,6 +75,7 @@ fn digits(text: &[u8]) -> Option<u64>
 }
 
 /// Such a number up to 65,535.
+#[inline(always)]
 pub fn small(text: &[u8]) -> Option<u16>
     ensures { result ≡ small_of text.now }
 {
@@ -88,6 +92,7 @@ pub fn small(text: &[u8]) -> Option<u16>
 }
 
 /// A level: such a number up to 32,768.
+#[inline(always)]
 pub fn level(text: &[u8]) -> Option<u16>
     ensures { result ≡ level_of text.now }
 {
@@ -98,6 +103,7 @@ pub fn level(text: &[u8]) -> Option<u16>
 }
 
 /// A number, or `-` for none.
+#[inline(always)]
 pub fn number_or_none(text: &[u8]) -> Option<Option<u64>>
     ensures { result ≡ number_or_none_of text.now }
 {
@@ -113,6 +119,7 @@ pub fn number_or_none(text: &[u8]) -> Option<Option<u64>>
     }
 }
 
+#[inline(always)]
 fn some(number: Option<u64>) -> Option<Option<u64>>
     ensures { result ≡ some_number number }
 {

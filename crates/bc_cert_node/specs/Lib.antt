@@ -3,3 +3,4 @@ pub mod Costs
 pub mod Recipe
 pub mod Node
 pub mod Parts
+pub mod Pair

@@ -30,6 +30,10 @@ pub record Node : Type 0 where
 abbrev pub node : code.Node → Node
 node n = record { table = n.table; level = n.level; form = n.form; operand = n.operand; parts = n.parts.now }
 
+-- such a node with another form and other parts
+abbrev pub node_of : code.Node → Form → List Facts → Node
+node_of n form parts = record { table = n.table; level = n.level; form = form; operand = n.operand; parts = parts }
+
 abbrev pub recipe_by : Node → Rule → Aim → Option Recipe
 recipe_by n V1 aim = of_operand aim n.operand
 recipe_by n r aim = of_form r aim n.table n.level n.form n.parts
@@ -116,6 +120,15 @@ least_any n = lesser (least_push n) (least n (Gets Any) None (values_of n.form))
 
 abbrev pub least_on : Node → Bool → Option ℕ
 least_on n sense = lesser (by_value n.form (least_any n)) (least n (Jumps sense) None (tests_of n.form))
+
+-- the least words for each aim, of the least by the rules of each kind
+abbrev pub gathered : Form → (push values on_false on_true : Option ℕ) → LeastWords
+gathered form push values on_false on_true = record {
+  any = lesser push values;
+  push = push;
+  on_false = lesser (by_value form (lesser push values)) on_false;
+  on_true = lesser (by_value form (lesser push values)) on_true;
+}
 
 abbrev pub least_words_of : Node → LeastWords
 least_words_of n = record { any = least_any n; push = least_push n; on_false = least_on n false; on_true = least_on n true }

@@ -17,6 +17,7 @@ pub struct Costs {
 
 impl Costs {
     /// The words for this aim.
+    #[inline(always)]
     pub fn of(&self, aim: Aim) -> Option<u64>
         ensures { result ≡ cost_of aim self.now }
     {
@@ -40,6 +41,7 @@ pub struct LeastWords {
 
 impl LeastWords {
     /// Whether these are the numbers of a node line.
+    #[inline(always)]
     pub fn are(&self, costs: &Costs) -> bool
         ensures { result ≡ are_costs self.now costs.now }
     {
@@ -51,6 +53,7 @@ impl LeastWords {
 }
 
 /// Whether these are one number, or both none.
+#[inline(always)]
 fn is_same(words: Option<u128>, number: Option<u64>) -> bool
     ensures { result ≡ same_words words number }
 {
@@ -62,6 +65,7 @@ fn is_same(words: Option<u128>, number: Option<u64>) -> bool
 }
 
 /// The words of an instruction with this number.
+#[inline(always)]
 pub fn number_words(number: u64) -> u8
     ensures exact { result ≡ w number }
     ensures few { result ≤ 2 }

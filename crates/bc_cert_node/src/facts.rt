@@ -26,9 +26,10 @@ impl Facts {
     pub fn of(e: &CoreExp, calls: bool, costs: Costs) -> Facts
         ensures { result ≡ facts_of (exp e.now) calls costs }
     {
+        let (operand, is_direct) = as_operand(e);
         Facts {
-            operand: words_as_operand(e),
-            is_direct: is_direct(e),
+            operand,
+            is_direct,
             constant: number_of(e),
             calls,
             costs,
@@ -36,6 +37,7 @@ impl Facts {
     }
 
     /// Whether it is the number 0.
+    #[inline(always)]
     pub fn is_zero(&self) -> bool
         ensures { result ≡ zero_number self.now.constant }
     {
@@ -56,13 +58,16 @@ pub fn words_as_operand(e: &CoreExp) -> Option<u8>
     }
 }
 
-/// Whether it is a number or an address as operand, and not the content of a cell.
-fn is_direct(e: &CoreExp) -> bool
-    ensures { result ≡ is_direct_expression (exp e.now) }
+/// The same, and whether it is a number or an address as operand, and not the content of a cell.
+fn as_operand(e: &CoreExp) -> (Option<u8>, bool)
+    ensures { result ≡ (words_of_operand_of (exp e.now), is_direct_expression (exp e.now)) }
 {
     match operand(e) {
-        Some(operand) => operand.direct,
-        None => false,
+        Some(operand) => {
+            let is_direct = operand.direct;
+            (Some(operand_words(operand)), is_direct)
+        }
+        None => (None, false),
     }
 }
 
@@ -77,6 +82,7 @@ fn number_of(e: &CoreExp) -> Option<u16>
 }
 
 /// Whether the work on two parts may be done in either order.
+#[inline(always)]
 pub fn are_free(a: &Facts, b: &Facts) -> bool
     ensures { result ≡ free a.now b.now }
 {

@@ -22,6 +22,7 @@ pub enum Form {
 
 impl Form {
     /// How many parts such a node has.
+    #[inline(always)]
     pub fn parts(self) -> usize
         ensures { result ≡ parts_of self }
     {
@@ -35,6 +36,7 @@ impl Form {
     }
 
     /// Whether such a node is a call or a VALOF.
+    #[inline(always)]
     pub fn calls(self) -> bool
         ensures { result ≡ calls_itself self }
     {
@@ -53,6 +55,7 @@ impl Form {
     }
 
     /// Whether neither NOT, `&` nor the bar is on top, so that a test may go by the value.
+    #[inline(always)]
     pub fn is_plain(self) -> bool
         ensures { result ≡ is_plain_form self }
     {

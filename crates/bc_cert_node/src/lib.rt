@@ -4,6 +4,7 @@
 mod costs;
 mod facts;
 mod form;
+mod least_words;
 mod node;
 mod recipe;
 

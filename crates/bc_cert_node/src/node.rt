@@ -5,9 +5,9 @@ ghost use Rattle.std.specs.Prelude.{◌≡◌, ◌<◌, ◌≤◌, ◌+◌, ◌^
 ghost use Rattle.bc_rules_defs.specs.Free.{jumps_at};
 ghost use Rattle.bc_select_defs.specs.Options.{sum as sum_of};
 ghost use Rattle.bc_cert_node.specs.Recipe.{of_form, value_of_two as value_by, both_parts as both_by, test_of_two as test_by, zero_test, beside_zero as beside_by, without_zero as without_by, less_number as less_by, in_any as in_any_of, where_so};
-ghost use Rattle.bc_cert_node.specs.Node.{node, recipe_by, words_of as words_of_recipe, wanted, held, words_by, least, by_value, least_words_of, pushes_of, values_of, tests_of, lesser as lesser_of};
+ghost use Rattle.bc_cert_node.specs.Node.{node, recipe_by, words_of as words_of_recipe, wanted, held, words_by, least, pushes_of, values_of, tests_of, lesser as lesser_of};
 
-use crate::costs::{LeastWords, number_words};
+use crate::costs::number_words;
 use crate::facts::{Facts, are_free};
 use crate::form::Form;
 use crate::recipe::{Recipe, Takes, makes, only, with_operand};
@@ -111,7 +111,8 @@ impl<'p> Node<'p> {
     }
 
     /// The words that a rule wants of a part; of an argument of a call also those that put it in its cell.
-    fn wanted(&self, takes: Takes, at: usize, part: &Facts, is_last: bool) -> Option<u128>
+    #[inline(always)]
+    pub fn wanted(&self, takes: Takes, at: usize, part: &Facts, is_last: bool) -> Option<u128>
         requires { at < 2 ^ 63 }
         ensures exact { result ≡ wanted takes self.now.level at part.now is_last }
         ensures few { IfSome result (λ n. n ≤ 2 ^ 64 + 1) }
@@ -126,6 +127,7 @@ impl<'p> Node<'p> {
     }
 
     /// The words that put an argument of a call in its cell.
+    #[inline(always)]
     fn held(&self, takes: Takes, at: usize, is_last: bool) -> u8
         requires { at < 2 ^ 63 }
         ensures exact { result ≡ held takes self.now.level at is_last }
@@ -160,7 +162,7 @@ impl<'p> Node<'p> {
     }
 
     /// The least words over some rules.
-    fn least(&self, rules: &[Rule], aim: Aim) -> Option<u128>
+    pub fn least(&self, rules: &[Rule], aim: Aim) -> Option<u128>
         ensures exact { result ≡ least (node self.now) aim None rules.now }
         ensures few { IfSome result (λ n. n < 2 ^ 127 + 2 ^ 70) }
     {
@@ -170,43 +172,11 @@ impl<'p> Node<'p> {
         }
         words
     }
-
-    /// The words of a test that goes by the value, which has so many.
-    fn by_value(&self, any: Option<u128>) -> Option<u128>
-        requires { IfSome any (λ n. n < 2 ^ 127 + 2 ^ 70) }
-        ensures { result ≡ by_value self.now.form any }
-    {
-        match any {
-            Some(words) => {
-                if self.form.is_plain() {
-                    Some(words + 2)
-                } else {
-                    None
-                }
-            }
-            None => None,
-        }
-    }
-
-    /// The least words of the node's derivations for each aim.
-    pub fn least_words(&self) -> LeastWords
-        ensures { result ≡ least_words_of (node self.now) }
-    {
-        let push = self.least(pushes(self.form), PUSH);
-        let any = lesser(push, self.least(values(self.form), ANY));
-        let value = self.by_value(any);
-        let tests = tests(self.form);
-        LeastWords {
-            any,
-            push,
-            on_false: lesser(value, self.least(tests, Aim::Jumps(false))),
-            on_true: lesser(value, self.least(tests, Aim::Jumps(true))),
-        }
-    }
 }
 
 /// The words of both.
-fn sum(x: Option<u128>, y: Option<u128>) -> Option<u128>
+#[inline(always)]
+pub fn sum(x: Option<u128>, y: Option<u128>) -> Option<u128>
     requires first { IfSome x (λ n. n < 2 ^ 127 + 2 ^ 70) }
     requires second { IfSome y (λ n. n ≤ 2 ^ 64 + 1) }
     ensures { result ≡ sum_of x y }
@@ -218,6 +188,7 @@ fn sum(x: Option<u128>, y: Option<u128>) -> Option<u128>
 }
 
 /// The lesser of two numbers of words, where there are any.
+#[inline(always)]
 pub fn lesser(x: Option<u128>, y: Option<u128>) -> Option<u128>
     ensures { result ≡ lesser_of x y }
 {
@@ -229,7 +200,7 @@ pub fn lesser(x: Option<u128>, y: Option<u128>) -> Option<u128>
 }
 
 /// The rules of a value that is pushed.
-fn pushes(form: Form) -> &'static [Rule]
+pub fn pushes(form: Form) -> &'static [Rule]
     ensures { result.now ≡ pushes_of form }
 {
     match form {
@@ -256,7 +227,7 @@ fn pushes(form: Form) -> &'static [Rule]
 }
 
 /// The rules of a value, but for `V0`.
-fn values(form: Form) -> &'static [Rule]
+pub fn values(form: Form) -> &'static [Rule]
     ensures { result.now ≡ values_of form }
 {
     match form {
@@ -286,7 +257,7 @@ fn values(form: Form) -> &'static [Rule]
 }
 
 /// The rules of a test, but for `J6`.
-fn tests(form: Form) -> &'static [Rule]
+pub fn tests(form: Form) -> &'static [Rule]
     ensures { result.now ≡ tests_of form }
 {
     match form {
@@ -305,13 +276,15 @@ fn tests(form: Form) -> &'static [Rule]
 }
 
 /// Whether a number in a test position jumps.
-fn jumps(sense: bool, number: Word) -> bool
+#[inline(always)]
+pub fn jumps(sense: bool, number: Word) -> bool
     ensures { result ≡ jumps_at sense number }
 {
     (number.get() != 0) == sense
 }
 
 /// Only where it is so.
+#[inline(always)]
 fn given(holds: bool, recipe: Option<Recipe>) -> Option<Recipe>
     ensures { result ≡ where_so holds recipe }
 {
@@ -319,6 +292,7 @@ fn given(holds: bool, recipe: Option<Recipe>) -> Option<Recipe>
 }
 
 /// Only for the mode Any.
+#[inline(always)]
 fn in_any(mode: Mode, recipe: Option<Recipe>) -> Option<Recipe>
     ensures { result ≡ in_any_of mode recipe }
 {
@@ -329,6 +303,7 @@ fn in_any(mode: Mode, recipe: Option<Recipe>) -> Option<Recipe>
 }
 
 /// The part beside a 0; of two 0s the right one is dropped.
+#[inline(always)]
 fn beside_zero(a: &Facts, b: &Facts, aim: Aim, words: u64) -> Option<Recipe>
     ensures { result ≡ beside_by a.now b.now aim words }
 {
@@ -342,6 +317,7 @@ fn beside_zero(a: &Facts, b: &Facts, aim: Aim, words: u64) -> Option<Recipe>
 }
 
 /// The same for a sum, and for a difference where the second part is 0.
+#[inline(always)]
 fn without_zero(op: Op, a: &Facts, b: &Facts, aim: Aim) -> Option<Recipe>
     ensures { result ≡ without_by op a.now b.now aim }
 {
@@ -353,6 +329,7 @@ fn without_zero(op: Op, a: &Facts, b: &Facts, aim: Aim) -> Option<Recipe>
 }
 
 /// The negation of a number added.
+#[inline(always)]
 fn less_number(number: Option<u16>, aim: Aim) -> Option<Recipe>
     ensures { result ≡ less_by number aim }
 {
@@ -366,7 +343,15 @@ fn less_number(number: Option<u16>, aim: Aim) -> Option<Recipe>
 }
 
 /// The rules of the value of a dyadic operator.
-fn value_of_two(rule: Rule, mode: Mode, op: Op, level: u16, a: &Facts, b: &Facts) -> Option<Recipe>
+#[inline(always)]
+pub fn value_of_two(
+    rule: Rule,
+    mode: Mode,
+    op: Op,
+    level: u16,
+    a: &Facts,
+    b: &Facts,
+) -> Option<Recipe>
     ensures { result ≡ value_by rule mode op level a.now b.now }
 {
     let aim = Aim::Gets(mode);
@@ -395,6 +380,7 @@ fn value_of_two(rule: Rule, mode: Mode, op: Op, level: u16, a: &Facts, b: &Facts
 }
 
 /// The rules that have both parts.
+#[inline(always)]
 fn both_parts(rule: Rule, op: Op, level: u16, free: bool) -> Option<Recipe>
     ensures { result ≡ both_by rule op level free }
 {
@@ -417,7 +403,8 @@ fn both_parts(rule: Rule, op: Op, level: u16, free: bool) -> Option<Recipe>
 }
 
 /// The rules of the test of a dyadic operator, but for `J6`.
-fn test_of_two(
+#[inline(always)]
+pub fn test_of_two(
     rule: Rule,
     table: Table,
     sense: bool,
@@ -441,6 +428,7 @@ fn test_of_two(
 }
 
 /// The rules of table 2, of a test against 0.
+#[inline(always)]
 fn of_zero(table: Table, a: &Facts, b: &Facts) -> Option<Recipe>
     ensures { result ≡ zero_test table a.now b.now }
 {

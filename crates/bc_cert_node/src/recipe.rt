@@ -33,6 +33,7 @@ pub struct Recipe {
 
 impl Takes {
     /// The aim for which a part is taken, if it is.
+    #[inline(always)]
     pub fn aim_of(self, part: usize) -> Option<Aim>
         ensures { result ≡ aim_at self part }
     {
@@ -56,6 +57,7 @@ impl Takes {
 }
 
 /// This, in so many words.
+#[inline(always)]
 pub fn makes(takes: Takes, words: u64) -> Option<Recipe>
     ensures { result ≡ recipe_of_words takes words }
 {
@@ -63,6 +65,7 @@ pub fn makes(takes: Takes, words: u64) -> Option<Recipe>
 }
 
 /// This, in the words of an operand, if it is one, and so many more.
+#[inline(always)]
 pub fn with_operand(takes: Takes, operand: Option<u8>, more: u8) -> Option<Recipe>
     ensures { result ≡ adding takes operand more }
 {
@@ -73,6 +76,7 @@ pub fn with_operand(takes: Takes, operand: Option<u8>, more: u8) -> Option<Recip
 }
 
 /// Only at this operator.
+#[inline(always)]
 pub fn only(wanted: Op, op: Op, recipe: Option<Recipe>) -> Option<Recipe>
     ensures { result ≡ only_at wanted op recipe }
 {

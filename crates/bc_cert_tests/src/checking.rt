@@ -1,4 +1,4 @@
-use bc_cert::{CheckFault, check};
+use bc_cert::{CheckFault, check, check_sums};
 use std::alloc::Global;
 use std::io;
 use std::io::{ErrorKind, Read};
@@ -56,19 +56,30 @@ fn whole_lines_come_before_a_failure(rt: HostRuntime) {
     }
 }
 
-// The number of entries of the sample.
-fn entries(alloc: Global) -> Result<usize, CheckFault> {
-    Ok(check(alloc, SAMPLE)?.entries.len())
+// The number of entries of the sample, and their words, by both calls.
+fn entries(alloc: Global) -> Result<(usize, u64, u64), CheckFault> {
+    let verdict = check(alloc, SAMPLE)?;
+    let sums = check_sums(
+        alloc,
+        Slow {
+            bytes: SAMPLE,
+            fails: false,
+        },
+    )?;
+    Ok((verdict.entries.len(), sums.entries, sums.words))
 }
 
 #[test]
 fn growth_is_given(rt: HostRuntime) {
-    assert_eq!(rt; entries(rt.alloc()), Ok(1));
+    assert_eq!(rt; entries(rt.alloc()), Ok((1, 1, 4)));
 }
 
 // With `.ci/refusals`, which has each allocation refused in turn: `Memory` is the answer then, and nothing else.
 #[test]
 fn refused_growth_is_memory(rt: HostRuntime) {
     let got = entries(rt.alloc());
-    assert!(rt; got == Ok(1) || got == Err(CheckFault::Memory), "{got:?}");
+    assert!(rt;
+        got == Ok((1, 1, 4)) || got == Err(CheckFault::Memory),
+        "{got:?}"
+    );
 }

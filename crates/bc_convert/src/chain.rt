@@ -36,19 +36,29 @@ impl Chain {
         is_inner: bool,
     ) -> Result<ChainState, Memory> {
         if is_plain(source, self.from, self.to) {
-            let middle = notes.rendered(source, self.from, self.to)?;
-            if is_too_long(middle.as_slice()) {
-                notes.complain(source, self.from, Fault::TooLongToRepeat)?;
-                return Ok(self.state);
-            }
-            self.link(source, notes, middle.as_slice())?;
-            return self.open(notes, is_inner);
+            self.join_plain(source, notes, is_inner)
+        } else if self.state == ChainState::Single && is_plain(source, self.at, self.from) {
+            self.keep(source, notes)
+        } else {
+            notes.complain(source, self.at, Fault::CallInChain)?;
+            Ok(self.state)
         }
-        if self.state == ChainState::Single && is_plain(source, self.at, self.from) {
-            return self.keep(source, notes);
+    }
+
+    /// Joins a relation behind an operand that may be worked out twice.
+    fn join_plain(
+        self,
+        source: Source<'_>,
+        notes: &mut Notes,
+        is_inner: bool,
+    ) -> Result<ChainState, Memory> {
+        let middle = notes.rendered(source, self.from, self.to)?;
+        if is_too_long(middle.as_slice()) {
+            notes.complain(source, self.from, Fault::TooLongToRepeat)?;
+            return Ok(self.state);
         }
-        notes.complain(source, self.at, Fault::CallInChain)?;
-        Ok(self.state)
+        self.link(source, notes, middle.as_slice())?;
+        self.open(notes, is_inner)
     }
 
     /// Puts `&` and the middle in front of the operator.
@@ -58,9 +68,7 @@ impl Chain {
         } else {
             b" "
         };
-        notes.put_before(self.to, gap)?;
-        notes.put_before(self.to, middle)?;
-        notes.put_before(self.to, b")&(")?;
+        notes.put_all_before(self.to, &[gap, middle, b")&("])?;
         notes.take_gap(source, self.to);
         Ok(())
     }
@@ -84,16 +92,24 @@ impl Chain {
     fn keep(self, source: Source<'_>, notes: &mut Notes) -> Result<ChainState, Memory> {
         let middle = notes.rendered(source, self.from, self.to)?;
         let name = notes.fresh_name(source)?;
+        self.put_name(source, notes, name.as_slice())?;
+        let texts: [&[u8]; 5] = [
+            b"; RESULTIS (",
+            middle.as_slice(),
+            b" = ",
+            name.as_slice(),
+            b"(VALOF $( LET ",
+        ];
+        notes.put_all_before(self.at, &texts)?;
+        Ok(ChainState::Valof)
+    }
+
+    /// Puts a variable in the place of the middle.
+    fn put_name(self, source: Source<'_>, notes: &mut Notes, name: &[u8]) -> Result<(), Memory> {
         take_out(source, notes, self.from.saturating_add(1), self.to)?;
         notes.clear(self.from);
-        notes.replace(self.from, name.as_slice())?;
-        self.link(source, notes, name.as_slice())?;
-        notes.put_before(self.at, b"; RESULTIS (")?;
-        notes.put_before(self.at, middle.as_slice())?;
-        notes.put_before(self.at, b" = ")?;
-        notes.put_before(self.at, name.as_slice())?;
-        notes.put_before(self.at, b"(VALOF $( LET ")?;
-        Ok(ChainState::Valof)
+        notes.replace(self.from, name)?;
+        self.link(source, notes, name)
     }
 }
 

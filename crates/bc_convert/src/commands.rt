@@ -28,33 +28,61 @@ pub fn put_compound(
     end: usize,
 ) -> Result<(), Memory> {
     let operator = left.end;
-    let assign = operator.saturating_add(1);
-    let whole = notes.rendered(source, at, left.end)?;
-    let sign = notes.rendered(source, operator, assign)?;
+    let behind = operator.saturating_add(2);
+    let sign = notes.rendered(source, operator, operator.saturating_add(1))?;
     match left.byte {
-        None => {
-            notes.replace(operator, b":=")?;
-            notes.replace(assign, b" ")?;
-            notes.put_behind(assign.saturating_add(1), whole.as_slice())?;
-        }
+        None => put_cell(source, notes, at, operator)?,
         Some(percent) => {
-            let string = notes.rendered(source, at, percent)?;
-            let place = notes.rendered(source, percent.saturating_add(1), left.end)?;
-            put_byte_of(source, notes, at, percent, operator)?;
-            notes.replace(assign, b" GETBYTE(")?;
-            let behind = assign.saturating_add(1);
-            notes.put_behind(behind, string.as_slice())?;
-            notes.put_behind(behind, b", ")?;
-            notes.put_behind(behind, place.as_slice())?;
-            notes.put_behind(behind, b")")?;
+            put_byte(
+                source,
+                notes,
+                Byte {
+                    at,
+                    percent,
+                    operator,
+                },
+            )?;
             notes.put_behind(end, b")")?;
         }
     }
-    let behind = assign.saturating_add(1);
-    notes.put_behind(behind, b" ")?;
-    notes.put_behind(behind, sign.as_slice())?;
+    notes.put_all_behind(behind, &[b" ", sign.as_slice()])?;
     if source.gap(behind).is_empty() {
         notes.put_behind(behind, b" ")?;
     }
     Ok(())
+}
+
+/// Puts the sign that assigns in the place of an operator, and behind it the left side, which is no byte.
+fn put_cell(
+    source: Source<'_>,
+    notes: &mut Notes,
+    at: usize,
+    operator: usize,
+) -> Result<(), Memory> {
+    let assign = operator.saturating_add(1);
+    let whole = notes.rendered(source, at, operator)?;
+    notes.replace(operator, b":=")?;
+    notes.replace(assign, b" ")?;
+    notes.put_behind(assign.saturating_add(1), whole.as_slice())
+}
+
+/// A byte on the left side of an assignment with an operator: where it begins, and where its `%` and the operator stand.
+#[derive(Clone, Copy)]
+struct Byte {
+    at: usize,
+    percent: usize,
+    operator: usize,
+}
+
+/// Makes of a byte the beginning of a call of PUTBYTE, and of the operator behind it a call of GETBYTE.
+fn put_byte(source: Source<'_>, notes: &mut Notes, byte: Byte) -> Result<(), Memory> {
+    let assign = byte.operator.saturating_add(1);
+    let string = notes.rendered(source, byte.at, byte.percent)?;
+    let place = notes.rendered(source, byte.percent.saturating_add(1), byte.operator)?;
+    put_byte_of(source, notes, byte.at, byte.percent, byte.operator)?;
+    notes.replace(assign, b" GETBYTE(")?;
+    notes.put_all_behind(
+        assign.saturating_add(1),
+        &[string.as_slice(), b", ", place.as_slice(), b")"],
+    )
 }

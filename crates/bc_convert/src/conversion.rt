@@ -29,19 +29,29 @@ pub struct Conversion {
 /// Labels that are used as values.
 fn find_label_values(source: Source<'_>, notes: &mut Notes) -> Result<(), Memory> {
     for index in 0..source.tokens.len() {
-        let is_label = notes
-            .labels()
-            .iter()
-            .any(|label| source.is_same(*label, index));
-        if source.kind(index) == Kind::Name
-            && is_label
-            && !notes.is_label_or_destination(index)
-            && !is_declared(source, index)
-        {
+        if is_label_value(source, notes, index) {
             notes.complain(source, index, Fault::LabelAsValue)?;
         }
     }
     Ok(())
+}
+
+/// Whether the token at an index is a label's name as a value.
+fn is_label_value(source: Source<'_>, notes: &Notes, index: usize) -> bool {
+    source.kind(index) == Kind::Name
+        && has_label(source, notes.labels(), index)
+        && !notes.is_label_or_destination(index)
+        && !is_declared(source, index)
+}
+
+/// Whether one of these labels has the name at an index.
+fn has_label(source: Source<'_>, labels: &[usize], index: usize) -> bool {
+    for label in labels {
+        if source.is_same(*label, index) {
+            return true;
+        }
+    }
+    false
 }
 
 /// Jumps past a declaration behind commands, to a label that now stands in the block of that.
@@ -110,24 +120,43 @@ fn found(
     shown: Dialect,
     options: Options<'_>,
 ) -> Result<Notes, Memory> {
-    let program = match options.program {
+    let mut notes = Notes::new(alloc, source.tokens.len())?;
+    find(
+        source,
+        &mut notes,
+        options,
+        shown_with(source, shown, options),
+    )?;
+    Ok(notes)
+}
+
+/// What a source that shows this dialect by itself and the others of its program show together.
+fn shown_with(source: Source<'_>, shown: Dialect, options: Options<'_>) -> Program {
+    match options.program {
         Some(program) => program.seen_from(shown),
         None => Program::shown(source, shown, options.library),
-    };
+    }
+}
+
+/// Writes down what is found in a source of a program.
+fn find(
+    source: Source<'_>,
+    notes: &mut Notes,
+    options: Options<'_>,
+    program: Program,
+) -> Result<(), Memory> {
     let dialect = program.dialect;
     let header = options.header.unwrap_or(program.header());
-    let mut notes = Notes::new(alloc, source.tokens.len())?;
-    respell(source, &mut notes, dialect, options, header)?;
+    respell(source, notes, dialect, options, header)?;
     let walk = Walk {
         source,
         dialect,
         depth: MOST_DEPTH,
     };
-    items(walk, &mut notes, 0, source.tokens.len())?;
-    find_label_values(source, &mut notes)?;
-    find_parted_jumps(source, &mut notes)?;
-    tell_library(source, &mut notes, options, program)?;
-    Ok(notes)
+    items(walk, notes, 0, source.tokens.len())?;
+    find_label_values(source, notes)?;
+    find_parted_jumps(source, notes)?;
+    tell_library(source, notes, options, program)
 }
 
 /// What is found in a text: what becomes of its tokens, and what can't be converted.

@@ -118,14 +118,12 @@ pub fn put_absolute(
 fn put_kept(source: Source<'_>, notes: &mut Notes, at: usize, end: usize) -> Result<(), Memory> {
     let start = at.saturating_add(1);
     let name = notes.fresh_name(source)?;
+    let name = name.as_slice();
     notes.replace(at, b"(VALOF $( LET ")?;
-    notes.put_behind(start, name.as_slice())?;
-    notes.put_behind(start, b" =")?;
+    notes.put_all_behind(start, &[name, b" ="])?;
     notes.put_behind(end, b"; RESULTIS ")?;
-    put_choice(notes, end, name.as_slice())?;
-    notes.put_behind(end, b" ")?;
-    notes.put_behind(end, name.as_slice())?;
-    notes.put_behind(end, b" $))")
+    put_choice(notes, end, name)?;
+    notes.put_all_behind(end, &[b" ", name, b" $))"])
 }
 
 /// Has the operand of ABS worked out twice, where its text isn't too long.
@@ -139,6 +137,17 @@ fn put_twice(source: Source<'_>, notes: &mut Notes, at: usize, end: usize) -> Re
         notes.put_before(start, b"(")?;
         notes.put_behind(end, b")")?;
     }
+    put_choice_of(source, notes, at, end)
+}
+
+/// Puts the choice between the operand of ABS and its negative in the place of both.
+fn put_choice_of(
+    source: Source<'_>,
+    notes: &mut Notes,
+    at: usize,
+    end: usize,
+) -> Result<(), Memory> {
+    let start = at.saturating_add(1);
     let text = notes.rendered(source, start, end)?;
     notes.replace(at, b"(")?;
     put_choice(notes, start, text.as_slice())?;
@@ -150,8 +159,5 @@ fn put_twice(source: Source<'_>, notes: &mut Notes, at: usize, end: usize) -> Re
 
 /// Puts behind a token the test whether a value is negative, and the value that it has then without its sign.
 fn put_choice(notes: &mut Notes, end: usize, value: &[u8]) -> Result<(), Memory> {
-    notes.put_behind(end, value)?;
-    notes.put_behind(end, b"<0 -> -")?;
-    notes.put_behind(end, value)?;
-    notes.put_behind(end, b",")
+    notes.put_all_behind(end, &[value, b"<0 -> -", value, b","])
 }

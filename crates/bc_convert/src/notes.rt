@@ -94,6 +94,22 @@ impl Notes {
         Ok(())
     }
 
+    /// Puts these in front of a token and of all that was put there before, each in front of the one before it.
+    pub fn put_all_before(&mut self, index: usize, texts: &[&[u8]]) -> Result<(), Memory> {
+        for bytes in texts {
+            self.put_before(index, bytes)?;
+        }
+        Ok(())
+    }
+
+    /// Puts these behind the token in front of an index and behind all that was put there before, in their order.
+    pub fn put_all_behind(&mut self, end: usize, texts: &[&[u8]]) -> Result<(), Memory> {
+        for bytes in texts {
+            self.put_behind(end, bytes)?;
+        }
+        Ok(())
+    }
+
     /// Puts bytes in the place of a token.
     pub fn replace(&mut self, index: usize, bytes: &[u8]) -> Result<(), Memory> {
         if index < self.slots.len() {

@@ -21,17 +21,30 @@ pub fn respell(
     for index in 0..source.tokens.len() {
         match source.kind(index) {
             Kind::Name => respell_name(source, notes, index, dialect, options)?,
-            Kind::Number => respell_number(source, notes, index)?,
             Kind::Text => respell_string(source, notes, index, header)?,
-            Kind::Character => respell_character(source, notes, index)?,
-            Kind::Floating => notes.complain(source, index, Fault::Floating)?,
-            Kind::Foreign => notes.complain(source, index, foreign_fault(source.bytes(index)))?,
-            Kind::Unclosed => notes.complain(source, index, Fault::Unclosed)?,
-            Kind::Unknown => notes.complain(source, index, Fault::UnknownByte)?,
-            kind => respell_sign(source, notes, index, kind, dialect)?,
+            kind => respell_further(source, notes, index, kind, dialect)?,
         }
     }
     Ok(())
+}
+
+/// What becomes of a token that is neither a name nor a string.
+fn respell_further(
+    source: Source<'_>,
+    notes: &mut Notes,
+    index: usize,
+    kind: Kind,
+    dialect: Dialect,
+) -> Result<(), Memory> {
+    match kind {
+        Kind::Number => respell_number(source, notes, index),
+        Kind::Character => respell_character(source, notes, index),
+        Kind::Floating => notes.complain(source, index, Fault::Floating),
+        Kind::Foreign => notes.complain(source, index, foreign_fault(source.bytes(index))),
+        Kind::Unclosed => notes.complain(source, index, Fault::Unclosed),
+        Kind::Unknown => notes.complain(source, index, Fault::UnknownByte),
+        _ => respell_sign(source, notes, index, kind, dialect),
+    }
 }
 
 /// Why a word or sign has no counterpart.

@@ -1,4 +1,5 @@
-//! An interpreter of resolved programs, which comes to what they mean, and takes no native stack for the depth of calls or of trees.
+//! An interpreter of resolved programs, which comes to what they mean, and takes no native stack for the depth of calls, nor for that of
+//! trees beyond a bound.
 #![tactic(auto)]
 
 mod places;

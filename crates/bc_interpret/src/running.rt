@@ -11,6 +11,7 @@ use crate::run::{Interpreted, Run, to_end};
 use crate::start::start_store;
 use crate::table::table_of;
 use bc_core::Core;
+use bc_interpret_quiet::Room;
 use bc_interpret_steps::{NumberRest, Rest, Section, Stacks, State, Work, put};
 use bc_interpret_store::Store;
 use bc_interpret_trace::Trace;
@@ -28,8 +29,10 @@ fn run_over<'c>(alloc: Global, store: Store, turns: u64) -> Run<'c>
         state: State { store, turns },
         stacks: Stacks {
             rests: Vec::new(alloc),
-            quiet: Vec::new(alloc),
-            waiting: Vec::new(alloc),
+            room: Room {
+                rests: Vec::new(alloc),
+                waiting: Vec::new(alloc),
+            },
             arguments: Vec::new(alloc),
         },
         name: Vec::new(alloc),
@@ -38,7 +41,6 @@ fn run_over<'c>(alloc: Global, store: Store, turns: u64) -> Run<'c>
 }
 
 /// The address of the frame in which the run begins, two cells above the stack base.
-///
 fn first_frame(stack_base: u16) -> usize
     ensures { result ≡ stack_base + 2 }
 {

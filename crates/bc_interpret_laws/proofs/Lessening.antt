@@ -1,21 +1,21 @@
 -- Each step of the machine takes a turn, or lessens the weight of what is left.
-use Rattle.std.proofs.Common.{◌≡◌, ℕ, zero, suc, ◌+◌, ◌≤◌, ◌<◌, ◌==◌, ◌||◌, List, [], ◌∷◌, Bool, true, false, Option, Some, None, refl, sym, ap, subst, arith}
+use Rattle.std.proofs.Common.{◌≡◌, ℕ, zero, suc, ◌+◌, ◌≤◌, ◌<◌, ◌==◌, ◌||◌, List, [], ◌∷◌, ◌++◌, Bool, true, false, Option, Some, None, refl, sym, ap, subst, arith}
 use Rattle.std.specs.Prelude.{nat_le}
 use Rattle.bc_word.specs.declared.operator.Op.{Op}
 use Rattle.bc_word.specs.declared.operator.Op.TheVariants as operators
 use Rattle.bc_word.specs.Words.{value_of, holds}
 use Rattle.bc_machine_defs.specs.Streams.{Content}
-use Rattle.bc_core.specs.Tree.{Exp, Num, Frame, Glob, Place, Load, Neg, Not, Bin, Cond, Call, Valof, Args, no_argument, argument}
+use Rattle.bc_core.specs.Tree.{Exp, Num, Frame, Glob, Place, Load, Neg, Not, Bin, Cond, Call, Valof, Args, no_argument, argument, count}
 use Rattle.bc_core.specs.Commands.{Variable, Initial, Vector, Command, Block, block, Items, no_item, command, case, default, label, Routine, Body, Gives, Does}
 use Rattle.bc_core.specs.Commands as commands
 use Rattle.bc_core.specs.Layout.{frame_size}
-use Rattle.bc_core.specs.Level.{operand_level, side_level, level_in_for, level_behind_parameters}
+use Rattle.bc_core.specs.Level.{argument_level, routine_level, side_level, level_in_for, level_behind_parameters, cells_declared}
 use Rattle.bc_core.specs.Map.{Placed}
 use Rattle.bc_core.specs.Store.{Cell, Dead, Unset, Set, cell_at}
 use Rattle.bc_core.specs.Outcome.{State, Outcome, Done, Ended, Going, Wild, Run, followed, then_do, choose, wild, taken, in_turn, content_of_cell, written, read, write, both, second_side, outweighed, Ending}
-use Rattle.bc_core.specs.Value.{has_call, given, sense, value, assign}
+use Rattle.bc_core.specs.Value.{has_call, given, sense, value, truth, assign}
 use Rattle.bc_core.specs.Exit.{Exit, Past, Broke, Looped, LeftCases, Returned, Resulted, Jumped}
-use Rattle.bc_core.specs.Lists.{Entry, Beginning, AtCase, AtDefault, AtLabel, behind_cases, has_label}
+use Rattle.bc_core.specs.Lists.{Entry, Beginning, AtCase, AtDefault, AtLabel, behind_cases, has_label, meets_case, meets_default, meets_label, met}
 use Rattle.bc_core.specs.Loop.{agrees, end_relation}
 use Rattle.bc_core.specs.Primitive.{primitive_frame, primitive_work}
 use Rattle.bc_core.specs.Meaning.{routine_value, valof_value, passed, with_arguments, Callee, OfSection, OfLibrary, callee}
@@ -23,7 +23,7 @@ use Rattle.bc_core.specs.Laws.{IsCalm}
 use Rattle.bc_core.proofs.Calm.{CalmRun, calm, no_left, no_right}
 use Rattle.bc_interpret_defs.specs.Machine.{Spot, cell_of, Answer, Number, Verdict, Nothing, Left, Work, Evaluate, Decide, Argue, Store, Perform, Enter, Declare, Initialise, Listing, Round, Give, Rest, At, Step, go, give, quiet, to_valof, behind, spot_in, body_step, arrive, next, step}
 use Rattle.bc_interpret_defs.specs.Machine as machine
-use Rattle.bc_interpret_defs.specs.Weight.{weight_of_block, weight_of_valof, weight_of_rest, weight_of_rests, of_exit, of_answer, weight, Lessens}
+use Rattle.bc_interpret_defs.specs.Weight.{weight_of, valofs_at, weight_of_block, weight_of_valof, weight_of_rest, weight_of_rests, of_exit, of_answer, weight, Lessens}
 use Rattle.bc_interpret_defs.specs.Running.{Moves}
 use Rattle.bc_interpret_laws.proofs.Spending.{Within, free, alike_opened}
 use Rattle.bc_interpret_laws.proofs.Alike.{alike_primitive}
@@ -151,81 +151,198 @@ to_valof_less address p first (v ∷ vs) n s rs st = found (n == first) (to_valo
   found true h = (omega arith, λ le. omega arith)
   found false h = h
 
-bin_less : (E : Spot) (op : Op) (a b : Exp) (s : ℕ) (rs : List Rest) (st : State) (t : Bool) → (has_call a || has_call b) ≡ t → Lessens st.turns (weight (Evaluate E (Bin op a b) s) rs) (by_test t (go (Evaluate E a (operand_level s)) (machine.Operates E op b s ∷ rs)) (then_do (value (quiet E) (Bin op a b) E.frame s) (λ v. give (Number v) rs)) st)
-bin_less E op a b s rs st true h = (omega arith, λ le. omega arith)
-bin_less E op a b s rs st false h =
-    behind_still (value (quiet E) (Bin op a b) E.frame s) (λ v. give (Number v) rs) (weight (Evaluate E (Bin op a b) s) rs) st
-    (still_calm (value (quiet E) (Bin op a b) E.frame s) (calm (quiet E) (Bin op a b) h E.frame s).0) (λ v st1. (omega arith, λ le. omega arith))
+-- the same where there was more to do
+less_more : (t m n : ℕ) (o : Outcome At) → m ≤ n → Lessens t m o → Lessens t n o
+less_more t m n (Done at st) l h = let k = h.1 in (h.0, λ le. let j = k le in omega arith)
+less_more t m n (Ended e streams) l h = tt
+less_more t m n (Going streams) l h = tt
+less_more t m n Wild l h = tt
+
+-- what is worked out at once
+valued_less : (E : Spot) (e : Exp) (s m : ℕ) (f : ℕ → Step) (st : State) → has_call e ≡ false → ((v : ℕ) (st1 : State) → Lessens st1.turns m (f v st1)) → Lessens st.turns m (then_do (value (quiet E) e E.frame s) f st)
+valued_less E e s m f st h k = behind_still (value (quiet E) e E.frame s) f m st (still_calm (value (quiet E) e E.frame s) (calm (quiet E) e h E.frame s).0) k
+
+judged_less : (E : Spot) (e : Exp) (s m : ℕ) (f : Bool → Step) (st : State) → has_call e ≡ false → ((v : Bool) (st1 : State) → Lessens st1.turns m (f v st1)) → Lessens st.turns m (then_do (truth (quiet E) e E.frame s) f st)
+judged_less E e s m f st h k = behind_still (truth (quiet E) e E.frame s) f m st (still_calm (truth (quiet E) e E.frame s) (calm (quiet E) e h E.frame s).1) k
 
 abbrev Less : List Placed → Work → List Rest → State → Type 0
 Less program w rs st = Lessens st.turns (weight w rs) (step program w rs st)
 
+last_less : (E : Spot) (vs : List ℕ) (level : ℕ) (f : Exp) (n s : ℕ) (rs : List Rest) (st : State) (t : Bool) → has_call f ≡ t → Lessens st.turns (weight (Argue E vs no_argument level f n s) rs) (by_test t (go (Evaluate E f (routine_level s n)) (machine.Calls vs (E.frame + s) ∷ rs)) (then_do (value (quiet E) f E.frame (routine_level s n)) (λ v. give (Number v) (machine.Calls vs (E.frame + s) ∷ rs))) st)
+last_less E vs level f n s rs st true h = (omega arith, λ le. omega arith)
+last_less E vs level f n s rs st false h = valued_less E f (routine_level s n) _ (λ v. give (Number v) (machine.Calls vs (E.frame + s) ∷ rs)) st h (λ v st1. (omega arith, λ le. omega arith))
+
+argued_less : (E : Spot) (vs : List ℕ) (e : Exp) (es : Args) (level : ℕ) (f : Exp) (n s : ℕ) (rs : List Rest) (st : State) (t : Bool) → has_call e ≡ t
+    → ((v : ℕ) (st1 : State) → Lessens st1.turns (weight (Argue E (vs ++ (v ∷ [])) es (level + 1) f n s) rs) (machine.argue E (vs ++ (v ∷ [])) es (level + 1) f n s rs st1))
+    → Lessens st.turns (weight (Argue E vs (argument e es) level f n s) rs) (by_test t (go (Evaluate E e level) (machine.Argues E vs es level f n s ∷ rs)) (then_do (value (quiet E) e E.frame level) (λ v. machine.argue E (vs ++ (v ∷ [])) es (level + 1) f n s rs)) st)
+argued_less E vs e es level f n s rs st true h k = (omega arith, λ le. omega arith)
+argued_less E vs e es level f n s rs st false h k =
+    valued_less E e level (weight (Argue E vs (argument e es) level f n s) rs) (λ v. machine.argue E (vs ++ (v ∷ [])) es (level + 1) f n s rs) st h
+    (λ v st1. less_more st1.turns (weight (Argue E (vs ++ (v ∷ [])) es (level + 1) f n s) rs) (weight (Argue E vs (argument e es) level f n s) rs) (machine.argue E (vs ++ (v ∷ [])) es (level + 1) f n s rs st1) (omega arith) (k v st1))
+
+argue_less : (program : List Placed) (E : Spot) (vs : List ℕ) (es : Args) (level : ℕ) (f : Exp) (n s : ℕ) (rs : List Rest) (st : State) → Less program (Argue E vs es level f n s) rs st
+argue_less program E vs no_argument level f n s rs st = last_less E vs level f n s rs st (has_call f) refl
+argue_less program E vs (argument e es) level f n s rs st =
+    argued_less E vs e es level f n s rs st (has_call e) refl (λ v st1. argue_less program E (vs ++ (v ∷ [])) es (level + 1) f n s rs st1)
+
+cond_less : (E : Spot) (c x y : Exp) (s : ℕ) (rs : List Rest) (st : State) (t : Bool) → has_call c ≡ t → Lessens st.turns (weight (Evaluate E (Cond c x y) s) rs) (by_test t (go (Decide E c s) (machine.Selects E x y s ∷ rs)) (then_do (truth (quiet E) c E.frame s) (λ t1. choose t1 (go (Evaluate E x s) rs) (go (Evaluate E y s) rs))) st)
+cond_less E c x y s rs st true h = (omega arith, λ le. omega arith)
+cond_less E c x y s rs st false h =
+    judged_less E c s _ (λ t1. choose t1 (go (Evaluate E x s) rs) (go (Evaluate E y s) rs)) st h
+    (λ t1 st1. less_choose t1 (go (Evaluate E x s) rs) (go (Evaluate E y s) rs) st1.turns _ st1 (omega arith, λ le. omega arith) (omega arith, λ le. omega arith))
+
+parts_less : (program : List Placed) (E : Spot) (e : Exp) (s : ℕ) (rs : List Rest) (st : State) → Lessens st.turns (weight (Evaluate E e s) rs) (machine.evaluate_parts E e s rs st)
+parts_less program E (Num n) s rs st = tt
+parts_less program E (Frame k) s rs st = tt
+parts_less program E (Glob n) s rs st = tt
+parts_less program E (Place m) s rs st = tt
+parts_less program E (Load e) s rs st = (omega arith, λ le. omega arith)
+parts_less program E (Neg e) s rs st = (omega arith, λ le. omega arith)
+parts_less program E (Not e) s rs st = (omega arith, λ le. omega arith)
+parts_less program E (Bin op a b) s rs st = (omega arith, λ le. omega arith)
+parts_less program E (Cond c x y) s rs st = cond_less E c x y s rs st (has_call c) refl
+parts_less program E (Call es f) s rs st =
+    less_more st.turns (weight (Argue E [] es (argument_level s) f (count es) s) rs) (weight (Evaluate E (Call es f) s) rs) (machine.argue E [] es (argument_level s) f (count es) s rs st) (omega arith)
+    (argue_less program E [] es (argument_level s) f (count es) s rs st)
+parts_less program E (Valof n) s rs st = to_valof_less E.address E.frame E.first E.valofs n s rs st
+
+-- each form weighs something
+weighs : (V : ℕ → ℕ) (e : Exp) → has_call e ≡ false → 0 < weight_of V e
+weighs V (Num n) h = omega arith
+weighs V (Frame k) h = omega arith
+weighs V (Glob n) h = omega arith
+weighs V (Place m) h = omega arith
+weighs V (Load e) h = omega arith
+weighs V (Neg e) h = omega arith
+weighs V (Not e) h = omega arith
+weighs V (Bin op a b) h = omega arith
+weighs V (Cond c x y) h = omega arith
+weighs V (Call es f) h = cc
+weighs V (Valof n) h = cc
+
+evaluate_by : (program : List Placed) (E : Spot) (e : Exp) (s : ℕ) (rs : List Rest) (st : State) (t : Bool) → has_call e ≡ t → Lessens st.turns (weight (Evaluate E e s) rs) (by_test t (machine.evaluate_parts E e s rs) (then_do (value (quiet E) e E.frame s) (λ v. give (Number v) rs)) st)
+evaluate_by program E e s rs st true h = parts_less program E e s rs st
+evaluate_by program E e s rs st false h =
+    let w = weighs (valofs_at E) e h in
+    valued_less E e s (weight (Evaluate E e s) rs) (λ v. give (Number v) rs) st h (λ v st1. (omega arith, λ le. omega arith))
+
 evaluate_less : (program : List Placed) (E : Spot) (e : Exp) (s : ℕ) (rs : List Rest) (st : State) → Less program (Evaluate E e s) rs st
-evaluate_less program E (Num n) s rs st = (omega arith, λ le. omega arith)
-evaluate_less program E (Frame k) s rs st = (omega arith, λ le. omega arith)
-evaluate_less program E (Glob n) s rs st = (omega arith, λ le. omega arith)
-evaluate_less program E (Place m) s rs st = (omega arith, λ le. omega arith)
-evaluate_less program E (Load e) s rs st = (omega arith, λ le. omega arith)
-evaluate_less program E (Neg e) s rs st = (omega arith, λ le. omega arith)
-evaluate_less program E (Not e) s rs st = (omega arith, λ le. omega arith)
-evaluate_less program E (Bin op a b) s rs st = bin_less E op a b s rs st (has_call a || has_call b) refl
-evaluate_less program E (Cond c x y) s rs st = (omega arith, λ le. omega arith)
-evaluate_less program E (Call es f) s rs st = (omega arith, λ le. omega arith)
-evaluate_less program E (Valof n) s rs st = to_valof_less E.address E.frame E.first E.valofs n s rs st
+evaluate_less program E e s rs st = evaluate_by program E e s rs st (has_call e) refl
 
 decide_operator_less : (E : Spot) (op : Op) (a b : Exp) (s : ℕ) (rs : List Rest) (st : State) → Lessens st.turns (weight (Decide E (Bin op a b) s) rs) (machine.decide_operator E op a b s rs st)
 decide_operator_less E operators.And a b s rs st = (omega arith, λ le. omega arith)
 decide_operator_less E operators.Or a b s rs st = (omega arith, λ le. omega arith)
 decide_operator_less E op a b s rs st = (omega arith, λ le. omega arith)
 
-decide_less : (program : List Placed) (E : Spot) (e : Exp) (s : ℕ) (rs : List Rest) (st : State) → Less program (Decide E e s) rs st
-decide_less program E (Not e) s rs st = (omega arith, λ le. omega arith)
-decide_less program E (Bin op a b) s rs st = decide_operator_less E op a b s rs st
-decide_less program E e s rs st = (omega arith, λ le. omega arith)
+decide_parts_less : (E : Spot) (e : Exp) (s : ℕ) (rs : List Rest) (st : State) → Lessens st.turns (weight (Decide E e s) rs) (machine.decide_parts E e s rs st)
+decide_parts_less E (Not e) s rs st = (omega arith, λ le. omega arith)
+decide_parts_less E (Bin op a b) s rs st = decide_operator_less E op a b s rs st
+decide_parts_less E e s rs st = (omega arith, λ le. omega arith)
 
-argue_less : (program : List Placed) (E : Spot) (vs : List ℕ) (es : Args) (level : ℕ) (f : Exp) (n s : ℕ) (rs : List Rest) (st : State) → Less program (Argue E vs es level f n s) rs st
-argue_less program E vs no_argument level f n s rs st = (omega arith, λ le. omega arith)
-argue_less program E vs (argument e es) level f n s rs st = (omega arith, λ le. omega arith)
+decide_by : (E : Spot) (e : Exp) (s : ℕ) (rs : List Rest) (st : State) (t : Bool) → has_call e ≡ t → Lessens st.turns (weight (Decide E e s) rs) (by_test t (machine.decide_parts E e s rs) (then_do (truth (quiet E) e E.frame s) (λ t1. give (Verdict t1) rs)) st)
+decide_by E e s rs st true h = decide_parts_less E e s rs st
+decide_by E e s rs st false h = judged_less E e s (weight (Decide E e s) rs) (λ t1. give (Verdict t1) rs) st h (λ t1 st1. (omega arith, λ le. omega arith))
+
+decide_less : (program : List Placed) (E : Spot) (e : Exp) (s : ℕ) (rs : List Rest) (st : State) → Less program (Decide E e s) rs st
+decide_less program E e s rs st = decide_by E e s rs st (has_call e) refl
+
+still_assign : (E : Spot) (v a : Exp) (s : ℕ) → (has_call v || has_call a) ≡ false → Still (assign (quiet E) v a E.frame s)
+still_assign E v a s h =
+    let C = quiet E in
+    let first = value C v E.frame (side_level a s) in
+    let second = value C a E.frame (side_level a s) in
+    subst (λ z. Still (both z first second (λ w address. write address w))) (sym h)
+    (still_both first second (λ w address. write address w) (calm C v (no_left _ _ h) E.frame (side_level a s)).0 (calm C a (no_right _ _ h) E.frame (side_level a s)).0 (λ w address. still_write address w))
 
 store_by : (E : Spot) (v a : Exp) (s : ℕ) (rs : List Rest) (st : State) (t : Bool) → (has_call v || has_call a) ≡ t → Lessens st.turns (weight (Store E v a s) rs) (by_test t (go (Evaluate E v (side_level a s)) (machine.Stores E a s ∷ rs)) (then_do (assign (quiet E) v a E.frame s) (λ u. give Nothing rs)) st)
 store_by E v a s rs st true h = (omega arith, λ le. omega arith)
 store_by E v a s rs st false h =
-    let C = quiet E in
-    let first = value C v E.frame (side_level a s) in
-    let second = value C a E.frame (side_level a s) in
-    behind_still (assign C v a E.frame s) (λ u. give Nothing rs) (weight (Store E v a s) rs) st
-    (subst (λ z. Still (both z first second (λ w address. write address w))) (sym h)
-    (still_both first second (λ w address. write address w) (calm C v (no_left _ _ h) E.frame (side_level a s)).0 (calm C a (no_right _ _ h) E.frame (side_level a s)).0 (λ w address. still_write address w)))
-    (λ u st1. (omega arith, λ le. omega arith))
+    behind_still (assign (quiet E) v a E.frame s) (λ u. give Nothing rs) (weight (Store E v a s) rs) st (still_assign E v a s h) (λ u st1. (omega arith, λ le. omega arith))
 
 store_less : (program : List Placed) (E : Spot) (v a : Exp) (s : ℕ) (rs : List Rest) (st : State) → Less program (Store E v a s) rs st
 store_less program E v a s rs st = store_by E v a s rs st (has_call v || has_call a) refl
 
+-- the first command of a list, and then the rest
+first_less_by : (E : Spot) (v a : Exp) (is : Items) (s : ℕ) (rs : List Rest) (st : State) (t : Bool) → (has_call v || has_call a) ≡ t
+    → ((st1 : State) → Lessens st1.turns (weight (Listing E is s Beginning) rs) (machine.list_step E is s Beginning rs st1))
+    → Lessens st.turns (weight (Listing E (command (commands.Assign v a) is) s Beginning) rs) (by_test t (go (Perform E (commands.Assign v a) s) (machine.Follows E is s ∷ rs)) (then_do (assign (quiet E) v a E.frame s) (λ u. machine.list_step E is s Beginning rs)) st)
+first_less_by E v a is s rs st true h k = (omega arith, λ le. omega arith)
+first_less_by E v a is s rs st false h k =
+    behind_still (assign (quiet E) v a E.frame s) (λ u. machine.list_step E is s Beginning rs) (weight (Listing E (command (commands.Assign v a) is) s Beginning) rs) st (still_assign E v a s h)
+    (λ u st1. less_more st1.turns (weight (Listing E is s Beginning) rs) (weight (Listing E (command (commands.Assign v a) is) s Beginning) rs) (machine.list_step E is s Beginning rs st1) (omega arith) (k st1))
+
+first_less : (E : Spot) (c : Command) (is : Items) (s : ℕ) (rs : List Rest) (st : State)
+    → ((st1 : State) → Lessens st1.turns (weight (Listing E is s Beginning) rs) (machine.list_step E is s Beginning rs st1))
+    → Lessens st.turns (weight (Listing E (command c is) s Beginning) rs) (machine.first_command E c is s rs (machine.list_step E is s Beginning rs) st)
+first_less E (commands.Assign v a) is s rs st k = first_less_by E v a is s rs st (has_call v || has_call a) refl k
+first_less E c is s rs st k = (omega arith, λ le. omega arith)
+
+listing_less : (program : List Placed) (E : Spot) (is : Items) (s : ℕ) (at : Entry) (rs : List Rest) (st : State) → Less program (Listing E is s at) rs st
+listing_less program E no_item s at rs st = (omega arith, λ le. omega arith)
+listing_less program E (command c is) s Beginning rs st = first_less E c is s rs st (λ st1. listing_less program E is s Beginning rs st1)
+listing_less program E (command c is) s (AtCase v) rs st =
+    less_more st.turns (weight (Listing E is s (AtCase v)) rs) (weight (Listing E (command c is) s (AtCase v)) rs) (machine.list_step E is s (AtCase v) rs st) (omega arith) (listing_less program E is s (AtCase v) rs st)
+listing_less program E (command c is) s AtDefault rs st =
+    less_more st.turns (weight (Listing E is s AtDefault) rs) (weight (Listing E (command c is) s AtDefault) rs) (machine.list_step E is s AtDefault rs st) (omega arith) (listing_less program E is s AtDefault rs st)
+listing_less program E (command c is) s (AtLabel l) rs st =
+    less_more st.turns (weight (Listing E is s (AtLabel l)) rs) (weight (Listing E (command c is) s (AtLabel l)) rs) (machine.list_step E is s (AtLabel l) rs st) (omega arith) (listing_less program E is s (AtLabel l) rs st)
+listing_less program E (case k is) s at rs st =
+    less_more st.turns (weight (Listing E is s at) rs) (weight (Listing E (case k is) s at) rs) (machine.list_step E is s (met (meets_case k at) at) rs st) (omega arith) (listing_less program E is s (met (meets_case k at) at) rs st)
+listing_less program E (default is) s at rs st =
+    less_more st.turns (weight (Listing E is s at) rs) (weight (Listing E (default is) s at) rs) (machine.list_step E is s (met (meets_default at) at) rs st) (omega arith) (listing_less program E is s (met (meets_default at) at) rs st)
+listing_less program E (label l is) s at rs st =
+    less_more st.turns (weight (Listing E is s at) rs) (weight (Listing E (label l is) s at) rs) (machine.list_step E is s (met (meets_label l at) at) rs st) (omega arith) (listing_less program E is s (met (meets_label l at) at) rs st)
+
+declare_less : (program : List Placed) (E : Spot) (ds : List (List Variable)) (is : Items) (s level : ℕ) (rs : List Rest) (st : State) → Less program (Declare E ds is s level) rs st
+declare_less program E [] is s level rs st =
+    let within = machine.Listed E is level ∷ rs in
+    less_more st.turns (weight (Listing E is level Beginning) within) (weight (Declare E [] is s level) rs) (machine.list_step E is level Beginning within st) (omega arith) (listing_less program E is level Beginning within st)
+declare_less program E (vs ∷ ds) is s level rs st = (omega arith, λ le. omega arith)
+
+enter_less : (program : List Placed) (E : Spot) (b : Block) (s : ℕ) (rs : List Rest) (st : State) → Less program (Enter E b s) rs st
+enter_less program E (block ds is) s rs st =
+    less_more st.turns (weight (Declare E ds is s (s + cells_declared ds)) rs) (weight (Enter E (block ds is) s) rs) (machine.declare_step E ds is s (s + cells_declared ds) rs st) (omega arith)
+    (declare_less program E ds is s (s + cells_declared ds) rs st)
+
+-- the same in place of more
+entered_less : (program : List Placed) (E : Spot) (b : Block) (s m : ℕ) (rs : List Rest) (st : State) → weight (Enter E b s) rs ≤ m → Lessens st.turns m (machine.enter E b s rs st)
+entered_less program E b s m rs st l = less_more st.turns (weight (Enter E b s) rs) m (machine.enter E b s rs st) l (enter_less program E b s rs st)
+
+evaluated_less : (program : List Placed) (E : Spot) (e : Exp) (s m : ℕ) (rs : List Rest) (st : State) → weight (Evaluate E e s) rs ≤ m → Lessens st.turns m (machine.evaluate E e s rs st)
+evaluated_less program E e s m rs st l = less_more st.turns (weight (Evaluate E e s) rs) m (machine.evaluate E e s rs st) l (evaluate_less program E e s rs st)
+
+-- behind a test
+tested_less : (E : Spot) (e : Exp) (s m : ℕ) (f : Bool → Step) (r : Rest) (rs : List Rest) (st : State) (t : Bool) → has_call e ≡ t → Lessens st.turns m (go (Decide E e s) (r ∷ rs) st) → ((v : Bool) (st1 : State) → Lessens st1.turns m (f v st1)) → Lessens st.turns m (by_test t (go (Decide E e s) (r ∷ rs)) (then_do (truth (quiet E) e E.frame s) f) st)
+tested_less E e s m f r rs st true h l k = l
+tested_less E e s m f r rs st false h l k = judged_less E e s m f st h k
+
 perform_less : (program : List Placed) (E : Spot) (c : Command) (s : ℕ) (rs : List Rest) (st : State) → Less program (Perform E c s) rs st
-perform_less program E (commands.Call e) s rs st = (omega arith, λ le. omega arith)
+perform_less program E (commands.Call e) s rs st = evaluated_less program E e s _ (machine.Drops ∷ rs) st (omega arith)
 perform_less program E (commands.Assign v a) s rs st = (omega arith, λ le. omega arith)
-perform_less program E (commands.If sense e b) s rs st = (omega arith, λ le. omega arith)
-perform_less program E (commands.Test e b c) s rs st = (omega arith, λ le. omega arith)
-perform_less program E (commands.While sense e b) s rs st = (omega arith, λ le. omega arith)
+perform_less program E (commands.If sense e b) s rs st =
+    let m = weight (Perform E (commands.If sense e b) s) rs in
+    tested_less E e s m (λ v. choose (agrees sense v) (machine.enter E b s rs) (give (Left Past) rs)) (machine.Ifs E sense b s) rs st (has_call e) refl (omega arith, λ le. omega arith)
+    (λ v st1. less_choose (agrees sense v) (machine.enter E b s rs) (give (Left Past) rs) st1.turns m st1 (entered_less program E b s m rs st1 (omega arith)) (omega arith, λ le. omega arith))
+perform_less program E (commands.Test e b c) s rs st =
+    let within = machine.Chooses E b c s ∷ rs in
+    less_more st.turns (weight (Decide E e s) within) (weight (Perform E (commands.Test e b c) s) rs) (machine.decide E e s within st) (omega arith) (decide_less program E e s within st)
+perform_less program E (commands.While sense e b) s rs st =
+    let m = weight (Perform E (commands.While sense e b) s) rs in
+    let within = machine.WhileBody E sense e b s ∷ rs in
+    tested_less E e s m (λ v. choose (agrees sense v) (machine.enter E b s within) (give (Left Past) rs)) (machine.Whiles E sense e b s) rs st (has_call e) refl (omega arith, λ le. omega arith)
+    (λ v st1. less_choose (agrees sense v) (machine.enter E b s within) (give (Left Past) rs) st1.turns m st1 (entered_less program E b s m within st1 (omega arith)) (omega arith, λ le. omega arith))
 perform_less program E (commands.Repeat b) s rs st = (omega arith, λ le. omega arith)
 perform_less program E (commands.RepeatWhile b sense e) s rs st = (omega arith, λ le. omega arith)
 perform_less program E (commands.For start limit by b) s rs st = (omega arith, λ le. omega arith)
-perform_less program E (commands.SwitchOn e is) s rs st = (omega arith, λ le. omega arith)
+perform_less program E (commands.SwitchOn e is) s rs st = evaluated_less program E e s _ (machine.Switches E is s ∷ rs) st (omega arith)
 perform_less program E commands.Break s rs st = (omega arith, λ le. omega arith)
 perform_less program E commands.Loop s rs st = (omega arith, λ le. omega arith)
 perform_less program E commands.EndCase s rs st = (omega arith, λ le. omega arith)
 perform_less program E commands.Return s rs st = (omega arith, λ le. omega arith)
-perform_less program E (commands.ResultIs e) s rs st = (omega arith, λ le. omega arith)
+perform_less program E (commands.ResultIs e) s rs st = evaluated_less program E e s _ (machine.Leaves ∷ rs) st (omega arith)
 perform_less program E commands.Finish s rs st = tt
 perform_less program E (commands.Goto l) s rs st = less_turn (give (Left (Jumped l)) rs) (weight (Perform E (commands.Goto l) s) rs) st (λ st1. omega arith)
-perform_less program E (commands.Nested b) s rs st = (omega arith, λ le. omega arith)
-
-enter_less : (program : List Placed) (E : Spot) (b : Block) (s : ℕ) (rs : List Rest) (st : State) → Less program (Enter E b s) rs st
-enter_less program E (block ds is) s rs st = (omega arith, λ le. omega arith)
-
-declare_less : (program : List Placed) (E : Spot) (ds : List (List Variable)) (is : Items) (s level : ℕ) (rs : List Rest) (st : State) → Less program (Declare E ds is s level) rs st
-declare_less program E [] is s level rs st = (omega arith, λ le. omega arith)
-declare_less program E (vs ∷ ds) is s level rs st = (omega arith, λ le. omega arith)
+perform_less program E (commands.Nested b) s rs st = entered_less program E b s _ rs st (omega arith)
 
 initialise_less : (program : List Placed) (E : Spot) (vs : List Variable) (k s : ℕ) (rs : List Rest) (st : State) → Less program (Initialise E vs k s) rs st
 initialise_less program E [] k s rs st = (omega arith, λ le. omega arith)
@@ -234,22 +351,13 @@ initialise_less program E (Vector n ∷ vs) k s rs st =
     behind_still (write (cell_of E k) (cell_of E (k + 1))) (λ u. go (Initialise E vs (k + (n + 2)) s) rs) (weight (Initialise E (Vector n ∷ vs) k s) rs) st
     (still_write (cell_of E k) (cell_of E (k + 1))) (λ u st1. (omega arith, λ le. omega arith))
 
-listing_less : (program : List Placed) (E : Spot) (is : Items) (s : ℕ) (at : Entry) (rs : List Rest) (st : State) → Less program (Listing E is s at) rs st
-listing_less program E no_item s at rs st = (omega arith, λ le. omega arith)
-listing_less program E (command c is) s Beginning rs st = (omega arith, λ le. omega arith)
-listing_less program E (command c is) s (AtCase v) rs st = (omega arith, λ le. omega arith)
-listing_less program E (command c is) s AtDefault rs st = (omega arith, λ le. omega arith)
-listing_less program E (command c is) s (AtLabel l) rs st = (omega arith, λ le. omega arith)
-listing_less program E (case k is) s at rs st = (omega arith, λ le. omega arith)
-listing_less program E (default is) s at rs st = (omega arith, λ le. omega arith)
-listing_less program E (label l is) s at rs st = (omega arith, λ le. omega arith)
-
 round_less : (program : List Placed) (E : Spot) (limit by : ℕ) (b : Block) (s : ℕ) (rs : List Rest) (st : State) → Less program (Round E limit by b s) rs st
 round_less program E limit by b s rs st =
-    behind_still (read (cell_of E s)) (λ i. choose (holds (end_relation by) i limit) (give (Left Past) rs) (go (Enter E b (level_in_for s)) (machine.ForBody E limit by b s ∷ rs)))
-    (weight (Round E limit by b s) rs) st (still_read (cell_of E s))
-    (λ i st1. less_choose (holds (end_relation by) i limit) (give (Left Past) rs) (go (Enter E b (level_in_for s)) (machine.ForBody E limit by b s ∷ rs)) st1.turns (weight (Round E limit by b s) rs) st1
-    (omega arith, λ le. omega arith) (omega arith, λ le. omega arith))
+    let m = weight (Round E limit by b s) rs in
+    let within = machine.ForBody E limit by b s ∷ rs in
+    behind_still (read (cell_of E s)) (λ i. choose (holds (end_relation by) i limit) (give (Left Past) rs) (machine.enter E b (level_in_for s) within)) m st (still_read (cell_of E s))
+    (λ i st1. less_choose (holds (end_relation by) i limit) (give (Left Past) rs) (machine.enter E b (level_in_for s) within) st1.turns m st1
+    (omega arith, λ le. omega arith) (entered_less program E b (level_in_for s) m within st1 (omega arith)))
 
 -- what an exit may still enter
 exit_shrinks : (x : Exit) (r : Rest) (rs : List Rest) → of_exit x rs ≤ of_exit x (r ∷ rs)
@@ -294,18 +402,20 @@ follow_less E is s Returned rs st = (omega arith, λ le. omega arith)
 follow_less E is s (Resulted v) rs st = (omega arith, λ le. omega arith)
 follow_less E is s (Jumped k) rs st = (omega arith, λ le. omega arith)
 
-jump_less : (E : Spot) (is : Items) (s l : ℕ) (t : Bool) (rs : List Rest) (st : State) → Lessens st.turns (weight (Give (Left (Jumped l))) (machine.Listed E is s ∷ rs)) (machine.jump E is s l t rs st)
-jump_less E is s l true rs st = (omega arith, λ le. omega arith)
-jump_less E is s l false rs st = (omega arith, λ le. omega arith)
+jump_less : (program : List Placed) (E : Spot) (is : Items) (s l : ℕ) (t : Bool) (rs : List Rest) (st : State) → Lessens st.turns (weight (Give (Left (Jumped l))) (machine.Listed E is s ∷ rs)) (machine.jump E is s l t rs st)
+jump_less program E is s l true rs st =
+    let within = machine.Listed E is s ∷ rs in
+    less_more st.turns (weight (Listing E is s (AtLabel l)) within) (weight (Give (Left (Jumped l))) within) (machine.list_step E is s (AtLabel l) within st) (omega arith) (listing_less program E is s (AtLabel l) within st)
+jump_less program E is s l false rs st = (omega arith, λ le. omega arith)
 
-listed_less : (E : Spot) (is : Items) (s : ℕ) (x : Exit) (rs : List Rest) (st : State) → Lessens st.turns (weight (Give (Left x)) (machine.Listed E is s ∷ rs)) (machine.behind_listing E is s x rs st)
-listed_less E is s (Jumped l) rs st = jump_less E is s l (has_label is l) rs st
-listed_less E is s Past rs st = (omega arith, λ le. omega arith)
-listed_less E is s Looped rs st = (omega arith, λ le. omega arith)
-listed_less E is s Broke rs st = (omega arith, λ le. omega arith)
-listed_less E is s LeftCases rs st = (omega arith, λ le. omega arith)
-listed_less E is s Returned rs st = (omega arith, λ le. omega arith)
-listed_less E is s (Resulted v) rs st = (omega arith, λ le. omega arith)
+listed_less : (program : List Placed) (E : Spot) (is : Items) (s : ℕ) (x : Exit) (rs : List Rest) (st : State) → Lessens st.turns (weight (Give (Left x)) (machine.Listed E is s ∷ rs)) (machine.behind_listing E is s x rs st)
+listed_less program E is s (Jumped l) rs st = jump_less program E is s l (has_label is l) rs st
+listed_less program E is s Past rs st = (omega arith, λ le. omega arith)
+listed_less program E is s Looped rs st = (omega arith, λ le. omega arith)
+listed_less program E is s Broke rs st = (omega arith, λ le. omega arith)
+listed_less program E is s LeftCases rs st = (omega arith, λ le. omega arith)
+listed_less program E is s Returned rs st = (omega arith, λ le. omega arith)
+listed_less program E is s (Resulted v) rs st = (omega arith, λ le. omega arith)
 
 -- into a routine or a primitive
 body_keeps : (E : Spot) (b : Body) (s : ℕ) (rs : List Rest) (st : State) → Keeps st.turns (body_step E b s rs st)
@@ -391,13 +501,16 @@ next_less program machine.Drops a rs st = tt
 next_less program machine.Passes Nothing rs st = (omega arith, λ le. omega arith)
 next_less program machine.Passes a rs st = tt
 next_less program (machine.Ifs E sense b s) (Verdict t) rs st =
-    less_choose (agrees sense t) (go (Enter E b s) rs) (give (Left Past) rs) st.turns _ st (omega arith, λ le. omega arith) (omega arith, λ le. omega arith)
+    let m = weight (Give (Verdict t)) (machine.Ifs E sense b s ∷ rs) in
+    less_choose (agrees sense t) (machine.enter E b s rs) (give (Left Past) rs) st.turns m st (entered_less program E b s m rs st (omega arith)) (omega arith, λ le. omega arith)
 next_less program (machine.Ifs E sense b s) a rs st = tt
-next_less program (machine.Chooses E b c s) (Verdict true) rs st = (omega arith, λ le. omega arith)
-next_less program (machine.Chooses E b c s) (Verdict false) rs st = (omega arith, λ le. omega arith)
+next_less program (machine.Chooses E b c s) (Verdict true) rs st = entered_less program E b s _ rs st (omega arith)
+next_less program (machine.Chooses E b c s) (Verdict false) rs st = entered_less program E c s _ rs st (omega arith)
 next_less program (machine.Chooses E b c s) a rs st = tt
 next_less program (machine.Whiles E sense e b s) (Verdict t) rs st =
-    less_choose (agrees sense t) (go (Enter E b s) (machine.WhileBody E sense e b s ∷ rs)) (give (Left Past) rs) st.turns _ st (omega arith, λ le. omega arith) (omega arith, λ le. omega arith)
+    let m = weight (Give (Verdict t)) (machine.Whiles E sense e b s ∷ rs) in
+    let within = machine.WhileBody E sense e b s ∷ rs in
+    less_choose (agrees sense t) (machine.enter E b s within) (give (Left Past) rs) st.turns m st (entered_less program E b s m within st (omega arith)) (omega arith, λ le. omega arith)
 next_less program (machine.Whiles E sense e b s) a rs st = tt
 next_less program (machine.WhileBody E sense e b s) (Left x) rs st =
     behind_less (in_turn (go (Perform E (commands.While sense e b) s) rs)) (machine.WhileBody E sense e b s) rs st (omega arith) (turn_less (Perform E (commands.While sense e b) s) _ rs st) x
@@ -432,7 +545,7 @@ next_less program (machine.Initialises E vs k s) Nothing rs st = (omega arith, �
 next_less program (machine.Initialises E vs k s) a rs st = tt
 next_less program (machine.Follows E is s) (Left x) rs st = follow_less E is s x rs st
 next_less program (machine.Follows E is s) a rs st = tt
-next_less program (machine.Listed E is s) (Left x) rs st = listed_less E is s x rs st
+next_less program (machine.Listed E is s) (Left x) rs st = listed_less program E is s x rs st
 next_less program (machine.Listed E is s) a rs st = tt
 
 -- but for the answer of the whole run, which has no step

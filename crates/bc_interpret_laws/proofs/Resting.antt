@@ -1,5 +1,5 @@
 -- A step of the machine keeps what is left of the run: what is done with an answer.
-use Rattle.std.proofs.Common.{◌≡◌, ℕ, ◌+◌, ◌<◌, List, [], ◌∷◌, ◌++◌, Bool, true, false, Option, Some, None, refl, sym, ap, subst, arith, append_assoc}
+use Rattle.std.proofs.Common.{◌≡◌, ℕ, ◌+◌, ◌<◌, List, [], ◌∷◌, ◌++◌, Bool, true, false, Option, Some, None, refl, sym, ap, subst, arith, append_assoc, ◌∙◌}
 use Rattle.std.specs.Prelude.{nat_le, cond}
 use Rattle.bc_word.specs.declared.operator.Op.TheVariants.{Add}
 use Rattle.bc_word.specs.Words.{value_of}
@@ -16,14 +16,14 @@ use Rattle.bc_core.specs.Loop.{LoopRound, back, leave, behind_body, agrees}
 use Rattle.bc_core.specs.Command.{step_of_for, perform_block, perform_items}
 use Rattle.bc_core.specs.Primitive.{primitive_frame, primitive_work}
 use Rattle.bc_core.specs.Meaning.{Call as Calling, routine_value, valof_value, body_value, with_arguments, Callee, OfSection, OfLibrary, callee, entered, entered_of, calls}
-use Rattle.bc_interpret_defs.specs.Machine.{Spot, cell_of, Answer, Number, Verdict, Nothing, Left, Work, Evaluate, Decide, Perform, Enter, Listing, Give, Rest, At, Step, go, give, behind, jump, follow, behind_listing, spot_in, body_step, with_passed, frame_taken, arrive, next, step}
+use Rattle.bc_interpret_defs.specs.Machine.{Spot, cell_of, Answer, Number, Verdict, Nothing, Left, Work, Evaluate, Decide, Perform, Enter, Listing, Give, Rest, At, Step, go, give, enter, behind, jump, follow, behind_listing, spot_in, body_step, with_passed, frame_taken, arrive, next, step}
 use Rattle.bc_interpret_defs.specs.Machine as machine
 use Rattle.bc_interpret_defs.specs.Resume.{context_at, number, verdict, nothing, out, while_round, repeat_round, test_round, repeat_while_round, for_step, for_round, list_round, around, rest, resume, meant}
 use Rattle.bc_interpret_laws.proofs.Joining.{join2, join3, join4, join5, join6, join_taken2, join_taken3, join_left, join_within, choose2, choose3}
 use Rattle.bc_interpret_laws.proofs.Alike.{AlikeCall, alike_calls}
 use Rattle.bc_interpret_laws.proofs.Fuel.{call_unrolled}
 use Rattle.bc_interpret_laws.proofs.Rounds.{context_alike, list_again, assign_frame}
-use Rattle.bc_interpret_laws.proofs.Doing.{from_round}
+use Rattle.bc_interpret_laws.proofs.Doing.{from_round, listing_kept, enter_kept}
 
 -- into a routine
 body_kept : (call : Calling) (section : Placed) (b : Body) (f s n a : ℕ) (rs : List Rest) (st : State) → followed (followed (left n a (body_value (context_at call (spot_in section f)) b f s st)) number) (resume call rs) ≡ followed (body_step (spot_in section f) b s (machine.Closes n a ∷ rs) st) (meant call)
@@ -92,14 +92,15 @@ for_step_kept call E limit by b s rs st =
     (λ u st3. back_kept call rs f (machine.Round E limit by b s) st3 (λ st4. refl))))))
 
 -- a list that is entered
-jump_kept : (call : Calling) → AlikeCall 0 call call → (E : Spot) (is : Items) (s l : ℕ) (rs : List Rest) (st : State) (t : Bool) → followed (followed (next_round (repeated (list_round (context_at call E) is E.frame s)) (cond t (Again (AtLabel l)) (Leave (Jumped l))) st) out) (resume call rs) ≡ followed (jump E is s l t rs st) (meant call)
-jump_kept call t E is s l rs st true =
+jump_kept : (program : List Placed) (call : Calling) → AlikeCall 0 call call → (E : Spot) (is : Items) (s l : ℕ) (rs : List Rest) (st : State) (t : Bool) → followed (followed (next_round (repeated (list_round (context_at call E) is E.frame s)) (cond t (Again (AtLabel l)) (Leave (Jumped l))) st) out) (resume call rs) ≡ followed (jump E is s l t rs st) (meant call)
+jump_kept program call t E is s l rs st true =
     let C = context_at call E in
     let f = list_round C is E.frame s in
     from_round call rs f (AtLabel l) st _ (list_again C (context_alike call t E) is E.frame s (AtLabel l) st)
     (join4 (perform_items C is E.frame s (AtLabel l) st) (behind_list (has_label is)) (next_round (repeated f)) out (resume call rs)
-    out (resume call (machine.Listed E is s ∷ rs)) (λ x st1. refl))
-jump_kept call t E is s l rs st false = refl
+    out (resume call (machine.Listed E is s ∷ rs)) (λ x st1. refl)
+    ∙ listing_kept program call E is s (AtLabel l) (machine.Listed E is s ∷ rs) st)
+jump_kept program call t E is s l rs st false = refl
 
 switch_kept : (call : Calling) → AlikeCall 0 call call → (E : Spot) (is : Items) (s : ℕ) (at : Entry) (rs : List Rest) (st : State) → followed (followed (followed (listed (has_label is) (perform_items (context_at call E) is E.frame s) at st) behind_cases) out) (resume call rs) ≡ meant call (record { work = Listing E is s at; rests = machine.Listed E is s ∷ machine.Cases ∷ rs }) st
 switch_kept call t E is s at rs st =
@@ -122,14 +123,14 @@ follows_kept call E is s Returned rs st = refl
 follows_kept call E is s (Resulted v) rs st = refl
 follows_kept call E is s (Jumped l) rs st = refl
 
-listed_kept : (call : Calling) → AlikeCall 0 call call → (E : Spot) (is : Items) (s : ℕ) (x : Exit) (rs : List Rest) (st : State) → followed (around (list_round (context_at call E) is E.frame s) (behind_list (has_label is) x) st) (resume call rs) ≡ followed (behind_listing E is s x rs st) (meant call)
-listed_kept call t E is s Past rs st = refl
-listed_kept call t E is s Broke rs st = refl
-listed_kept call t E is s Looped rs st = refl
-listed_kept call t E is s LeftCases rs st = refl
-listed_kept call t E is s Returned rs st = refl
-listed_kept call t E is s (Resulted v) rs st = refl
-listed_kept call t E is s (Jumped l) rs st = jump_kept call t E is s l rs st (has_label is l)
+listed_kept : (program : List Placed) (call : Calling) → AlikeCall 0 call call → (E : Spot) (is : Items) (s : ℕ) (x : Exit) (rs : List Rest) (st : State) → followed (around (list_round (context_at call E) is E.frame s) (behind_list (has_label is) x) st) (resume call rs) ≡ followed (behind_listing E is s x rs st) (meant call)
+listed_kept program call t E is s Past rs st = refl
+listed_kept program call t E is s Broke rs st = refl
+listed_kept program call t E is s Looped rs st = refl
+listed_kept program call t E is s LeftCases rs st = refl
+listed_kept program call t E is s Returned rs st = refl
+listed_kept program call t E is s (Resulted v) rs st = refl
+listed_kept program call t E is s (Jumped l) rs st = jump_kept program call t E is s l rs st (has_label is l)
 
 pub next_kept : (program : List Placed) (n : ℕ) (r : Rest) (a : Answer) (rs : List Rest) (st : State) → st.turns < n → followed (rest (calls program n) r a st) (resume (calls program n) rs) ≡ followed (next program r a rs st) (meant (calls program n))
 next_kept program n machine.Loads (Number v) rs st l = join2 (read v st) number (resume (calls program n) rs) (λ w. give (Number w) rs) (meant (calls program n)) (λ x st1. refl)
@@ -187,18 +188,20 @@ next_kept program n machine.Drops a rs st l = refl
 next_kept program n machine.Passes Nothing rs st l = refl
 next_kept program n machine.Passes a rs st l = refl
 next_kept program n (machine.Ifs E sense b s) (Verdict t) rs st l =
-    choose2 (agrees sense t) st (perform_block (context_at (calls program n) E) b E.frame s) (Done Past) out (go (Enter E b s) rs) (give (Left Past) rs) (resume (calls program n) rs) (meant (calls program n)) refl refl
+    choose2 (agrees sense t) st (perform_block (context_at (calls program n) E) b E.frame s) (Done Past) out (enter E b s rs) (give (Left Past) rs) (resume (calls program n) rs) (meant (calls program n))
+    (enter_kept program (calls program n) (alike_calls program 0 n n (omega arith) (omega arith)) E b s rs st) refl
 next_kept program n (machine.Ifs E sense b s) a rs st l = refl
-next_kept program n (machine.Chooses E b c s) (Verdict true) rs st l = refl
-next_kept program n (machine.Chooses E b c s) (Verdict false) rs st l = refl
+next_kept program n (machine.Chooses E b c s) (Verdict true) rs st l = enter_kept program (calls program n) (alike_calls program 0 n n (omega arith) (omega arith)) E b s rs st
+next_kept program n (machine.Chooses E b c s) (Verdict false) rs st l = enter_kept program (calls program n) (alike_calls program 0 n n (omega arith) (omega arith)) E c s rs st
 next_kept program n (machine.Chooses E b c s) a rs st l = refl
 next_kept program n (machine.Whiles E sense e b s) (Verdict t) rs st l =
     let call = calls program n in
     let C = context_at call E in
     let nr = next_round (repeated (while_round C sense e b E.frame s)) in
     choose3 (agrees sense t) st (then_do (perform_block C b E.frame s) (behind_body back)) leave nr out
-    (go (Enter E b s) (machine.WhileBody E sense e b s ∷ rs)) (give (Left Past) rs) (resume call rs) (meant call)
-    (join4 (perform_block C b E.frame s st) (behind_body back) nr out (resume call rs) out (resume call (machine.WhileBody E sense e b s ∷ rs)) (λ x st1. refl)) refl
+    (enter E b s (machine.WhileBody E sense e b s ∷ rs)) (give (Left Past) rs) (resume call rs) (meant call)
+    (join4 (perform_block C b E.frame s st) (behind_body back) nr out (resume call rs) out (resume call (machine.WhileBody E sense e b s ∷ rs)) (λ x st1. refl)
+    ∙ enter_kept program call (alike_calls program 0 n n (omega arith) (omega arith)) E b s (machine.WhileBody E sense e b s ∷ rs) st) refl
 next_kept program n (machine.Whiles E sense e b s) a rs st l = refl
 next_kept program n (machine.WhileBody E sense e b s) (Left x) rs st l =
     let call = calls program n in
@@ -251,5 +254,5 @@ next_kept program n (machine.Initialises E vs k s) Nothing rs st l = refl
 next_kept program n (machine.Initialises E vs k s) a rs st l = refl
 next_kept program n (machine.Follows E is s) (Left x) rs st l = follows_kept (calls program n) E is s x rs st
 next_kept program n (machine.Follows E is s) a rs st l = refl
-next_kept program n (machine.Listed E is s) (Left x) rs st l = listed_kept (calls program n) (alike_calls program 0 n n (omega arith) (omega arith)) E is s x rs st
+next_kept program n (machine.Listed E is s) (Left x) rs st l = listed_kept program (calls program n) (alike_calls program 0 n n (omega arith) (omega arith)) E is s x rs st
 next_kept program n (machine.Listed E is s) a rs st l = refl

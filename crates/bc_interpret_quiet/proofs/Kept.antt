@@ -1,6 +1,6 @@
 -- Each step keeps what is left, and lessens it.
 use Rattle.std.proofs.Common.{◌≡◌, ◌<◌, ℕ, List, [], ◌∷◌, Option, Some, None, refl, sym, ap, subst, ◌∙◌, Bool}
-use Rattle.bc_interpret_defs.specs.Quiet.{QuietWork, QuietRest, QuietAt, quiet_step, quiet_meant, quiet_after, quiet_weight, IsLighter, QuietMoves, as_number}
+use Rattle.bc_interpret_defs.specs.Quiet.{QuietWork, QuietRest, QuietAt, quiet_step, quiet_meant, quiet_after, quiet_weight, IsLighter, QuietMoves, as_number, as_verdict}
 use Rattle.bc_interpret_defs.specs.Quiet as quiet
 use Rattle.bc_interpret_laws.proofs.Worths.{quiet_steps_keep, quiet_steps_lessen}
 use Rattle.bc_interpret_quiet.specs.declared.forms.Step.{Step}
@@ -45,3 +45,25 @@ pub no_verdict : (w : quiet.Worth ℕ) (t : Bool) → as_number w ≡ quiet.Is (
 no_verdict (quiet.Is x) t e = cc
 no_verdict quiet.Divides t e = cc
 no_verdict quiet.Fails t e = cc
+
+-- what has a truth has that truth
+pub truth_is : (w : quiet.Worth Bool) (t : Bool) → as_verdict w ≡ quiet.Is (quiet.Verdict t) → quiet.Is t ≡ w
+truth_is (quiet.Is x) t e = cc
+truth_is quiet.Divides t e = cc
+truth_is quiet.Fails t e = cc
+
+pub not_divided : (w : quiet.Worth Bool) → as_verdict w ≡ quiet.Divides → quiet.Divides ≡ w
+not_divided (quiet.Is x) e = cc
+not_divided quiet.Divides e = refl
+not_divided quiet.Fails e = cc
+
+pub not_failed : (w : quiet.Worth Bool) → as_verdict w ≡ quiet.Fails → quiet.Fails ≡ w
+not_failed (quiet.Is x) e = cc
+not_failed quiet.Divides e = cc
+not_failed quiet.Fails e = refl
+
+-- no truth is a number
+pub no_number : (w : quiet.Worth Bool) (v : ℕ) → as_verdict w ≡ quiet.Is (quiet.Number v) → quiet.Fails ≡ w
+no_number (quiet.Is x) v e = cc
+no_number quiet.Divides v e = cc
+no_number quiet.Fails v e = cc

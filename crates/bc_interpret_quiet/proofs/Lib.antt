@@ -1,3 +1,4 @@
+pub mod Along
 pub mod Kept
 pub mod Stacks
 pub mod Steps

@@ -1,5 +1,7 @@
 -- What the values of this crate stand for.
-use Rattle.std.specs.Prelude.{ℕ, ◌≡◌, ◌<◌, List, [], ◌∷◌, slice_index_or, Option, Some, None}
+use Rattle.std.specs.Prelude.{ℕ, Bool, true, false, ◌≡◌, ◌<◌, List, [], ◌∷◌, slice_index_or, Option, Some, None}
+use Rattle.bc_core.specs.Tree.{Exp}
+use Rattle.bc_core.specs.Value.{has_call}
 use Rattle.bc_core.specs.View.{exp}
 use Rattle.bc_interpret_quiet.specs.declared.sight.Sight.{Sight}
 use Rattle.bc_interpret_quiet.specs.declared.forms.Work.{Work}
@@ -8,9 +10,11 @@ use Rattle.bc_interpret_quiet.specs.declared.forms.Rest.{Rest}
 use Rattle.bc_interpret_quiet.specs.declared.forms.Rest.TheVariants as rests
 use Rattle.bc_interpret_quiet.specs.declared.forms.Step.{Step}
 use Rattle.bc_interpret_quiet.specs.declared.forms.Step.TheVariants as steps
-use Rattle.bc_interpret_quiet.specs.declared.worth.Worth as worths
+use Rattle.bc_interpret_quiet.specs.declared.worth.Worth.{Worth}
+use Rattle.bc_interpret_quiet.specs.declared.worth.Truth.{Truth}
+use Rattle.bc_interpret_quiet.specs.declared.worth.Truth.TheVariants as truth_forms
 use Rattle.bc_interpret_quiet.specs.declared.worth.Worth.TheVariants as worth_forms
-use Rattle.bc_interpret_defs.specs.Quiet.{QuietWork, QuietRest, QuietAt, on, QuietAnswer, quiet_meant, quiet_weight}
+use Rattle.bc_interpret_defs.specs.Quiet.{worth, QuietWork, QuietRest, QuietAt, on, QuietAnswer, quiet_meant, quiet_weight}
 use Rattle.bc_interpret_defs.specs.Quiet as quiet
 
 abbrev pub sight_of : Sight → quiet.Sight
@@ -49,10 +53,25 @@ Popped None old new = (old ≡ []) × (new ≡ [])
 Popped (Some r) old new = old ≡ rest_of r ∷ new
 
 -- the worth that the program found
-abbrev pub seen : worths.Worth → quiet.Worth ℕ
+abbrev pub seen : Worth → quiet.Worth ℕ
 seen (worth_forms.Is v) = quiet.Is v
 seen worth_forms.Divides = quiet.Divides
 seen (worth_forms.Fails c) = quiet.Fails
+
+-- the truth that the program found
+abbrev pub seen_truth : Truth → quiet.Worth Bool
+seen_truth (truth_forms.Is t) = quiet.Is t
+seen_truth truth_forms.Divides = quiet.Divides
+seen_truth (truth_forms.Fails c) = quiet.Fails
+
+-- no call stands in an expression, and it is worth this; or one stands in it
+abbrev pub IsWorth : quiet.Sight → Exp → Option Worth → Type 0
+IsWorth S e (Some w) = (has_call e ≡ false) × (seen w ≡ (worth S e).value)
+IsWorth S e None = has_call e ≡ true
+
+abbrev pub IsTruth : quiet.Sight → Exp → Option Truth → Type 0
+IsTruth S e (Some t) = (has_call e ≡ false) × (seen_truth t ≡ (worth S e).truth)
+IsTruth S e None = has_call e ≡ true
 
 -- For proofs: this came of a step.
 abbrev pub Came : Step → Option QuietAt → List QuietRest → Type 0

@@ -12,7 +12,7 @@ use bc_word::Memory;
 ///
 /// `Memory` comes where an allocation was refused.
 #[tactic(auto, using(crate::proofs::Waits::any_more, crate::proofs::Waits::weight_more))]
-pub fn has_call<'c>(e: &'c CoreExp, waiting: &mut Vec<&'c CoreExp>) -> Result<bool, Memory>
+pub(crate) fn has_call<'c>(e: &'c CoreExp, waiting: &mut Vec<&'c CoreExp>) -> Result<bool, Memory>
     ensures { IfOk result (λ t. t ≡ has_call_in (exp e.now)) }
 {
     waiting.clear();

@@ -5,11 +5,13 @@
 mod calls;
 mod evaluate;
 mod forms;
+mod found;
+mod quick;
 mod sight;
 mod taken;
 mod worth;
 
-pub use calls::has_call;
 pub use forms::Rest;
+pub use found::{Room, truth_of, worth_of};
 pub use sight::{Cause, Sight, cell_of};
-pub use worth::{Worth, value_of};
+pub use worth::{Truth, Worth};

@@ -3,7 +3,7 @@
 ghost use Rattle.std.specs.Prelude.{◌≡◌, IfOk};
 ghost use Rattle.bc_core.specs.View.{exp};
 ghost use Rattle.bc_interpret_defs.specs.Quiet.{worth};
-ghost use Rattle.bc_interpret_quiet.specs.Views.{sight_of, work_of, stack, Kept, seen};
+ghost use Rattle.bc_interpret_quiet.specs.Views.{sight_of, work_of, stack, Kept, seen, seen_truth};
 
 use crate::evaluate::{decide, evaluate};
 use crate::forms::{Rest, Step, Work, take};
@@ -17,6 +17,17 @@ use bc_word::Memory;
 pub enum Worth {
     /// This number.
     Is(u16),
+    /// A zero divisor ends it, and no wild cell is read.
+    Divides,
+    /// A wild cell is read.
+    Fails(Cause),
+}
+
+/// The truth that an expression has.
+#[derive(Clone, Copy, Debug)]
+pub enum Truth {
+    /// This one.
+    Is(bool),
     /// A zero divisor ends it, and no wild cell is read.
     Divides,
     /// A wild cell is read.
@@ -50,7 +61,7 @@ fn step<'c>(sight: &Sight<'_>, now: Work<'c>, rests: &mut Vec<Rest<'c>>) -> Resu
 ///
 /// `Memory` comes where an allocation was refused.
 #[tactic(auto, using(crate::proofs::Kept::number_is, crate::proofs::Kept::divides_is, crate::proofs::Kept::fails_is, crate::proofs::Kept::no_verdict))]
-pub fn value_of<'c>(
+pub(crate) fn value_of<'c>(
     sight: &Sight<'_>,
     e: &'c CoreExp,
     rests: &mut Vec<Rest<'c>>,
@@ -66,6 +77,31 @@ pub fn value_of<'c>(
             Step::Verdict(_) => return Ok(Worth::Fails(Cause::Malformed)),
             Step::Divides => return Ok(Worth::Divides),
             Step::Fails(cause) => return Ok(Worth::Fails(cause)),
+        }
+    }
+}
+
+/// The truth of an expression without call and VALOF over these cells, in a frame of a section. What stood in `rests` is lost; it is
+/// taken so that its memory serves again. No native stack is taken for the depth of the tree.
+///
+/// `Memory` comes where an allocation was refused.
+#[tactic(auto, using(crate::proofs::Kept::truth_is, crate::proofs::Kept::not_divided, crate::proofs::Kept::not_failed, crate::proofs::Kept::no_number))]
+pub(crate) fn decided<'c>(
+    sight: &Sight<'_>,
+    e: &'c CoreExp,
+    rests: &mut Vec<Rest<'c>>,
+) -> Result<Truth, Memory>
+    ensures { IfOk result (λ found. seen_truth found ≡ (worth (sight_of sight.now) (exp e.now)).truth) }
+{
+    rests.clear();
+    let mut now = Work::Decide(e);
+    loop {
+        match step(sight, now, rests)? {
+            Step::On(next) => now = next,
+            Step::Number(_) => return Ok(Truth::Fails(Cause::Malformed)),
+            Step::Verdict(t) => return Ok(Truth::Is(t)),
+            Step::Divides => return Ok(Truth::Divides),
+            Step::Fails(cause) => return Ok(Truth::Fails(cause)),
         }
     }
 }

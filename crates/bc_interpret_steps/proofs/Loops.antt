@@ -10,14 +10,16 @@ use Rattle.bc_core.specs.Exit.{Exit, Past}
 use Rattle.bc_core.specs.Store.{Dead, Unset, Set, cell_at}
 use Rattle.bc_core.specs.Outcome as outcomes
 use Rattle.bc_core.specs.Outcome.{Done, Wild, Going, followed, then_do, choose, content_of_cell, write, in_turn}
-use Rattle.bc_interpret_defs.specs.Machine.{Spot, Rest, Step, cell_of, go, give, Left, Enter, ForBody, Round, round_step, behind, next}
+use Rattle.bc_interpret_defs.specs.Machine.{Spot, Rest, Step, cell_of, go, give, enter, Left, ForBody, Round, round_step, behind, next}
 use Rattle.bc_interpret_steps.specs.declared.state.State.{State}
-use Rattle.bc_interpret_steps.specs.Came.{state_of, Turned, Wrote}
+use Rattle.bc_interpret_steps.specs.declared.forms.Progress.{Progress}
+use Rattle.bc_interpret_steps.specs.Came.{state_of, Came, Turned, Wrote}
+use Rattle.bc_interpret_steps.proofs.Quiet.{same_came}
 use Rattle.bc_interpret_quiet.specs.declared.sight.Cause.{Cause}
 use Rattle.std.proofs.Common.{Some, None}
 
 abbrev tested : Spot → (limit by : ℕ) → Block → ℕ → List Rest → ℕ → Step
-tested E limit by b s rs i = choose (holds (end_relation by) i limit) (give (Left Past) rs) (go (Enter E b (level_in_for s)) (ForBody E limit by b s ∷ rs))
+tested E limit by b s rs i = choose (holds (end_relation by) i limit) (give (Left Past) rs) (enter E b (level_in_for s) (ForBody E limit by b s ∷ rs))
 
 pub round_dead : (E : Spot) (limit by : ℕ) (b : Block) (s : ℕ) (rs : List Rest) (st : outcomes.State) → Dead ≡ cell_at st.cells (cell_of E s) → round_step E limit by b s rs st ≡ Wild
 round_dead E limit by b s rs st e = ap (λ c. followed (content_of_cell c st) (tested E limit by b s rs)) (sym e)
@@ -28,12 +30,16 @@ round_unset E limit by b s rs st e = ap (λ c. followed (content_of_cell c st) (
 pub round_past : (E : Spot) (limit by : ℕ) (b : Block) (s i : ℕ) (rs : List Rest) (st : outcomes.State) → Set i ≡ cell_at st.cells (cell_of E s) → holds (end_relation by) i limit ≡ true → round_step E limit by b s rs st ≡ give (Left Past) rs st
 round_past E limit by b s i rs st e t =
     ap (λ c. followed (content_of_cell c st) (tested E limit by b s rs)) (sym e)
-    ∙ ap (λ t. choose t (give (Left Past) rs) (go (Enter E b (level_in_for s)) (ForBody E limit by b s ∷ rs)) st) t
+    ∙ ap (λ t. choose t (give (Left Past) rs) (enter E b (level_in_for s) (ForBody E limit by b s ∷ rs)) st) t
 
-pub round_on : (E : Spot) (limit by : ℕ) (b : Block) (s i : ℕ) (rs : List Rest) (st : outcomes.State) → Set i ≡ cell_at st.cells (cell_of E s) → holds (end_relation by) i limit ≡ false → round_step E limit by b s rs st ≡ go (Enter E b (level_in_for s)) (ForBody E limit by b s ∷ rs) st
+pub round_on : (E : Spot) (limit by : ℕ) (b : Block) (s i : ℕ) (rs : List Rest) (st : outcomes.State) → Set i ≡ cell_at st.cells (cell_of E s) → holds (end_relation by) i limit ≡ false → round_step E limit by b s rs st ≡ enter E b (level_in_for s) (ForBody E limit by b s ∷ rs) st
 round_on E limit by b s i rs st e t =
     ap (λ c. followed (content_of_cell c st) (tested E limit by b s rs)) (sym e)
-    ∙ ap (λ t. choose t (give (Left Past) rs) (go (Enter E b (level_in_for s)) (ForBody E limit by b s ∷ rs)) st) t
+    ∙ ap (λ t. choose t (give (Left Past) rs) (enter E b (level_in_for s) (ForBody E limit by b s ∷ rs)) st) t
+
+pub round_goes : (E : Spot) (limit by : ℕ) (b : Block) (s i : ℕ) (rs : List Rest) (old : State) (p : Progress) (rs1 : List Rest) (vs : List ℕ) (new : State) → Set i ≡ cell_at old.store (cell_of E s) → holds (end_relation by) i limit ≡ false → Came (enter E b (level_in_for s) (ForBody E limit by b s ∷ rs)) old p rs1 vs new → Came (round_step E limit by b s rs) old p rs1 vs new
+round_goes E limit by b s i rs old p rs1 vs new e t h =
+    same_came (round_step E limit by b s rs) (enter E b (level_in_for s) (ForBody E limit by b s ∷ rs)) old p rs1 vs new (λ streams. round_on E limit by b s i rs (state_of old streams) e t) h
 
 -- behind the body
 abbrev added : Spot → (limit by : ℕ) → Block → ℕ → List Rest → ℕ → Step

@@ -10,10 +10,6 @@ use Rattle.bc_interpret_defs.specs.Machine.{Spot, Work, Rest, Evaluate, StoresAt
 use Rattle.bc_interpret_steps.specs.declared.state.State.{State}
 use Rattle.bc_interpret_steps.specs.Came.{state_of}
 
--- a command that goes on to one of its parts
-pub performed : (E : Spot) (k form : commands.Command) (s : ℕ) (rs after : List Rest) (st : outcomes.State) (w : Work) (r : Rest) → k ≡ form → perform_step E form s rs st ≡ go w (r ∷ rs) st → after ≡ r ∷ rs → perform_step E k s rs st ≡ go w after st
-performed E k form s rs after st w r e h a = ap (λ x. perform_step E x s rs st) e ∙ (h ∙ ap (λ q. go w q st) (sym a))
-
 -- a FOR opens its variable's cell, and goes on to its start
 pub for_performed : (E : Spot) (k : commands.Command) (start limit : Exp) (by : ℕ) (b : commands.Block) (s level cell address : ℕ) (rs closing limiting after : List Rest) (old new : State) (streams : Content)
     → k ≡ commands.For start limit by b → level ≡ s + 2 → cell ≡ E.frame + s → address ≡ cell_of E s → closing ≡ Closes 1 cell ∷ rs → limiting ≡ Limits E limit by b s ∷ closing → after ≡ StoresAt address ∷ limiting

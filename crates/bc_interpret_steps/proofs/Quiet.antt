@@ -1,88 +1,28 @@
 -- What is worked out at once.
-use Rattle.std.proofs.Common.{Some, None, ◌≡◌, ℕ, Bool, true, false, ◌||◌, List, sym, ap, subst, refl, ◌∷◌, ◌∙◌}
+use Rattle.std.proofs.Common.{◌≡◌, ℕ, Bool, true, false, List, Option, Some, None, sym, ap, subst, ◌∷◌, ◌∙◌}
 use Rattle.bc_machine_defs.specs.Streams.{Content}
-use Rattle.bc_word.specs.declared.operator.Op.{Op}
-use Rattle.bc_core.specs.Tree.{Exp, Bin}
+use Rattle.bc_core.specs.Tree.{Exp, Cond}
 use Rattle.bc_core.specs.Outcome as outcomes
-use Rattle.bc_core.specs.Outcome.{Done, Wild, ends, ZeroDivide, followed, then_do, both, outweighed, second_side, write}
-use Rattle.bc_core.specs.Value.{has_call, value, assign}
-use Rattle.bc_core.specs.Level.{operand_level, side_level}
+use Rattle.bc_core.specs.Outcome.{followed, then_do, choose}
+use Rattle.bc_core.specs.Value.{has_call, value, truth}
 use Rattle.bc_interpret_defs.specs.Machine as machine
-use Rattle.bc_interpret_defs.specs.Machine.{quiet, give, evaluate, store}
+use Rattle.bc_interpret_defs.specs.Machine.{quiet, give, tested, evaluate_parts, evaluate, decide_parts, decide}
 use Rattle.bc_interpret_defs.specs.Quiet as quiet_forms
 use Rattle.bc_interpret_defs.specs.Quiet.{settled, worth}
 use Rattle.bc_interpret_laws.proofs.Worths.{worth_is_value}
 use Rattle.bc_interpret_quiet.specs.declared.worth.Worth.{Worth}
 use Rattle.bc_interpret_quiet.specs.declared.worth.Worth.TheVariants as worths
-use Rattle.bc_interpret_quiet.specs.Views.{seen}
-use Rattle.bc_interpret_steps.specs.declared.state.State.{State}
-use Rattle.bc_core.specs.Map.{Placed}
+use Rattle.bc_interpret_quiet.specs.declared.worth.Truth.{Truth}
+use Rattle.bc_interpret_quiet.specs.declared.worth.Truth.TheVariants as truths
 use Rattle.bc_interpret_quiet.specs.declared.sight.Cause.{Cause}
+use Rattle.bc_interpret_quiet.specs.Views.{seen, seen_truth, IsWorth, IsTruth}
+use Rattle.bc_interpret_steps.specs.declared.state.State.{State}
 use Rattle.bc_interpret_steps.specs.declared.forms.Progress.{Progress}
 use Rattle.bc_interpret_steps.specs.declared.forms.Progress.TheVariants as progress
-use Rattle.bc_interpret_steps.specs.declared.forms.Work.TheVariants as works
-use Rattle.bc_interpret_steps.specs.Came.{state_of, Came, Wrote, progress_of, both_worth}
-use Rattle.bc_interpret_steps.specs.Stepped.{Stepped}
-use Rattle.bc_interpret_steps.proofs.Handing.{stepped}
-
--- what is read there
-abbrev pub sight : State → machine.Spot → quiet_forms.Sight
-sight st E = record { cells = st.store; address = E.address; frame = E.frame }
-
-quiet_value : (st : State) (E : machine.Spot) (e : Exp) (s : ℕ) (streams : Content) → has_call e ≡ false → (w : Worth) → seen w ≡ (worth (sight st E) e).value → value (quiet E) e E.frame s (state_of st streams) ≡ settled (seen w) (state_of st streams)
-quiet_value st E e s streams plain w is =
-    (worth_is_value E.address (λ r vs f. outcomes.wild) (λ n p s. outcomes.wild) e plain E.frame s (state_of st streams)).0
-    ∙ ap (λ x. settled x (state_of st streams)) (sym is)
-
--- an operator without call
-operated_at_once : (st : State) (E : machine.Spot) (op : Op) (a b : Exp) (s : ℕ) (rs : List machine.Rest) (streams : Content) (w : Worth) → (has_call a || has_call b) ≡ false → seen w ≡ (worth (sight st E) (Bin op a b)).value → evaluate E (Bin op a b) s rs (state_of st streams) ≡ followed (settled (seen w) (state_of st streams)) (λ v. give (machine.Number v) rs)
-operated_at_once st E op a b s rs streams w plain is =
-    ap (λ t. elim t as (λ u. machine.Step) [
-      | true ↦ machine.go (machine.Evaluate E a (operand_level s)) (machine.Operates E op b s ∷ rs)
-      | false ↦ then_do (value (quiet E) (Bin op a b) E.frame s) (λ v. give (machine.Number v) rs)
-    ] (state_of st streams)) plain
-    ∙ ap (λ o. followed o (λ v. give (machine.Number v) rs)) (quiet_value st E (Bin op a b) s streams plain w is)
-
-pub operator_came : (st : State) (E : machine.Spot) (op : Op) (a b : Exp) (s : ℕ) (rs : List machine.Rest) (vs : List ℕ) (w : Worth) → has_call (Bin op a b) ≡ false → seen w ≡ (worth (sight st E) (Bin op a b)).value → Came (evaluate E (Bin op a b) s rs) st (progress_of w) rs vs st
-operator_came st E op a b s rs vs (worths.Is v) plain is = λ streams. operated_at_once st E op a b s rs streams (worths.Is v) plain is
-operator_came st E op a b s rs vs worths.Divides plain is = λ streams. operated_at_once st E op a b s rs streams worths.Divides plain is
-operator_came st E op a b s rs vs (worths.Fails c) plain is = λ streams. operated_at_once st E op a b s rs streams (worths.Fails c) plain is
-
--- an assignment without call
-abbrev writes : ℕ → ℕ → outcomes.Run (Unit {0})
-writes word address = write address word
-
-assigned : (st : State) (E : machine.Spot) (v a : Exp) (s : ℕ) (rs : List machine.Rest) (streams : Content) → (has_call v || has_call a) ≡ false
-    → store E v a s rs (state_of st streams) ≡ followed (second_side false (value (quiet E) v E.frame (side_level a s) (state_of st streams)) (value (quiet E) a E.frame (side_level a s)) writes (state_of st streams)) (λ u. give machine.Nothing rs)
-assigned st E v a s rs streams plain =
-    ap (λ t. elim t as (λ u. machine.Step) [
-      | true ↦ machine.go (machine.Evaluate E v (side_level a s)) (machine.Stores E a s ∷ rs)
-      | false ↦ then_do (both t (value (quiet E) v E.frame (side_level a s)) (value (quiet E) a E.frame (side_level a s)) writes) (λ u. give machine.Nothing rs)
-    ] (state_of st streams)) plain
-
-neither : (a b : Bool) → a ≡ false → b ≡ false → (a || b) ≡ false
-neither true b e f = e
-neither false b e f = f
-
-pub assigned_at_once : (st : State) (E : machine.Spot) (v a : Exp) (s : ℕ) (rs : List machine.Rest) (streams : Content) (w x : Worth) → has_call v ≡ false → has_call a ≡ false → seen w ≡ (worth (sight st E) v).value → seen x ≡ (worth (sight st E) a).value
-    → store E v a s rs (state_of st streams) ≡ followed (second_side false (settled (seen w) (state_of st streams)) (settled (seen x)) writes (state_of st streams)) (λ u. give machine.Nothing rs)
-assigned_at_once st E v a s rs streams w x plain also_plain is this =
-    assigned st E v a s rs streams (neither (has_call v) (has_call a) plain also_plain)
-    ∙ (ap (λ o. followed (second_side false o (value (quiet E) a E.frame (side_level a s)) writes (state_of st streams)) (λ u. give machine.Nothing rs)) (quiet_value st E v (side_level a s) streams plain w is)
-    ∙ by_first w) where
-      by_first : (w : Worth)
-          → followed {A = Unit {0}} (second_side {A = ℕ} {B = ℕ} {C = Unit {0}} false (settled (seen w) (state_of st streams)) (value (quiet E) a E.frame (side_level a s)) writes (state_of st streams)) (λ u. give machine.Nothing rs)
-          ≡ followed {A = Unit {0}} (second_side {A = ℕ} {B = ℕ} {C = Unit {0}} false (settled (seen w) (state_of st streams)) (settled (seen x)) writes (state_of st streams)) (λ u. give machine.Nothing rs)
-      by_first (worths.Is y) = ap (λ o. followed {A = Unit {0}} (followed {A = ℕ} {B = Unit {0}} o (writes y)) (λ u. give machine.Nothing rs)) (quiet_value st E a (side_level a s) streams also_plain x this)
-      by_first worths.Divides = ap (λ o. followed {A = Unit {0}} (outweighed {A = ℕ} {B = Unit {0}} ZeroDivide streams o) (λ u. give machine.Nothing rs)) (quiet_value st E a (side_level a s) streams also_plain x this)
-      by_first (worths.Fails c) = refl
-
--- a word is put where the address is worth something
-pub put_there : (w a : ℕ) (rs : List machine.Rest) (vs : List ℕ) (old new : State) → Wrote old a w None new → Came (both_worth (quiet_forms.Is w) (quiet_forms.Is a) rs) old (progress.On works.Nothing) rs vs new
-put_there w a rs vs old new h streams = ap (λ o. followed o (λ u. give machine.Nothing rs)) (h streams)
-
-pub not_put : (w a : ℕ) (rs : List machine.Rest) (vs : List ℕ) (old new : State) (c : Cause) → Wrote old a w (Some c) new → Came (both_worth (quiet_forms.Is w) (quiet_forms.Is a) rs) old (progress.Wild c) rs vs new
-not_put w a rs vs old new c h streams = ap (λ o. followed o (λ u. give machine.Nothing rs)) (h streams)
+use Rattle.bc_interpret_steps.specs.declared.forms.Work.{Work}
+use Rattle.bc_interpret_steps.specs.Code.{work_of}
+use Rattle.bc_interpret_steps.specs.declared.forms.Ending.TheVariants as endings
+use Rattle.bc_interpret_steps.specs.Came.{state_of, Came, progress_of, progress_of_truth, sight}
 
 -- what comes of a step comes of one that is the same
 pub same_came : (r q : machine.Step) (old : State) (p : Progress) (rs : List machine.Rest) (vs : List ℕ) (new : State) → ((streams : Content) → r (state_of old streams) ≡ q (state_of old streams)) → Came q old p rs vs new → Came r old p rs vs new
@@ -93,22 +33,138 @@ same_came r q old (progress.Ended x) rs vs new e h = λ streams. e streams ∙ h
 same_came r q old progress.Going rs vs new e h = λ streams. e streams ∙ h streams
 same_came r q old (progress.Wild c) rs vs new e h = λ streams. e streams ∙ h streams
 
--- an assignment without call
-pub assigned_stepped : (st : State) (E : machine.Spot) (v a : Exp) (s : ℕ) (rs : List machine.Rest) (vs : List ℕ) (w x : Worth) (p : Progress) (new : State) → has_call v ≡ false → has_call a ≡ false → seen w ≡ (worth (sight st E) v).value → seen x ≡ (worth (sight st E) a).value → Came (both_worth (seen w) (seen x) rs) st p rs vs new
-    → (program : List Placed) → Stepped program (machine.Store E v a s) rs st p rs vs new
-assigned_stepped st E v a s rs vs w x p new plain also_plain is this h program =
-    stepped program (machine.Store E v a s) rs st p rs vs new tt
-    (same_came (store E v a s rs) (both_worth (seen w) (seen x) rs) st p rs vs new (λ streams. assigned_at_once st E v a s rs streams w x plain also_plain is this) h)
+-- the same from another state
+pub moved_came : (r q : machine.Step) (old old1 : State) (p : Progress) (rs : List machine.Rest) (vs : List ℕ) (new : State) → ((streams : Content) → r (state_of old streams) ≡ q (state_of old1 streams)) → Came q old1 p rs vs new → Came r old p rs vs new
+moved_came r q old old1 (progress.On x) rs vs new e h = λ streams. e streams ∙ h streams
+moved_came r q old old1 (progress.Serve x f) rs vs new e h = λ streams. e streams ∙ h streams
+moved_came r q old old1 progress.Answered rs vs new e h = h
+moved_came r q old old1 (progress.Ended x) rs vs new e h = λ streams. e streams ∙ h streams
+moved_came r q old old1 progress.Going rs vs new e h = λ streams. e streams ∙ h streams
+moved_came r q old old1 (progress.Wild c) rs vs new e h = λ streams. e streams ∙ h streams
 
--- the same of a step
-pub operator_stepped : (st : State) (E : machine.Spot) (op : Op) (a b : Exp) (s : ℕ) (rs : List machine.Rest) (vs : List ℕ) (w : Worth) → has_call (Bin op a b) ≡ false → seen w ≡ (worth (sight st E) (Bin op a b)).value
-    → (program : List Placed) → Stepped program (machine.Evaluate E (Bin op a b) s) rs st (progress_of w) rs vs st
-operator_stepped st E op a b s rs vs w plain is program = stepped program (machine.Evaluate E (Bin op a b) s) rs st (progress_of w) rs vs st tt (operator_came st E op a b s rs vs w plain is)
+-- what was found
+pub told_worth : (S : quiet_forms.Sight) (e : Exp) (found : Option Worth) (w : Worth) → IsWorth S e found → found ≡ Some w → (has_call e ≡ false) × (seen w ≡ (worth S e).value)
+told_worth S e found w h is = let P : Option Worth → Type 0 = λ o. IsWorth S e o in subst P is h
 
--- the same of an expression that is an operator
-pub operator_at_once : (st : State) (E : machine.Spot) (e : Exp) (op : Op) (a b : Exp) (s : ℕ) (rs : List machine.Rest) (vs : List ℕ) (w : Worth) (p : Progress) → e ≡ Bin op a b → has_call e ≡ false → seen w ≡ (worth (sight st E) e).value → p ≡ progress_of w
-    → (program : List Placed) → Stepped program (machine.Evaluate E e s) rs st p rs vs st
-operator_at_once st E e op a b s rs vs w p is plain worth_is comes program =
-    let P : Progress → Type 0 = λ q. Stepped program (machine.Evaluate E e s) rs st q rs vs st in
-    let Q : Exp → Type 0 = λ x. Stepped program (machine.Evaluate E x s) rs st (progress_of w) rs vs st in
-    subst P (sym comes) (subst Q (sym is) (operator_stepped st E op a b s rs vs w (ap has_call (sym is) ∙ plain) (worth_is ∙ ap (λ x. (worth (sight st E) x).value) is) program))
+pub told_truth : (S : quiet_forms.Sight) (e : Exp) (found : Option Truth) (t : Truth) → IsTruth S e found → found ≡ Some t → (has_call e ≡ false) × (seen_truth t ≡ (worth S e).truth)
+told_truth S e found t h is = let P : Option Truth → Type 0 = λ o. IsTruth S e o in subst P is h
+
+-- the two cases of a test, as the definitions have them
+abbrev pub by_test : Bool → machine.Step → machine.Step → machine.Step
+by_test t this that = elim t [ true ↦ this | false ↦ that ]
+
+pub came_true : (t : Bool) (this that : machine.Step) (old : State) (p : Progress) (rs : List machine.Rest) (vs : List ℕ) (new : State) → t ≡ true → Came this old p rs vs new → Came (by_test t this that) old p rs vs new
+came_true t this that old p rs vs new e h = let P : Bool → Type 0 = λ z. Came (by_test z this that) old p rs vs new in subst P (sym e) h
+
+pub came_false : (t : Bool) (this that : machine.Step) (old : State) (p : Progress) (rs : List machine.Rest) (vs : List ℕ) (new : State) → t ≡ false → Came that old p rs vs new → Came (by_test t this that) old p rs vs new
+came_false t this that old p rs vs new e h = let P : Bool → Type 0 = λ z. Came (by_test z this that) old p rs vs new in subst P (sym e) h
+
+pub quiet_value : (st : State) (E : machine.Spot) (e : Exp) (s : ℕ) (streams : Content) → has_call e ≡ false → (w : Worth) → seen w ≡ (worth (sight st E) e).value → value (quiet E) e E.frame s (state_of st streams) ≡ settled (seen w) (state_of st streams)
+quiet_value st E e s streams plain w is =
+    (worth_is_value E.address (λ r vs f. outcomes.wild) (λ n p s. outcomes.wild) e plain E.frame s (state_of st streams)).0
+    ∙ ap (λ x. settled x (state_of st streams)) (sym is)
+
+pub quiet_truth : (st : State) (E : machine.Spot) (e : Exp) (s : ℕ) (streams : Content) → has_call e ≡ false → (w : Truth) → seen_truth w ≡ (worth (sight st E) e).truth → truth (quiet E) e E.frame s (state_of st streams) ≡ settled (seen_truth w) (state_of st streams)
+quiet_truth st E e s streams plain w is =
+    (worth_is_value E.address (λ r vs f. outcomes.wild) (λ n p s. outcomes.wild) e plain E.frame s (state_of st streams)).1
+    ∙ ap (λ x. settled x (state_of st streams)) (sym is)
+
+-- what comes behind a value
+pub value_on : (st : State) (E : machine.Spot) (e : Exp) (s v : ℕ) (f : ℕ → machine.Step) (p : Progress) (rs : List machine.Rest) (vs : List ℕ) (new : State) → has_call e ≡ false → quiet_forms.Is v ≡ (worth (sight st E) e).value → Came (f v) st p rs vs new → Came (then_do (value (quiet E) e E.frame s) f) st p rs vs new
+value_on st E e s v f p rs vs new plain is h =
+    same_came (then_do (value (quiet E) e E.frame s) f) (f v) st p rs vs new (λ streams. ap (λ o. followed o f) (quiet_value st E e s streams plain (worths.Is v) is)) h
+
+pub value_divides : (st : State) (E : machine.Spot) (e : Exp) (s : ℕ) (f : ℕ → machine.Step) (rs : List machine.Rest) (vs : List ℕ) (new : State) → has_call e ≡ false → quiet_forms.Divides ≡ (worth (sight st E) e).value → Came (then_do (value (quiet E) e E.frame s) f) st (progress.Ended endings.ZeroDivide) rs vs new
+value_divides st E e s f rs vs new plain is = λ streams. ap (λ o. followed o f) (quiet_value st E e s streams plain worths.Divides is)
+
+pub value_fails : (st : State) (E : machine.Spot) (e : Exp) (s : ℕ) (c : Cause) (f : ℕ → machine.Step) (rs : List machine.Rest) (vs : List ℕ) (new : State) → has_call e ≡ false → quiet_forms.Fails ≡ (worth (sight st E) e).value → Came (then_do (value (quiet E) e E.frame s) f) st (progress.Wild c) rs vs new
+value_fails st E e s c f rs vs new plain is = λ streams. ap (λ o. followed o f) (quiet_value st E e s streams plain (worths.Fails c) is)
+
+-- what comes behind a truth
+pub truth_on : (st : State) (E : machine.Spot) (e : Exp) (s : ℕ) (t : Bool) (f : Bool → machine.Step) (p : Progress) (rs : List machine.Rest) (vs : List ℕ) (new : State) → has_call e ≡ false → quiet_forms.Is t ≡ (worth (sight st E) e).truth → Came (f t) st p rs vs new → Came (then_do (truth (quiet E) e E.frame s) f) st p rs vs new
+truth_on st E e s t f p rs vs new plain is h =
+    same_came (then_do (truth (quiet E) e E.frame s) f) (f t) st p rs vs new (λ streams. ap (λ o. followed o f) (quiet_truth st E e s streams plain (truths.Is t) is)) h
+
+pub truth_divides : (st : State) (E : machine.Spot) (e : Exp) (s : ℕ) (f : Bool → machine.Step) (rs : List machine.Rest) (vs : List ℕ) (new : State) → has_call e ≡ false → quiet_forms.Divides ≡ (worth (sight st E) e).truth → Came (then_do (truth (quiet E) e E.frame s) f) st (progress.Ended endings.ZeroDivide) rs vs new
+truth_divides st E e s f rs vs new plain is = λ streams. ap (λ o. followed o f) (quiet_truth st E e s streams plain truths.Divides is)
+
+pub truth_fails : (st : State) (E : machine.Spot) (e : Exp) (s : ℕ) (c : Cause) (f : Bool → machine.Step) (rs : List machine.Rest) (vs : List ℕ) (new : State) → has_call e ≡ false → quiet_forms.Fails ≡ (worth (sight st E) e).truth → Came (then_do (truth (quiet E) e E.frame s) f) st (progress.Wild c) rs vs new
+truth_fails st E e s c f rs vs new plain is = λ streams. ap (λ o. followed o f) (quiet_truth st E e s streams plain (truths.Fails c) is)
+
+-- an expression in which no call stands
+pub valued : (st : State) (E : machine.Spot) (e : Exp) (s : ℕ) (rs : List machine.Rest) (vs : List ℕ) (w : Worth) → has_call e ≡ false → seen w ≡ (worth (sight st E) e).value → Came (evaluate E e s rs) st (progress_of w) rs vs st
+valued st E e s rs vs w plain is =
+    came_false (has_call e) (evaluate_parts E e s rs) (then_do (value (quiet E) e E.frame s) (λ v. give (machine.Number v) rs)) st (progress_of w) rs vs st plain (by_worth w is) where
+      by_worth : (w : Worth) → seen w ≡ (worth (sight st E) e).value → Came (then_do (value (quiet E) e E.frame s) (λ v. give (machine.Number v) rs)) st (progress_of w) rs vs st
+      by_worth (worths.Is v) is1 = λ streams. ap (λ o. followed o (λ v. give (machine.Number v) rs)) (quiet_value st E e s streams plain (worths.Is v) is1)
+      by_worth worths.Divides is1 = λ streams. ap (λ o. followed o (λ v. give (machine.Number v) rs)) (quiet_value st E e s streams plain worths.Divides is1)
+      by_worth (worths.Fails c) is1 = λ streams. ap (λ o. followed o (λ v. give (machine.Number v) rs)) (quiet_value st E e s streams plain (worths.Fails c) is1)
+
+pub value_parts : (E : machine.Spot) (e : Exp) (s : ℕ) (rs : List machine.Rest) (old : State) (p : Progress) (rs1 : List machine.Rest) (vs : List ℕ) (new : State) → has_call e ≡ true → Came (evaluate_parts E e s rs) old p rs1 vs new → Came (evaluate E e s rs) old p rs1 vs new
+value_parts E e s rs old p rs1 vs new e1 h = came_true (has_call e) (evaluate_parts E e s rs) (then_do (value (quiet E) e E.frame s) (λ v. give (machine.Number v) rs)) old p rs1 vs new e1 h
+
+pub judged : (st : State) (E : machine.Spot) (e : Exp) (s : ℕ) (rs : List machine.Rest) (vs : List ℕ) (w : Truth) → has_call e ≡ false → seen_truth w ≡ (worth (sight st E) e).truth → Came (decide E e s rs) st (progress_of_truth w) rs vs st
+judged st E e s rs vs w plain is =
+    came_false (has_call e) (decide_parts E e s rs) (then_do (truth (quiet E) e E.frame s) (λ t. give (machine.Verdict t) rs)) st (progress_of_truth w) rs vs st plain (by_truth w is) where
+      by_truth : (w : Truth) → seen_truth w ≡ (worth (sight st E) e).truth → Came (then_do (truth (quiet E) e E.frame s) (λ t. give (machine.Verdict t) rs)) st (progress_of_truth w) rs vs st
+      by_truth (truths.Is t) is1 = λ streams. ap (λ o. followed o (λ t1. give (machine.Verdict t1) rs)) (quiet_truth st E e s streams plain (truths.Is t) is1)
+      by_truth truths.Divides is1 = λ streams. ap (λ o. followed o (λ t. give (machine.Verdict t) rs)) (quiet_truth st E e s streams plain truths.Divides is1)
+      by_truth (truths.Fails c) is1 = λ streams. ap (λ o. followed o (λ t. give (machine.Verdict t) rs)) (quiet_truth st E e s streams plain (truths.Fails c) is1)
+
+pub truth_parts : (E : machine.Spot) (e : Exp) (s : ℕ) (rs : List machine.Rest) (old : State) (p : Progress) (rs1 : List machine.Rest) (vs : List ℕ) (new : State) → has_call e ≡ true → Came (decide_parts E e s rs) old p rs1 vs new → Came (decide E e s rs) old p rs1 vs new
+truth_parts E e s rs old p rs1 vs new e1 h = came_true (has_call e) (decide_parts E e s rs) (then_do (truth (quiet E) e E.frame s) (λ t. give (machine.Verdict t) rs)) old p rs1 vs new e1 h
+
+-- a choice
+pub came_this : (t : Bool) (this that : machine.Step) (old : State) (p : Progress) (rs : List machine.Rest) (vs : List ℕ) (new : State) → t ≡ true → Came this old p rs vs new → Came (choose t this that) old p rs vs new
+came_this t this that old p rs vs new e h = same_came (choose t this that) this old p rs vs new (λ streams. ap (λ z. choose z this that (state_of old streams)) e) h
+
+pub came_that : (t : Bool) (this that : machine.Step) (old : State) (p : Progress) (rs : List machine.Rest) (vs : List ℕ) (new : State) → t ≡ false → Came that old p rs vs new → Came (choose t this that) old p rs vs new
+came_that t this that old p rs vs new e h = same_came (choose t this that) that old p rs vs new (λ streams. ap (λ z. choose z this that (state_of old streams)) e) h
+
+-- a step to some work
+pub went : (w : Work) (rs rs1 : List machine.Rest) (vs : List ℕ) (st : State) → rs1 ≡ rs → Came (machine.go (work_of vs w) rs) st (progress.On w) rs1 vs st
+went w rs rs1 vs st e = λ streams. ap (λ q. machine.go (work_of vs w) q (state_of st streams)) (sym e)
+
+-- behind a test
+pub tested_on : (E : machine.Spot) (e : Exp) (s : ℕ) (f : Bool → machine.Step) (r : machine.Rest) (rs : List machine.Rest) (old : State) (t : Bool) (p : Progress) (rs1 : List machine.Rest) (vs : List ℕ) (new : State) → has_call e ≡ false → quiet_forms.Is t ≡ (worth (sight old E) e).truth → Came (f t) old p rs1 vs new → Came (tested E e s f r rs) old p rs1 vs new
+tested_on E e s f r rs old t p rs1 vs new plain is h =
+    came_false (has_call e) (machine.go (machine.Decide E e s) (r ∷ rs)) (then_do (truth (quiet E) e E.frame s) f) old p rs1 vs new plain (truth_on old E e s t f p rs1 vs new plain is h)
+
+pub tested_divides : (E : machine.Spot) (e : Exp) (s : ℕ) (f : Bool → machine.Step) (r : machine.Rest) (rs : List machine.Rest) (old : State) (rs1 : List machine.Rest) (vs : List ℕ) (new : State) → has_call e ≡ false → quiet_forms.Divides ≡ (worth (sight old E) e).truth → Came (tested E e s f r rs) old (progress.Ended endings.ZeroDivide) rs1 vs new
+tested_divides E e s f r rs old rs1 vs new plain is =
+    came_false (has_call e) (machine.go (machine.Decide E e s) (r ∷ rs)) (then_do (truth (quiet E) e E.frame s) f) old (progress.Ended endings.ZeroDivide) rs1 vs new plain (truth_divides old E e s f rs1 vs new plain is)
+
+pub tested_fails : (E : machine.Spot) (e : Exp) (s : ℕ) (c : Cause) (f : Bool → machine.Step) (r : machine.Rest) (rs : List machine.Rest) (old : State) (rs1 : List machine.Rest) (vs : List ℕ) (new : State) → has_call e ≡ false → quiet_forms.Fails ≡ (worth (sight old E) e).truth → Came (tested E e s f r rs) old (progress.Wild c) rs1 vs new
+tested_fails E e s c f r rs old rs1 vs new plain is =
+    came_false (has_call e) (machine.go (machine.Decide E e s) (r ∷ rs)) (then_do (truth (quiet E) e E.frame s) f) old (progress.Wild c) rs1 vs new plain (truth_fails old E e s c f rs1 vs new plain is)
+
+pub tested_calls : (E : machine.Spot) (e : Exp) (s : ℕ) (f : Bool → machine.Step) (r : machine.Rest) (rs : List machine.Rest) (old : State) (p : Progress) (rs1 : List machine.Rest) (vs : List ℕ) (new : State) → has_call e ≡ true → Came (machine.go (machine.Decide E e s) (r ∷ rs)) old p rs1 vs new → Came (tested E e s f r rs) old p rs1 vs new
+tested_calls E e s f r rs old p rs1 vs new e1 h = came_true (has_call e) (machine.go (machine.Decide E e s) (r ∷ rs)) (then_do (truth (quiet E) e E.frame s) f) old p rs1 vs new e1 h
+
+-- a conditional expression in which a call stands
+abbrev chosen : machine.Spot → (x y : Exp) → ℕ → List machine.Rest → Bool → machine.Step
+chosen E x y s rs t = choose t (machine.go (machine.Evaluate E x s) rs) (machine.go (machine.Evaluate E y s) rs)
+
+pub choice_on : (E : machine.Spot) (c x y : Exp) (s : ℕ) (rs : List machine.Rest) (old : State) (t : Bool) (p : Progress) (vs : List ℕ) → has_call c ≡ false → quiet_forms.Is t ≡ (worth (sight old E) c).truth → Came (chosen E x y s rs t) old p rs vs old → Came (evaluate_parts E (Cond c x y) s rs) old p rs vs old
+choice_on E c x y s rs old t p vs plain is h =
+    came_false (has_call c) (machine.go (machine.Decide E c s) (machine.Selects E x y s ∷ rs)) (then_do (truth (quiet E) c E.frame s) (chosen E x y s rs)) old p rs vs old plain (truth_on old E c s t (chosen E x y s rs) p rs vs old plain is h)
+
+pub choice_this : (E : machine.Spot) (c x y : Exp) (s : ℕ) (rs : List machine.Rest) (old : State) (t : Bool) (p : Progress) (vs : List ℕ) → has_call c ≡ false → quiet_forms.Is t ≡ (worth (sight old E) c).truth → t ≡ true → Came (machine.go (machine.Evaluate E x s) rs) old p rs vs old → Came (evaluate_parts E (Cond c x y) s rs) old p rs vs old
+choice_this E c x y s rs old t p vs plain is a h = choice_on E c x y s rs old t p vs plain is (came_this t (machine.go (machine.Evaluate E x s) rs) (machine.go (machine.Evaluate E y s) rs) old p rs vs old a h)
+
+pub choice_that : (E : machine.Spot) (c x y : Exp) (s : ℕ) (rs : List machine.Rest) (old : State) (t : Bool) (p : Progress) (vs : List ℕ) → has_call c ≡ false → quiet_forms.Is t ≡ (worth (sight old E) c).truth → t ≡ false → Came (machine.go (machine.Evaluate E y s) rs) old p rs vs old → Came (evaluate_parts E (Cond c x y) s rs) old p rs vs old
+choice_that E c x y s rs old t p vs plain is a h = choice_on E c x y s rs old t p vs plain is (came_that t (machine.go (machine.Evaluate E x s) rs) (machine.go (machine.Evaluate E y s) rs) old p rs vs old a h)
+
+pub choice_divides : (E : machine.Spot) (c x y : Exp) (s : ℕ) (rs : List machine.Rest) (old : State) (vs : List ℕ) → has_call c ≡ false → quiet_forms.Divides ≡ (worth (sight old E) c).truth → Came (evaluate_parts E (Cond c x y) s rs) old (progress.Ended endings.ZeroDivide) rs vs old
+choice_divides E c x y s rs old vs plain is =
+    came_false (has_call c) (machine.go (machine.Decide E c s) (machine.Selects E x y s ∷ rs)) (then_do (truth (quiet E) c E.frame s) (chosen E x y s rs)) old (progress.Ended endings.ZeroDivide) rs vs old plain (truth_divides old E c s (chosen E x y s rs) rs vs old plain is)
+
+pub choice_fails : (E : machine.Spot) (c x y : Exp) (s : ℕ) (cause : Cause) (rs : List machine.Rest) (old : State) (vs : List ℕ) → has_call c ≡ false → quiet_forms.Fails ≡ (worth (sight old E) c).truth → Came (evaluate_parts E (Cond c x y) s rs) old (progress.Wild cause) rs vs old
+choice_fails E c x y s cause rs old vs plain is =
+    came_false (has_call c) (machine.go (machine.Decide E c s) (machine.Selects E x y s ∷ rs)) (then_do (truth (quiet E) c E.frame s) (chosen E x y s rs)) old (progress.Wild cause) rs vs old plain (truth_fails old E c s cause (chosen E x y s rs) rs vs old plain is)
+
+pub choice_calls : (E : machine.Spot) (c x y : Exp) (s : ℕ) (rs : List machine.Rest) (old : State) (p : Progress) (rs1 : List machine.Rest) (vs : List ℕ) → has_call c ≡ true → Came (machine.go (machine.Decide E c s) (machine.Selects E x y s ∷ rs)) old p rs1 vs old → Came (evaluate_parts E (Cond c x y) s rs) old p rs1 vs old
+choice_calls E c x y s rs old p rs1 vs e h =
+    came_true (has_call c) (machine.go (machine.Decide E c s) (machine.Selects E x y s ∷ rs)) (then_do (truth (quiet E) c E.frame s) (chosen E x y s rs)) old p rs1 vs old e h
+
+pub ruleset of_a_choice = (choice_this, choice_that, choice_divides, choice_fails, choice_calls)

@@ -3,9 +3,8 @@ use Rattle.std.specs.Prelude.{ℕ, ◌≡◌, ◌+◌, Bool, true, false, List, 
 use Rattle.bc_machine_defs.specs.Streams.{Content}
 use Rattle.bc_core.specs.Store.{Dead, cell_at}
 use Rattle.bc_core.specs.Outcome as outcomes
-use Rattle.bc_core.specs.Outcome.{followed, in_turn, left, second_side, write}
+use Rattle.bc_core.specs.Outcome.{followed, in_turn, left, write}
 use Rattle.bc_interpret_defs.specs.Quiet as quiet
-use Rattle.bc_interpret_defs.specs.Quiet.{settled}
 use Rattle.bc_core.specs.Exit as exits
 use Rattle.bc_core.specs.Lists as lists
 use Rattle.bc_core.specs.Primitive as primitives
@@ -13,6 +12,8 @@ use Rattle.bc_core.specs.Primitive.{primitive_work}
 use Rattle.bc_interpret_quiet.specs.declared.sight.Cause.{Cause}
 use Rattle.bc_interpret_quiet.specs.declared.worth.Worth.{Worth}
 use Rattle.bc_interpret_quiet.specs.declared.worth.Worth.TheVariants as worths
+use Rattle.bc_interpret_quiet.specs.declared.worth.Truth.{Truth}
+use Rattle.bc_interpret_quiet.specs.declared.worth.Truth.TheVariants as truths
 use Rattle.bc_interpret_steps.specs.declared.state.State.{State}
 use Rattle.bc_interpret_steps.specs.declared.calls.Room.{Room}
 use Rattle.bc_interpret_steps.specs.declared.calls.Room.TheVariants as rooms
@@ -79,6 +80,15 @@ progress_of (worths.Is v) = progress.On (works.Number v)
 progress_of worths.Divides = progress.Ended endings.ZeroDivide
 progress_of (worths.Fails c) = progress.Wild c
 
+abbrev pub progress_of_truth : Truth → Progress
+progress_of_truth (truths.Is t) = progress.On (works.Verdict t)
+progress_of_truth truths.Divides = progress.Ended endings.ZeroDivide
+progress_of_truth (truths.Fails c) = progress.Wild c
+
+-- what is read there
+abbrev pub sight : State → machine.Spot → quiet.Sight
+sight st E = record { cells = st.store; address = E.address; frame = E.frame }
+
 -- what comes behind a loop's body that control leaves so
 abbrev pub IsBehind : Option Exit → exits.Exit → Type 0
 IsBehind None x = (again : machine.Step) (rs : List machine.Rest) → behind again x rs ≡ again
@@ -100,7 +110,3 @@ primitive_if (Some q) = Some (primitive_of q)
 
 abbrev pub IsPrimitive : Option Primitive → ℕ → Type 0
 IsPrimitive found a = primitive_if found ≡ primitives.primitive_among primitives.primitives a
-
--- an assignment without call, whose sides are worth these
-abbrev pub both_worth : quiet.Worth ℕ → quiet.Worth ℕ → List machine.Rest → machine.Step
-both_worth w x rs st = followed (second_side false (settled w st) (settled x) (λ word address. write address word) st) (λ u. give machine.Nothing rs)

@@ -1,4 +1,6 @@
+pub mod Along
 pub mod Arrived
+pub mod Assigns
 pub mod Came
 pub mod Code
 pub mod Sections

@@ -20,22 +20,11 @@ abbrev pub Stepped :
 Stepped program w rs old progress.Answered rs1 vs1 new = ((a : machine.Answer) × (w ≡ machine.Give a)) × (rs ≡ []) × (new ≡ old)
 Stepped program w rs old p rs1 vs1 new = Moves w rs × Came (step program w rs) old p rs1 vs1 new
 
--- whatever the program is, where what is left to do stands in the interpreter's list
-abbrev pub Works : machine.Work → (before : List Rest) → (old : State) → Progress → (after : List Rest) → (new : State) → Type 0
-Works w before old p after new = (program : List Placed) → Stepped program w (stack before) old p (stack after) (given after) new
-
--- The same of what a call answers, if memory sufficed. For proofs: what is worked on in one step,
-abbrev pub Does :
-    {E : Type 0} → machine.Work → (before : Vec Rest Global) → (old : State) → Result Progress E → (after : Vec Rest Global) → (new : State) → Type 0
-Does w before old result after new = IfOk result (λ p. Works w before.items old p after.items new)
-
--- which leaves the state alone
-abbrev pub Leads : {E : Type 0} → machine.Work → (before : Vec Rest Global) → Result Progress E → (after : Vec Rest Global) → Type 0
-Leads w before result after = (st : State) → Does w before st result after st
-
--- and what is left to do,
-abbrev pub Begins : {E : Type 0} → machine.Work → Result Progress E → Type 0
-Begins w result = (program : List Placed) (st : State) (rs : List machine.Rest) (vs : List ℕ) → IfOk result (λ p. Stepped program w rs st p rs vs st)
+-- The same of what a call answers, if memory sufficed. For proofs: what came of a step that is given what is left to do,
+abbrev pub Proceeds :
+    {E : Type 0}
+    → (List machine.Rest → machine.Step) → (before : Vec Rest Global) → (old : State) → Result Progress E → (after : Vec Rest Global) → (new : State) → Type 0
+Proceeds f before old result after new = IfOk result (λ p. Goes f before.items old p after.items new)
 
 -- an answer that is taken by what is left to do first,
 abbrev pub Takes :

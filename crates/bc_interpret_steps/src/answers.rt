@@ -50,7 +50,7 @@ pub(crate) fn give_verdict<'c>(
 {
     match stacks.take() {
         None => Ok(Progress::Answered),
-        Some(Rest::Truth(rest)) => Ok(truth_taken(&rest, t, &mut stacks.rests, state)?),
+        Some(Rest::Truth(rest)) => Ok(truth_taken(&rest, t, stacks, state)?),
         Some(Rest::Closes(count, from)) => {
             state.store.close(count, from);
             Ok(Progress::On(Work::Verdict(t)))
@@ -103,7 +103,7 @@ pub(crate) fn give_exit<'c>(
 {
     match stacks.take() {
         None => Ok(Progress::Answered),
-        Some(Rest::Exit(rest)) => Ok(exit_taken(&rest, exit, &mut stacks.rests, state)?),
+        Some(Rest::Exit(rest)) => Ok(exit_taken(&rest, exit, stacks, state)?),
         Some(Rest::Closes(count, from)) => {
             state.store.close(count, from);
             Ok(Progress::On(Work::Left(exit)))

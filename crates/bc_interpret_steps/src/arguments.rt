@@ -1,36 +1,120 @@
 // The arguments of calls.
 
-ghost use Rattle.std.specs.Prelude.{OnOk};
-ghost use Rattle.bc_interpret_steps.specs.declared.forms.Work.TheVariants as works;
-ghost use Rattle.bc_interpret_steps.specs.Code.{work_of, given, Gathered, IsGiven, Taken};
-ghost use Rattle.bc_interpret_steps.specs.Stepped.{Leads};
+ghost use Rattle.std.specs.Prelude.{◌≡◌, ◌∷◌, OnOk, IfOk};
+ghost use Rattle.bc_core.specs.View.{exp, args};
+ghost use Rattle.bc_interpret_defs.specs.Machine as machine;
+ghost use Rattle.bc_interpret_steps.specs.Code.{spot_of, given_for, stack, given, Gathered, IsGiven, Taken};
+ghost use Rattle.bc_interpret_steps.specs.Arrived.{Argued, ArguedLast, IsGivenOne};
+ghost use Rattle.bc_interpret_steps.specs.Stepped.{Proceeds};
 
-use crate::forms::{Arguments, Progress, Work};
+use crate::evaluate::{settled, worth_at};
+use crate::forms::{Arguments, Ending, Progress, Work};
 use crate::rests::{NumberRest, Rest, above, put, take};
-use crate::state::Stacks;
+use crate::state::{Stacks, State};
+use bc_core::CoreExp;
+use bc_interpret_quiet::Worth;
 use bc_word::Memory;
 
-/// One step into the arguments that are left, and then into the routine's value.
+/// One step into the arguments that are left, and then into the routine's value. Those with no call in them are worked out at once.
 pub(crate) fn argue<'c>(
     arguments: Arguments<'c>,
-    rests: &mut Vec<Rest<'c>>,
+    stacks: &mut Stacks<'c>,
+    state: &State,
 ) -> Result<Progress<'c>, Memory>
-    ensures { Leads (work_of (given rests.old.items) (works.Argue arguments.entry)) rests.old result rests.new }
+    ensures { Proceeds (Argued arguments.entry stacks.old.rests.items) stacks.old.rests state.now result stacks.new.rests state.now }
 {
-    match arguments.left {
-        [] => {
-            let frame = above(arguments.spot.frame, arguments.s)?;
-            let level = above(above(arguments.s, 2)?, arguments.count)?;
-            put(Rest::Calls(arguments.fresh, frame), rests)?;
-            Ok(Progress::On(Work::Evaluate(arguments.spot, arguments.routine, level)))
+    let mut now = arguments;
+    while let [first, behind @ ..] = now.left {
+        let given = give_argument(now, first, behind, stacks, state)?;
+        match given {
+            Given::One(next) => now = next,
+            Given::Over(progress) => return Ok(progress),
         }
-        [first, left @ ..] => {
-            put(
-                Rest::Number(NumberRest::Argues(Arguments { left, ..arguments })),
-                rests,
-            )?;
-            Ok(Progress::On(Work::Evaluate(arguments.spot, first, arguments.level)))
+    }
+    Ok(argue_routine(now, stacks, state)?)
+}
+
+/// What comes of an argument.
+#[derive(Clone, Copy)]
+enum Given<'c> {
+    /// It is given, and these are left.
+    One(Arguments<'c>),
+    Over(Progress<'c>),
+}
+
+/// The first argument of those that are left, with the others.
+#[inline(always)]
+#[tactic(auto, using(crate::proofs::Argues::of_an_argument))]
+fn give_argument<'c>(
+    arguments: Arguments<'c>,
+    first: &'c CoreExp,
+    behind: &'c [CoreExp],
+    stacks: &mut Stacks<'c>,
+    state: &State,
+) -> Result<Given<'c>, Memory>
+    ensures { IfOk result (λ given. IsGivenOne arguments.entry first.now behind.now stacks.old.rests.items state.now given stacks.new.rests.items) }
+{
+    match worth_at(&arguments.spot, first, &mut stacks.room, state)? {
+        Some(Worth::Is(v)) => {
+            put(Rest::Given(v, arguments.fresh), &mut stacks.rests)?;
+            Ok(Given::One(Arguments {
+                left: behind,
+                level: above(arguments.level, 1)?,
+                fresh: false,
+                ..arguments
+            }))
         }
+        Some(Worth::Divides) => {
+            put_argues(arguments, behind, &mut stacks.rests)?;
+            Ok(Given::Over(Progress::Ended(Ending::ZeroDivide)))
+        }
+        Some(Worth::Fails(cause)) => {
+            put_argues(arguments, behind, &mut stacks.rests)?;
+            Ok(Given::Over(Progress::Wild(cause)))
+        }
+        None => {
+            put_argues(arguments, behind, &mut stacks.rests)?;
+            Ok(Given::Over(Progress::On(Work::Evaluate(arguments.spot, first, arguments.level))))
+        }
+    }
+}
+
+/// Puts what is left to do behind the first argument.
+fn put_argues<'c>(
+    arguments: Arguments<'c>,
+    behind: &'c [CoreExp],
+    rests: &mut Vec<Rest<'c>>,
+) -> Result<(), Memory>
+    ensures { OnOk result (stack rests.new.items
+        ≡ machine.Argues (spot_of arguments.entry.spot) (given_for arguments.entry.fresh (given rests.old.items)) (args behind.now) arguments.entry.level
+        (exp arguments.entry.routine.now) arguments.entry.count arguments.entry.s ∷ stack rests.old.items) }
+{
+    put(
+        Rest::Number(NumberRest::Argues(Arguments {
+            left: behind,
+            ..arguments
+        })),
+        rests,
+    )?;
+    Ok(())
+}
+
+/// One step into the routine's value, where all arguments are given.
+#[inline(always)]
+#[tactic(auto, using(crate::proofs::Argues::last_valued, crate::proofs::Argues::last_calls))]
+fn argue_routine<'c>(
+    arguments: Arguments<'c>,
+    stacks: &mut Stacks<'c>,
+    state: &State,
+) -> Result<Progress<'c>, Memory>
+    ensures { Proceeds (ArguedLast arguments.entry stacks.old.rests.items) stacks.old.rests state.now result stacks.new.rests state.now }
+{
+    let frame = above(arguments.spot.frame, arguments.s)?;
+    let level = above(above(arguments.s, 2)?, arguments.count)?;
+    put(Rest::Calls(arguments.fresh, frame), &mut stacks.rests)?;
+    match worth_at(&arguments.spot, arguments.routine, &mut stacks.room, state)? {
+        Some(worth) => Ok(settled(worth)),
+        None => Ok(Progress::On(Work::Evaluate(arguments.spot, arguments.routine, level))),
     }
 }
 

@@ -1,22 +1,28 @@
 // One step into a command or a block.
 
-ghost use Rattle.std.specs.Prelude.{◌≡◌, ℕ, List, [], map, IfOk};
+ghost use Rattle.std.specs.Prelude.{◌≡◌, ◌∷◌, map, IfOk};
 ghost use Rattle.bc_word.specs.Words.{holds};
+ghost use Rattle.bc_core.specs.Exit.{Past};
+ghost use Rattle.bc_core.specs.Outcome.{choose};
 ghost use Rattle.bc_core.specs.Loop.{end_relation};
 ghost use Rattle.bc_interpret_defs.specs.Machine as machine;
-ghost use Rattle.bc_core.specs.Level.{cells_of as cells_of_variable, cells_of_all as cells_of_variables, cells_declared as cells_of_declarations};
-ghost use Rattle.bc_core.specs.View.{exp, variable, declarations as declarations_view, command as command_view, block_of};
-ghost use Rattle.bc_interpret_steps.specs.declared.forms.Work.TheVariants as works;
-ghost use Rattle.bc_interpret_steps.specs.Code.{spot_of, work_of};
-ghost use Rattle.bc_interpret_quiet.specs.Views.{seen};
-ghost use Rattle.bc_interpret_steps.specs.Came.{Came, both_worth};
-ghost use Rattle.bc_interpret_steps.specs.Stepped.{Does, Leads, Begins};
+ghost use Rattle.bc_core.specs.Level.{level_in_for, cells_of as cells_of_variable, cells_of_all as cells_of_variables, cells_declared as cells_of_declarations};
+ghost use Rattle.bc_core.specs.View.{exp, variable, declarations as declarations_view, command as command_view, items as items_view, block_of};
+ghost use Rattle.bc_core.specs.Commands as commands;
+ghost use Rattle.bc_interpret_steps.specs.declared.rests.TruthRest.TheVariants as truth_rests;
+ghost use Rattle.bc_interpret_steps.specs.declared.state.State.{State as StateValue};
+ghost use Rattle.bc_interpret_steps.specs.Code.{spot_of, value_rest, truth_rest};
+ghost use Rattle.bc_interpret_steps.specs.Stepped.{Proceeds};
 
+use crate::assign::{Assigned, assign_at_once};
+use crate::evaluate::{decide, evaluate, truth_at};
 use crate::forms::{Ending, Entry, Exit, Progress, Spot, Work};
+use crate::lists::listing;
 use crate::rests::{ExitRest, NothingRest, Rest, TruthRest, ValueRest, above, put};
 use crate::state::{Stacks, State, put_word, turn};
+use crate::truths::agrees;
 use bc_core::{Block, Command, Condition, CoreExp, Declaration, ListItem, Variable, operand};
-use bc_interpret_quiet::{Cause, Sight, Worth, cell_of, has_call, value_of};
+use bc_interpret_quiet::{Cause, Truth, cell_of};
 use bc_interpret_store::Cell;
 use bc_word::Memory;
 
@@ -26,34 +32,35 @@ pub(crate) fn perform<'c>(
     spot: Spot<'c>,
     command: &'c Command,
     s: usize,
-    rests: &mut Vec<Rest<'c>>,
+    stacks: &mut Stacks<'c>,
     state: &mut State,
 ) -> Result<Progress<'c>, Memory>
-    ensures { Does (machine.Perform (spot_of spot.entry) (command_view command.now) s) rests.old state.old result rests.new state.new }
+    ensures { Proceeds (machine.perform_step (spot_of spot.entry) (command_view command.now) s) stacks.old.rests state.old result stacks.new.rests state.new }
 {
     match command {
-        Command::Call(call) => {
-            put(Rest::Value(ValueRest::Drops), rests)?;
-            Ok(Progress::On(Work::Evaluate(spot, call, s)))
-        }
+        Command::Call(call) => Ok(behind_value(ValueRest::Drops, spot, call, s, stacks, state)?),
         Command::Assign { value, address } => {
-            put(Rest::Nothing(NothingRest::Passes), rests)?;
+            put(Rest::Nothing(NothingRest::Passes), &mut stacks.rests)?;
             Ok(Progress::On(Work::Store(spot, value, address, s)))
         }
-        Command::If(condition, body) => {
-            put(
-                Rest::Truth(TruthRest::Ifs(spot, condition.sense, body, s)),
-                rests,
-            )?;
-            Ok(Progress::On(Work::Decide(spot, &condition.test, s)))
-        }
-        Command::Test(test, this, that) => {
-            put(Rest::Truth(TruthRest::Chooses(spot, this, that, s)), rests)?;
-            Ok(Progress::On(Work::Decide(spot, test, s)))
-        }
-        Command::While(condition, body) => while_loop(spot, condition, body, s, rests),
-        Command::Repeat(body) => repeat(spot, body, s, rests),
-        Command::RepeatWhile(body, condition) => repeat_while(spot, body, condition, s, rests),
+        Command::If(condition, body) => Ok(if_so(spot, condition, body, s, stacks, state)?),
+        Command::Test(test, this, that) => Ok(test_which(
+            spot,
+            test,
+            (this, that),
+            s,
+            stacks,
+            state,
+        )?),
+        Command::While(condition, body) => Ok(while_loop(spot, condition, body, s, stacks, state)?),
+        Command::Repeat(body) => Ok(repeat(spot, body, s, &mut stacks.rests)?),
+        Command::RepeatWhile(body, condition) => Ok(repeat_while(
+            spot,
+            body,
+            condition,
+            s,
+            &mut stacks.rests,
+        )?),
         Command::For {
             start,
             limit,
@@ -62,29 +69,37 @@ pub(crate) fn perform<'c>(
         } => {
             let cell = above(spot.frame, s)?;
             state.store.open(1, cell);
-            put(Rest::Closes(1, cell), rests)?;
+            put(Rest::Closes(1, cell), &mut stacks.rests)?;
             put(
                 Rest::Nothing(NothingRest::Limits(spot, limit, by.get(), body, s)),
-                rests,
+                &mut stacks.rests,
             )?;
             put(
                 Rest::Value(ValueRest::StoresAt(cell_of(spot.frame, s)?)),
-                rests,
+                &mut stacks.rests,
             )?;
             Ok(Progress::On(Work::Evaluate(spot, start, above(s, 2)?)))
         }
-        Command::SwitchOn(value, items) => {
-            put(Rest::Value(ValueRest::Switches(spot, items, s)), rests)?;
-            Ok(Progress::On(Work::Evaluate(spot, value, s)))
-        }
+        Command::SwitchOn(value, items) => Ok(behind_value(
+            ValueRest::Switches(spot, items, s),
+            spot,
+            value,
+            s,
+            stacks,
+            state,
+        )?),
         Command::Break => Ok(Progress::On(Work::Left(Exit::Broke))),
         Command::Loop => Ok(Progress::On(Work::Left(Exit::Looped))),
         Command::EndCase => Ok(Progress::On(Work::Left(Exit::LeftCases))),
         Command::Return => Ok(Progress::On(Work::Left(Exit::Returned))),
-        Command::ResultIs(value) => {
-            put(Rest::Value(ValueRest::Leaves), rests)?;
-            Ok(Progress::On(Work::Evaluate(spot, value, s)))
-        }
+        Command::ResultIs(value) => Ok(behind_value(
+            ValueRest::Leaves,
+            spot,
+            value,
+            s,
+            stacks,
+            state,
+        )?),
         Command::Finish => Ok(Progress::Ended(Ending::Finished)),
         Command::Goto(label) => {
             if !turn(state) {
@@ -92,25 +107,213 @@ pub(crate) fn perform<'c>(
             }
             Ok(Progress::On(Work::Left(Exit::Jumped(*label))))
         }
-        Command::Nested(body) => Ok(Progress::On(Work::Enter(spot, body, s))),
+        Command::Nested(body) => Ok(enter(spot, body, s, stacks, state)?),
+    }
+}
+
+/// One step into an expression in front of this.
+fn behind_value<'c>(
+    rest: ValueRest<'c>,
+    spot: Spot<'c>,
+    e: &'c CoreExp,
+    s: usize,
+    stacks: &mut Stacks<'c>,
+    state: &State,
+) -> Result<Progress<'c>, Memory>
+    ensures { Proceeds (λ rs. machine.evaluate (spot_of spot.entry) (exp e.now) s (value_rest rest.entry ∷ rs)) stacks.old.rests state.now result
+        stacks.new.rests state.now }
+{
+    put(Rest::Value(rest), &mut stacks.rests)?;
+    Ok(evaluate(spot, e, s, stacks, state)?)
+}
+
+/// One step into a TEST.
+fn test_which<'c>(
+    spot: Spot<'c>,
+    test: &'c CoreExp,
+    branches: (&'c Block, &'c Block),
+    s: usize,
+    stacks: &mut Stacks<'c>,
+    state: &State,
+) -> Result<Progress<'c>, Memory>
+    ensures { Proceeds (λ rs. machine.decide (spot_of spot.entry) (exp test.now) s
+        (truth_rest (truth_rests.Chooses spot.entry branches.entry.0 branches.entry.1 s) ∷ rs)) stacks.old.rests state.now result stacks.new.rests state.now }
+{
+    let (this, that) = branches;
+    put(
+        Rest::Truth(TruthRest::Chooses(spot, this, that, s)),
+        &mut stacks.rests,
+    )?;
+    Ok(decide(spot, test, s, stacks, state)?)
+}
+
+/// Into the body of an IF or UNLESS whose condition holds, or past it.
+#[inline(always)]
+#[tactic(auto, using(crate::proofs::Quiet::came_this, crate::proofs::Quiet::came_that))]
+pub(crate) fn enter_if<'c>(
+    holds: bool,
+    spot: Spot<'c>,
+    body: &'c Block,
+    s: usize,
+    stacks: &mut Stacks<'c>,
+    state: &mut State,
+) -> Result<Progress<'c>, Memory>
+    ensures { Proceeds (λ rs. choose holds (machine.enter (spot_of spot.entry) (block_of body.now) s rs) (machine.give (machine.Left Past) rs))
+        stacks.old.rests state.old result stacks.new.rests state.new }
+{
+    if holds {
+        return Ok(enter(spot, body, s, stacks, state)?);
+    }
+    Ok(Progress::On(Work::Left(Exit::Past)))
+}
+
+/// Into one of two blocks: the first where this is true.
+#[inline(always)]
+#[tactic(auto, using(crate::proofs::Quiet::came_this, crate::proofs::Quiet::came_that))]
+pub(crate) fn enter_either<'c>(
+    t: bool,
+    spot: Spot<'c>,
+    branches: (&'c Block, &'c Block),
+    s: usize,
+    stacks: &mut Stacks<'c>,
+    state: &mut State,
+) -> Result<Progress<'c>, Memory>
+    ensures { Proceeds (λ rs. choose t (machine.enter (spot_of spot.entry) (block_of branches.entry.0.now) s rs)
+        (machine.enter (spot_of spot.entry) (block_of branches.entry.1.now) s rs)) stacks.old.rests state.old result stacks.new.rests state.new }
+{
+    let (this, that) = branches;
+    if t {
+        return Ok(enter(spot, this, s, stacks, state)?);
+    }
+    Ok(enter(spot, that, s, stacks, state)?)
+}
+
+/// Into the body of a WHILE or UNTIL, behind which the loop goes on.
+#[inline(always)]
+fn while_body<'c>(
+    spot: Spot<'c>,
+    condition: &'c Condition,
+    body: &'c Block,
+    s: usize,
+    stacks: &mut Stacks<'c>,
+    state: &mut State,
+) -> Result<Progress<'c>, Memory>
+    ensures { Proceeds (λ rs. machine.enter (spot_of spot.entry) (block_of body.now) s (machine.WhileBody (spot_of spot.entry) condition.now.sense
+        (exp condition.now.test) (block_of body.now) s ∷ rs)) stacks.old.rests state.old result stacks.new.rests state.new }
+{
+    put(
+        Rest::Exit(ExitRest::WhileBody(spot, condition, body, s)),
+        &mut stacks.rests,
+    )?;
+    Ok(enter(spot, body, s, stacks, state)?)
+}
+
+/// Into the body of a WHILE or UNTIL whose condition holds, or past the loop.
+#[inline(always)]
+#[tactic(auto, using(crate::proofs::Quiet::came_this, crate::proofs::Quiet::came_that))]
+pub(crate) fn enter_while<'c>(
+    holds: bool,
+    spot: Spot<'c>,
+    condition: &'c Condition,
+    body: &'c Block,
+    s: usize,
+    stacks: &mut Stacks<'c>,
+    state: &mut State,
+) -> Result<Progress<'c>, Memory>
+    ensures { Proceeds (λ rs. choose holds (machine.enter (spot_of spot.entry) (block_of body.now) s (machine.WhileBody (spot_of spot.entry)
+        condition.now.sense (exp condition.now.test) (block_of body.now) s ∷ rs)) (machine.give (machine.Left Past) rs))
+        stacks.old.rests state.old result stacks.new.rests state.new }
+{
+    if holds {
+        return Ok(while_body(spot, condition, body, s, stacks, state)?);
+    }
+    Ok(Progress::On(Work::Left(Exit::Past)))
+}
+
+/// One step into an IF or UNLESS.
+#[inline(always)]
+#[tactic(auto, using(crate::proofs::Tests::if_calls))]
+fn if_so<'c>(
+    spot: Spot<'c>,
+    condition: &'c Condition,
+    body: &'c Block,
+    s: usize,
+    stacks: &mut Stacks<'c>,
+    state: &mut State,
+) -> Result<Progress<'c>, Memory>
+    ensures { Proceeds (machine.perform_step (spot_of spot.entry) (commands.If condition.now.sense (exp condition.now.test) (block_of body.now)) s)
+        stacks.old.rests state.old result stacks.new.rests state.new }
+{
+    match truth_at(&spot, &condition.test, &mut stacks.room, state)? {
+        Some(Truth::Is(t)) => {
+            let holds = agrees(condition.sense, t);
+            Ok(enter_if(holds, spot, body, s, stacks, state)?)
+        }
+        Some(Truth::Divides) => {
+            put(
+                Rest::Truth(TruthRest::Ifs(spot, condition.sense, body, s)),
+                &mut stacks.rests,
+            )?;
+            Ok(Progress::Ended(Ending::ZeroDivide))
+        }
+        Some(Truth::Fails(cause)) => {
+            put(
+                Rest::Truth(TruthRest::Ifs(spot, condition.sense, body, s)),
+                &mut stacks.rests,
+            )?;
+            Ok(Progress::Wild(cause))
+        }
+        None => {
+            put(
+                Rest::Truth(TruthRest::Ifs(spot, condition.sense, body, s)),
+                &mut stacks.rests,
+            )?;
+            Ok(Progress::On(Work::Decide(spot, &condition.test, s)))
+        }
     }
 }
 
 /// One step into a WHILE or UNTIL.
+#[inline(always)]
+#[tactic(auto, using(crate::proofs::Tests::while_calls))]
 pub(crate) fn while_loop<'c>(
     spot: Spot<'c>,
     condition: &'c Condition,
     body: &'c Block,
     s: usize,
-    rests: &mut Vec<Rest<'c>>,
+    stacks: &mut Stacks<'c>,
+    state: &mut State,
 ) -> Result<Progress<'c>, Memory>
-    ensures { Leads (work_of [] (works.While spot.entry condition.entry body.entry s)) rests.old result rests.new }
+    ensures { Proceeds (machine.perform_step (spot_of spot.entry) (commands.While condition.now.sense (exp condition.now.test) (block_of body.now)) s)
+        stacks.old.rests state.old result stacks.new.rests state.new }
 {
-    put(
-        Rest::Truth(TruthRest::Whiles(spot, condition, body, s)),
-        rests,
-    )?;
-    Ok(Progress::On(Work::Decide(spot, &condition.test, s)))
+    match truth_at(&spot, &condition.test, &mut stacks.room, state)? {
+        Some(Truth::Is(t)) => {
+            let holds = agrees(condition.sense, t);
+            Ok(enter_while(holds, spot, condition, body, s, stacks, state)?)
+        }
+        Some(Truth::Divides) => {
+            put(
+                Rest::Truth(TruthRest::Whiles(spot, condition, body, s)),
+                &mut stacks.rests,
+            )?;
+            Ok(Progress::Ended(Ending::ZeroDivide))
+        }
+        Some(Truth::Fails(cause)) => {
+            put(
+                Rest::Truth(TruthRest::Whiles(spot, condition, body, s)),
+                &mut stacks.rests,
+            )?;
+            Ok(Progress::Wild(cause))
+        }
+        None => {
+            put(
+                Rest::Truth(TruthRest::Whiles(spot, condition, body, s)),
+                &mut stacks.rests,
+            )?;
+            Ok(Progress::On(Work::Decide(spot, &condition.test, s)))
+        }
+    }
 }
 
 /// One step into a REPEAT.
@@ -120,7 +323,8 @@ pub(crate) fn repeat<'c>(
     s: usize,
     rests: &mut Vec<Rest<'c>>,
 ) -> Result<Progress<'c>, Memory>
-    ensures { Leads (work_of [] (works.Repeat spot.entry body.entry s)) rests.old result rests.new }
+    ensures { (st : StateValue) → Proceeds (machine.perform_step (spot_of spot.entry) (commands.Repeat (block_of body.now)) s) rests.old st result
+        rests.new st }
 {
     put(Rest::Exit(ExitRest::RepeatBody(spot, body, s)), rests)?;
     Ok(Progress::On(Work::Enter(spot, body, s)))
@@ -134,7 +338,8 @@ pub(crate) fn repeat_while<'c>(
     s: usize,
     rests: &mut Vec<Rest<'c>>,
 ) -> Result<Progress<'c>, Memory>
-    ensures { Leads (work_of [] (works.RepeatWhile spot.entry body.entry condition.entry s)) rests.old result rests.new }
+    ensures { (st : StateValue) → Proceeds (machine.perform_step (spot_of spot.entry) (commands.RepeatWhile (block_of body.now) condition.now.sense (exp
+        condition.now.test)) s) rests.old st result rests.new st }
 {
     put(
         Rest::Exit(ExitRest::RepeatWhileBody(spot, body, condition, s)),
@@ -143,30 +348,7 @@ pub(crate) fn repeat_while<'c>(
     Ok(Progress::On(Work::Enter(spot, body, s)))
 }
 
-/// What comes of an assignment of a value that is worth this to an address that is worth that.
-#[tactic(auto, using(crate::proofs::Quiet::put_there, crate::proofs::Quiet::not_put))]
-fn assigned<'c>(word: Worth, place: Worth, state: &mut State) -> Progress<'c>
-    ensures { (rs : List machine.Rest) (vs : List ℕ) → Came (both_worth (seen word) (seen place) rs) state.old result rs vs state.new }
-{
-    match word {
-        Worth::Fails(cause) => Progress::Wild(cause),
-        Worth::Divides => match place {
-            Worth::Fails(cause) => Progress::Wild(cause),
-            Worth::Is(_) | Worth::Divides => Progress::Ended(Ending::ZeroDivide),
-        },
-        Worth::Is(w) => match place {
-            Worth::Fails(cause) => Progress::Wild(cause),
-            Worth::Divides => Progress::Ended(Ending::ZeroDivide),
-            Worth::Is(a) => match put_word(state, a, w) {
-                None => Progress::On(Work::Nothing),
-                Some(cause) => Progress::Wild(cause),
-            },
-        },
-    }
-}
-
-/// One step into an assignment. With no call in it, it is done at once: a wild access in its second side outweighs a zero divisor in the
-/// first.
+/// One step into an assignment. With no call in it, it is done at once.
 pub(crate) fn store<'c>(
     spot: Spot<'c>,
     value: &'c CoreExp,
@@ -175,29 +357,25 @@ pub(crate) fn store<'c>(
     stacks: &mut Stacks<'c>,
     state: &mut State,
 ) -> Result<Progress<'c>, Memory>
-    ensures { Does (machine.Store (spot_of spot.entry) (exp value.now) (exp address.now) s) stacks.old.rests state.old result stacks.new.rests state.new }
+    ensures { Proceeds (machine.store (spot_of spot.entry) (exp value.now) (exp address.now) s) stacks.old.rests state.old result stacks.new.rests state.new }
 {
-    let in_value = has_call(value, &mut stacks.waiting)?;
-    if in_value || has_call(address, &mut stacks.waiting)? {
-        put(
-            Rest::Value(ValueRest::Stores(spot, address, s)),
-            &mut stacks.rests,
-        )?;
-        let level = if operand(address).is_some() {
-            s
-        } else {
-            above(s, 1)?
-        };
-        return Ok(Progress::On(Work::Evaluate(spot, value, level)));
+    match assign_at_once(&spot, value, address, &mut stacks.room, state)? {
+        Some(Assigned::Done) => Ok(Progress::On(Work::Nothing)),
+        Some(Assigned::Divides) => Ok(Progress::Ended(Ending::ZeroDivide)),
+        Some(Assigned::Fails(cause)) => Ok(Progress::Wild(cause)),
+        None => {
+            put(
+                Rest::Value(ValueRest::Stores(spot, address, s)),
+                &mut stacks.rests,
+            )?;
+            let level = if operand(address).is_some() {
+                s
+            } else {
+                above(s, 1)?
+            };
+            Ok(Progress::On(Work::Evaluate(spot, value, level)))
+        }
     }
-    let sight = Sight {
-        store: &state.store,
-        addresses: spot.addresses,
-        frame: spot.frame,
-    };
-    let word = value_of(&sight, value, &mut stacks.quiet)?;
-    let place = value_of(&sight, address, &mut stacks.quiet)?;
-    Ok(assigned(word, place, state))
 }
 
 /// How many cells a variable takes: its own, and those of its vector.
@@ -237,11 +415,25 @@ fn cells_declared(declarations: &[Declaration]) -> Result<usize, Memory>
 }
 
 /// One step into a block.
-pub(crate) fn enter<'c>(spot: Spot<'c>, block: &'c Block, s: usize) -> Result<Progress<'c>, Memory>
-    ensures { Begins (machine.Enter (spot_of spot.entry) (block_of block.now) s) result }
+#[inline(always)]
+pub(crate) fn enter<'c>(
+    spot: Spot<'c>,
+    block: &'c Block,
+    s: usize,
+    stacks: &mut Stacks<'c>,
+    state: &mut State,
+) -> Result<Progress<'c>, Memory>
+    ensures { Proceeds (machine.enter (spot_of spot.entry) (block_of block.now) s) stacks.old.rests state.old result stacks.new.rests state.new }
 {
     let level = above(s, cells_declared(&block.declarations)?)?;
-    Ok(Progress::On(Work::Declare(spot, &block.declarations, &block.list, s, level)))
+    Ok(declare(
+        spot,
+        &block.declarations,
+        &block.list,
+        (s, level),
+        stacks,
+        state,
+    )?)
 }
 
 /// One step into the declarations of a block, from here on and at the first of these levels, and then into its list at the second.
@@ -250,26 +442,30 @@ pub(crate) fn declare<'c>(
     declarations: &'c [Declaration],
     items: &'c [ListItem],
     levels: (usize, usize),
-    rests: &mut Vec<Rest<'c>>,
+    stacks: &mut Stacks<'c>,
     state: &mut State,
 ) -> Result<Progress<'c>, Memory>
-    ensures { Does (work_of [] (works.Declare spot.entry declarations.entry items.entry levels.0 levels.1)) rests.old state.old result rests.new state.new }
+    ensures { Proceeds (machine.declare_step (spot_of spot.entry) (declarations_view declarations.now) (items_view items.now) levels.0 levels.1)
+        stacks.old.rests state.old result stacks.new.rests state.new }
 {
     let (s, level) = levels;
     match declarations {
         [] => {
-            put(Rest::Exit(ExitRest::Listed(spot, items, level)), rests)?;
-            Ok(Progress::On(Work::Listing(spot, items, level, Entry::Beginning)))
+            put(
+                Rest::Exit(ExitRest::Listed(spot, items, level)),
+                &mut stacks.rests,
+            )?;
+            Ok(listing(spot, items, level, Entry::Beginning, stacks, state)?)
         }
         [first, left @ ..] => {
             let cells = cells_of_all(&first.variables)?;
             let from = above(spot.frame, s)?;
             let behind = above(s, cells)?;
             state.store.open(cells, from);
-            put(Rest::Closes(cells, from), rests)?;
+            put(Rest::Closes(cells, from), &mut stacks.rests)?;
             put(
                 Rest::Nothing(NothingRest::Declares(spot, left, items, behind, level)),
-                rests,
+                &mut stacks.rests,
             )?;
             Ok(Progress::On(Work::Initialise(spot, &first.variables, s, behind)))
         }
@@ -285,7 +481,7 @@ pub(crate) fn initialise<'c>(
     rests: &mut Vec<Rest<'c>>,
     state: &mut State,
 ) -> Result<Progress<'c>, Memory>
-    ensures { Does (machine.Initialise (spot_of spot.entry) (map variable variables.now) k s) rests.old state.old result rests.new state.new }
+    ensures { Proceeds (machine.initialise_step (spot_of spot.entry) (map variable variables.now) k s) rests.old state.old result rests.new state.new }
 {
     match variables {
         [] => Ok(Progress::On(Work::Nothing)),
@@ -324,17 +520,17 @@ fn is_past(by: u16, value: u16, limit: u16) -> bool
 }
 
 /// One step into a FOR whose limit is held, from its test on.
-#[tactic(auto, using(crate::proofs::Loops::round_dead, crate::proofs::Loops::round_unset, crate::proofs::Loops::round_past, crate::proofs::Loops::round_on))]
+#[tactic(auto, using(crate::proofs::Loops::round_dead, crate::proofs::Loops::round_unset, crate::proofs::Loops::round_past, crate::proofs::Loops::round_goes))]
 pub(crate) fn round<'c>(
     spot: Spot<'c>,
     limit: u16,
     by: u16,
     body: &'c Block,
     s: usize,
-    rests: &mut Vec<Rest<'c>>,
-    state: &State,
+    stacks: &mut Stacks<'c>,
+    state: &mut State,
 ) -> Result<Progress<'c>, Memory>
-    ensures { Does (machine.Round (spot_of spot.entry) limit by (block_of body.now) s) rests.old state.now result rests.new state.now }
+    ensures { Proceeds (machine.round_step (spot_of spot.entry) limit by (block_of body.now) s) stacks.old.rests state.old result stacks.new.rests state.new }
 {
     let address = cell_of(spot.frame, s)?;
     match state.store.at(address) {
@@ -344,12 +540,29 @@ pub(crate) fn round<'c>(
             if is_past(by, value, limit) {
                 return Ok(Progress::On(Work::Left(Exit::Past)));
             }
-            let level = above(s, 2)?;
-            put(
-                Rest::Exit(ExitRest::ForBody(spot, limit, by, body, s)),
-                rests,
-            )?;
-            Ok(Progress::On(Work::Enter(spot, body, level)))
+            Ok(for_body(spot, (limit, by), body, s, stacks, state)?)
         }
     }
+}
+
+/// Into the body of a FOR with this limit and this step, behind which the loop goes on.
+#[inline(always)]
+fn for_body<'c>(
+    spot: Spot<'c>,
+    bounds: (u16, u16),
+    body: &'c Block,
+    s: usize,
+    stacks: &mut Stacks<'c>,
+    state: &mut State,
+) -> Result<Progress<'c>, Memory>
+    ensures { Proceeds (λ rs. machine.enter (spot_of spot.entry) (block_of body.now) (level_in_for s) (machine.ForBody (spot_of spot.entry) bounds.0
+        bounds.1 (block_of body.now) s ∷ rs)) stacks.old.rests state.old result stacks.new.rests state.new }
+{
+    let (limit, by) = bounds;
+    let level = above(s, 2)?;
+    put(
+        Rest::Exit(ExitRest::ForBody(spot, limit, by, body, s)),
+        &mut stacks.rests,
+    )?;
+    Ok(enter(spot, body, level, stacks, state)?)
 }

@@ -1,22 +1,68 @@
 // One step into an expression.
 
-ghost use Rattle.std.specs.Prelude.{◌≡◌};
-ghost use Rattle.bc_core.specs.View.{exp};
+ghost use Rattle.std.specs.Prelude.{◌≡◌, IfOk};
+ghost use Rattle.bc_core.specs.View.{exp, args};
 ghost use Rattle.bc_core.specs.Tree as tree;
 ghost use Rattle.bc_interpret_defs.specs.Machine as machine;
 ghost use Rattle.bc_interpret_steps.specs.Code.{spot_of};
-ghost use Rattle.bc_interpret_steps.specs.Came.{progress_of};
-ghost use Rattle.bc_interpret_steps.specs.Stepped.{Does, Leads};
+ghost use Rattle.bc_interpret_quiet.specs.Views.{IsWorth, IsTruth};
+ghost use Rattle.bc_interpret_steps.specs.declared.state.State.{State as StateValue};
+ghost use Rattle.bc_interpret_steps.specs.Came.{progress_of, progress_of_truth, sight};
+ghost use Rattle.bc_interpret_steps.specs.Stepped.{Proceeds};
 
+use crate::arguments::argue;
 use crate::forms::{Arguments, Ending, Progress, Spot, Work};
 use crate::rests::{ExitRest, NumberRest, Rest, TruthRest, above, put};
 use crate::state::{Stacks, State};
 use bc_core::CoreExp;
-use bc_interpret_quiet::{Cause, Sight, Worth, cell_of, has_call, value_of};
+use bc_interpret_quiet::{Cause, Room, Sight, Truth, Worth, truth_of, worth_of};
 use bc_word::{Memory, Op};
 
+/// What an expression is worth, or none where a call stands in it.
+///
+/// `Memory` comes where an allocation was refused.
+#[inline(always)]
+pub(crate) fn worth_at<'c>(
+    spot: &Spot<'c>,
+    e: &'c CoreExp,
+    room: &mut Room<'c>,
+    state: &State,
+) -> Result<Option<Worth>, Memory>
+    ensures { IfOk result (λ found. IsWorth (sight state.now (spot_of spot.now)) (exp e.now) found) }
+{
+    let sight = Sight {
+        store: &state.store,
+        addresses: spot.addresses,
+        frame: spot.frame,
+    };
+    let found = worth_of(&sight, e, room)?;
+    Ok(found)
+}
+
+/// The truth of an expression, or none where a call stands in it.
+///
+/// `Memory` comes where an allocation was refused.
+#[inline(always)]
+pub(crate) fn truth_at<'c>(
+    spot: &Spot<'c>,
+    e: &'c CoreExp,
+    room: &mut Room<'c>,
+    state: &State,
+) -> Result<Option<Truth>, Memory>
+    ensures { IfOk result (λ found. IsTruth (sight state.now (spot_of spot.now)) (exp e.now) found) }
+{
+    let sight = Sight {
+        store: &state.store,
+        addresses: spot.addresses,
+        frame: spot.frame,
+    };
+    let found = truth_of(&sight, e, room)?;
+    Ok(found)
+}
+
 /// What comes of an expression that is worth this.
-fn settled<'c>(worth: Worth) -> Progress<'c>
+#[inline(always)]
+pub(crate) fn settled<'c>(worth: Worth) -> Progress<'c>
     ensures { result ≡ progress_of worth }
 {
     match worth {
@@ -26,8 +72,21 @@ fn settled<'c>(worth: Worth) -> Progress<'c>
     }
 }
 
-/// One step into an expression whose value is wanted. An operator with no call in it is worked out at once.
-#[tactic(auto, using(bc_core::proofs::Rows::call_view, crate::proofs::Counts::count_args))]
+/// What comes of an expression that has this truth.
+#[inline(always)]
+pub(crate) fn verdict<'c>(truth: Truth) -> Progress<'c>
+    ensures { result ≡ progress_of_truth truth }
+{
+    match truth {
+        Truth::Is(t) => Progress::On(Work::Verdict(t)),
+        Truth::Divides => Progress::Ended(Ending::ZeroDivide),
+        Truth::Fails(cause) => Progress::Wild(cause),
+    }
+}
+
+/// One step into an expression whose value is wanted. One with no call in it is worked out at once.
+#[inline(always)]
+#[tactic(auto, using(crate::proofs::Quiet::valued, crate::proofs::Quiet::value_parts))]
 pub(crate) fn evaluate<'c>(
     spot: Spot<'c>,
     e: &'c CoreExp,
@@ -35,18 +94,27 @@ pub(crate) fn evaluate<'c>(
     stacks: &mut Stacks<'c>,
     state: &State,
 ) -> Result<Progress<'c>, Memory>
-    ensures { Does (machine.Evaluate (spot_of spot.entry) (exp e.now) s) stacks.old.rests state.now result stacks.new.rests state.now }
+    ensures { Proceeds (machine.evaluate (spot_of spot.entry) (exp e.now) s) stacks.old.rests state.now result stacks.new.rests state.now }
+{
+    match worth_at(&spot, e, &mut stacks.room, state)? {
+        Some(worth) => Ok(settled(worth)),
+        None => Ok(evaluate_parts(spot, e, s, stacks, state)?),
+    }
+}
+
+/// One step into an expression in which a call stands.
+fn evaluate_parts<'c>(
+    spot: Spot<'c>,
+    e: &'c CoreExp,
+    s: usize,
+    stacks: &mut Stacks<'c>,
+    state: &State,
+) -> Result<Progress<'c>, Memory>
+    ensures { Proceeds (machine.evaluate_parts (spot_of spot.entry) (exp e.now) s) stacks.old.rests state.now result stacks.new.rests state.now }
 {
     match e {
-        CoreExp::Num(n) => Ok(Progress::On(Work::Number(n.get()))),
-        CoreExp::Frame(k) => Ok(Progress::On(Work::Number(cell_of(spot.frame, *k as usize)?))),
-        CoreExp::Glob(n) => Ok(Progress::On(Work::Number(n.wrapping_add(8)))),
-        CoreExp::Place(m) => {
-            let address = match spot.addresses.get(*m as usize) {
-                Some(address) => *address,
-                None => 0,
-            };
-            Ok(Progress::On(Work::Number(address)))
+        CoreExp::Num(_) | CoreExp::Frame(_) | CoreExp::Glob(_) | CoreExp::Place(_) => {
+            Ok(Progress::Wild(Cause::Malformed))
         }
         CoreExp::Load(part) => {
             put(Rest::Number(NumberRest::Loads), &mut stacks.rests)?;
@@ -61,37 +129,80 @@ pub(crate) fn evaluate<'c>(
             Ok(Progress::On(Work::Evaluate(spot, part, s)))
         }
         CoreExp::Bin(op, left, right) => {
-            if has_call(e, &mut stacks.waiting)? {
-                put(
-                    Rest::Number(NumberRest::Operates(spot, *op, right, s)),
-                    &mut stacks.rests,
-                )?;
-                return Ok(Progress::On(Work::Evaluate(spot, left, above(s, 1)?)));
-            }
-            let sight = Sight {
-                store: &state.store,
-                addresses: spot.addresses,
-                frame: spot.frame,
-            };
-            Ok(settled(value_of(&sight, e, &mut stacks.quiet)?))
+            put(
+                Rest::Number(NumberRest::Operates(spot, *op, right, s)),
+                &mut stacks.rests,
+            )?;
+            Ok(Progress::On(Work::Evaluate(spot, left, above(s, 1)?)))
         }
-        CoreExp::Cond(condition, this, that) => {
+        CoreExp::Cond(condition, this, that) => Ok(choice(
+            spot,
+            condition,
+            (this, that),
+            s,
+            stacks,
+            state,
+        )?),
+        CoreExp::Call(arguments, routine) => Ok(call(spot, arguments, routine, s, stacks, state)?),
+        CoreExp::Valof(number) => Ok(valof(spot, *number as usize, s, &mut stacks.rests)?),
+    }
+}
+
+/// One step into a call.
+fn call<'c>(
+    spot: Spot<'c>,
+    arguments: &'c [CoreExp],
+    routine: &'c CoreExp,
+    s: usize,
+    stacks: &mut Stacks<'c>,
+    state: &State,
+) -> Result<Progress<'c>, Memory>
+    ensures { Proceeds (machine.evaluate_parts (spot_of spot.entry) (tree.Call (args arguments.now) (exp routine.now)) s) stacks.old.rests state.now result
+        stacks.new.rests state.now }
+{
+    let level = above(s, 2)?;
+    let begun = Arguments {
+        spot,
+        left: arguments,
+        level,
+        routine,
+        count: arguments.len(),
+        s,
+        fresh: true,
+    };
+    Ok(argue(begun, stacks, state)?)
+}
+
+/// One step into a conditional expression in which a call stands.
+#[tactic(auto, using(crate::proofs::Quiet::of_a_choice))]
+fn choice<'c>(
+    spot: Spot<'c>,
+    condition: &'c CoreExp,
+    branches: (&'c CoreExp, &'c CoreExp),
+    s: usize,
+    stacks: &mut Stacks<'c>,
+    state: &State,
+) -> Result<Progress<'c>, Memory>
+    ensures { Proceeds (machine.evaluate_parts (spot_of spot.entry) (tree.Cond (exp condition.now) (exp branches.entry.0.now) (exp branches.entry.1.now)) s)
+        stacks.old.rests state.now result stacks.new.rests state.now }
+{
+    let (this, that) = branches;
+    match truth_at(&spot, condition, &mut stacks.room, state)? {
+        Some(Truth::Is(t)) => {
+            if t {
+                return Ok(Progress::On(Work::Evaluate(spot, this, s)));
+            }
+            Ok(Progress::On(Work::Evaluate(spot, that, s)))
+        }
+        Some(Truth::Divides) => Ok(Progress::Ended(Ending::ZeroDivide)),
+        Some(Truth::Fails(cause)) => Ok(Progress::Wild(cause)),
+        None => {
             put(
                 Rest::Truth(TruthRest::Selects(spot, this, that, s)),
                 &mut stacks.rests,
             )?;
             Ok(Progress::On(Work::Decide(spot, condition, s)))
         }
-        CoreExp::Call(arguments, routine) => Ok(Progress::On(Work::Argue(Arguments {
-            spot,
-            left: arguments,
-            level: above(s, 2)?,
-            routine,
-            count: arguments.len(),
-            s,
-            fresh: true,
-        }))),
-        CoreExp::Valof(number) => valof(spot, *number as usize, s, &mut stacks.rests),
     }
 }
 
@@ -102,7 +213,7 @@ fn valof<'c>(
     s: usize,
     rests: &mut Vec<Rest<'c>>,
 ) -> Result<Progress<'c>, Memory>
-    ensures { Leads (machine.Evaluate (spot_of spot.entry) (tree.Valof number) s) rests.old result rests.new }
+    ensures { (st : StateValue) → Proceeds (machine.evaluate_parts (spot_of spot.entry) (tree.Valof number) s) rests.old st result rests.new st }
 {
     if number < spot.first {
         return Ok(Progress::Wild(Cause::Malformed));
@@ -122,14 +233,32 @@ fn valof<'c>(
     Ok(Progress::On(Work::Enter(within, body, s)))
 }
 
-/// One step into an expression whose truth is wanted.
+/// One step into an expression whose truth is wanted. One with no call in it is worked out at once.
+#[inline(always)]
+#[tactic(auto, using(crate::proofs::Quiet::judged, crate::proofs::Quiet::truth_parts))]
 pub(crate) fn decide<'c>(
+    spot: Spot<'c>,
+    e: &'c CoreExp,
+    s: usize,
+    stacks: &mut Stacks<'c>,
+    state: &State,
+) -> Result<Progress<'c>, Memory>
+    ensures { Proceeds (machine.decide (spot_of spot.entry) (exp e.now) s) stacks.old.rests state.now result stacks.new.rests state.now }
+{
+    match truth_at(&spot, e, &mut stacks.room, state)? {
+        Some(truth) => Ok(verdict(truth)),
+        None => Ok(decide_parts(spot, e, s, &mut stacks.rests)?),
+    }
+}
+
+/// One step into an expression in which a call stands and whose truth is wanted.
+fn decide_parts<'c>(
     spot: Spot<'c>,
     e: &'c CoreExp,
     s: usize,
     rests: &mut Vec<Rest<'c>>,
 ) -> Result<Progress<'c>, Memory>
-    ensures { Leads (machine.Decide (spot_of spot.entry) (exp e.now) s) rests.old result rests.new }
+    ensures { (st : StateValue) → Proceeds (machine.decide_parts (spot_of spot.entry) (exp e.now) s) rests.old st result rests.new st }
 {
     match e {
         CoreExp::Not(part) => {

@@ -9,9 +9,9 @@ ghost use Rattle.bc_interpret_steps.specs.Came.{IsBehind, IsBehindCases};
 ghost use Rattle.bc_interpret_steps.specs.Stepped.{Takes, Gives, GivesIfOk};
 
 use crate::forms::{Entry, Exit, Progress, Spot, Work};
-use crate::lists::has_label;
+use crate::lists::{has_label, listing};
 use crate::rests::{ExitRest, NothingRest, Rest, TruthRest, ValueRest, above, put};
-use crate::state::{State, put_word, turn};
+use crate::state::{Stacks, State, put_word, turn};
 use bc_core::Block;
 use bc_interpret_quiet::{Cause, cell_of};
 use bc_interpret_store::Cell;
@@ -63,10 +63,10 @@ fn step_variable<'c>(
 pub(crate) fn exit_taken<'c>(
     rest: &ExitRest<'c>,
     exit: Exit,
-    rests: &mut Vec<Rest<'c>>,
+    stacks: &mut Stacks<'c>,
     state: &mut State,
 ) -> Result<Progress<'c>, Memory>
-    ensures { Takes (exit_rest rest.now) (machine.Left (exit_of exit)) rests.old state.old result rests.new state.new }
+    ensures { Takes (exit_rest rest.now) (machine.Left (exit_of exit)) stacks.old.rests state.old result stacks.new.rests state.new }
 {
     match rest {
         ExitRest::Returns => Ok(returned(exit)),
@@ -94,7 +94,7 @@ pub(crate) fn exit_taken<'c>(
             None => {
                 put(
                     Rest::Truth(TruthRest::RepeatWhiles(*spot, body, condition, *s)),
-                    rests,
+                    &mut stacks.rests,
                 )?;
                 Ok(Progress::On(Work::Decide(*spot, &condition.test, *s)))
             }
@@ -116,8 +116,11 @@ pub(crate) fn exit_taken<'c>(
         ExitRest::Listed(spot, items, s) => match exit {
             Exit::Jumped(label) => {
                 if has_label(items, label) {
-                    put(Rest::Exit(ExitRest::Listed(*spot, items, *s)), rests)?;
-                    return Ok(Progress::On(Work::Listing(*spot, items, *s, Entry::AtLabel(label))));
+                    put(
+                        Rest::Exit(ExitRest::Listed(*spot, items, *s)),
+                        &mut stacks.rests,
+                    )?;
+                    return Ok(listing(*spot, items, *s, Entry::AtLabel(label), stacks, state)?);
                 }
                 Ok(Progress::On(Work::Left(exit)))
             }

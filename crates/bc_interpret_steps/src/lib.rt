@@ -4,6 +4,7 @@
 
 mod answers;
 mod arguments;
+mod assign;
 mod calls;
 mod commands;
 mod evaluate;

@@ -1,16 +1,20 @@
 // Lists of items: commands, and the places at which control enters them.
 
-ghost use Rattle.std.specs.Prelude.{◌≡◌, ◌||◌};
+ghost use Rattle.std.specs.Prelude.{◌≡◌, ◌||◌, IfOk};
 ghost use Rattle.bc_core.specs.Commands.{Items};
 ghost use Rattle.bc_core.specs.View.{items as items_view, items_before};
 ghost use Rattle.bc_core.specs.Lists.{has_case as has_case_of, has_label as has_label_of};
 ghost use Rattle.bc_interpret_defs.specs.Machine as machine;
 ghost use Rattle.bc_interpret_steps.specs.Code.{spot_of, entry_of};
-ghost use Rattle.bc_interpret_steps.specs.Stepped.{Leads};
+ghost use Rattle.bc_interpret_steps.specs.Assigns.{IsNext};
+ghost use Rattle.bc_interpret_steps.specs.Along.{IsAlong};
+ghost use Rattle.bc_interpret_steps.specs.Stepped.{Proceeds};
 
-use crate::forms::{Entry, Exit, Progress, Spot, Work};
-use crate::rests::{ExitRest, Rest, put};
-use bc_core::ListItem;
+use crate::assign::{Assigned, command_at_once};
+use crate::forms::{Ending, Entry, Exit, Progress, Spot, Work};
+use crate::rests::{ExitRest, NothingRest, Rest, put};
+use crate::state::{Stacks, State};
+use bc_core::{Command, ListItem};
 use bc_word::Memory;
 
 /// Whether an item is a CASE with this value.
@@ -61,53 +65,118 @@ pub(crate) fn has_label(items: &[ListItem], label: u16) -> bool
     false
 }
 
-/// One step along a list.
+/// What comes next in a list.
+#[derive(Clone, Copy)]
+enum Next<'c> {
+    /// The items behind, entered so.
+    Passes(Entry),
+    Does(&'c Command),
+}
+
+/// What an item does where the list from it on is entered so.
+#[inline(always)]
+fn next_of(item: &ListItem, at: Entry) -> Next<'_>
+    ensures { IsNext result item.now at }
+{
+    match item {
+        ListItem::Command(command) => match at {
+            Entry::Beginning => Next::Does(command),
+            Entry::AtCase(_) | Entry::AtDefault | Entry::AtLabel(_) => Next::Passes(at),
+        },
+        ListItem::Case(k) => {
+            let met = matches!(at, Entry::AtCase(v) if v == k.get());
+            Next::Passes(if met { Entry::Beginning } else { at })
+        }
+        ListItem::Default => {
+            let met = matches!(at, Entry::AtDefault);
+            Next::Passes(if met { Entry::Beginning } else { at })
+        }
+        ListItem::Label(k) => {
+            let met = matches!(at, Entry::AtLabel(l) if l == *k);
+            Next::Passes(if met { Entry::Beginning } else { at })
+        }
+    }
+}
+
+/// What is left to do where an assignment of a list is wild, or divides by zero.
+fn stop<'c>(
+    spot: Spot<'c>,
+    behind: &'c [ListItem],
+    s: usize,
+    rests: &mut Vec<Rest<'c>>,
+) -> Result<(), Memory> {
+    put(Rest::Exit(ExitRest::Follows(spot, behind, s)), rests)?;
+    put(Rest::Nothing(NothingRest::Passes), rests)?;
+    Ok(())
+}
+
+/// What comes of the first item of a list.
+#[derive(Clone, Copy)]
+enum Along<'c> {
+    /// The items behind it are entered so.
+    On(Entry),
+    Over(Progress<'c>),
+}
+
+/// What comes of the first item of a list that is entered so.
+#[inline(always)]
+#[tactic(auto, using(crate::proofs::Listings::along_a_list))]
+fn list_item<'c>(
+    spot: Spot<'c>,
+    list: (&'c ListItem, &'c [ListItem]),
+    s: usize,
+    at: Entry,
+    stacks: &mut Stacks<'c>,
+    state: &mut State,
+) -> Result<Along<'c>, Memory>
+    ensures { IfOk result (λ along. IsAlong (spot_of spot.entry) list.entry.0.now list.entry.1.now s at stacks.old.rests.items state.old along
+        stacks.new.rests.items state.new) }
+{
+    let (first, behind) = list;
+    match next_of(first, at) {
+        Next::Passes(next) => Ok(Along::On(next)),
+        Next::Does(command) => match command_at_once(&spot, command, &mut stacks.room, state)? {
+            Some(Assigned::Done) => Ok(Along::On(Entry::Beginning)),
+            Some(Assigned::Divides) => {
+                stop(spot, behind, s, &mut stacks.rests)?;
+                Ok(Along::Over(Progress::Ended(Ending::ZeroDivide)))
+            }
+            Some(Assigned::Fails(cause)) => {
+                stop(spot, behind, s, &mut stacks.rests)?;
+                Ok(Along::Over(Progress::Wild(cause)))
+            }
+            None => {
+                put(
+                    Rest::Exit(ExitRest::Follows(spot, behind, s)),
+                    &mut stacks.rests,
+                )?;
+                Ok(Along::Over(Progress::On(Work::Perform(spot, command, s))))
+            }
+        },
+    }
+}
+
+/// One step along a list. Assignments with no call in them are done at once.
 pub(crate) fn listing<'c>(
     spot: Spot<'c>,
     items: &'c [ListItem],
     s: usize,
     entry: Entry,
-    rests: &mut Vec<Rest<'c>>,
+    stacks: &mut Stacks<'c>,
+    state: &mut State,
 ) -> Result<Progress<'c>, Memory>
-    ensures { Leads (machine.Listing (spot_of spot.entry) (items_view items.now) s (entry_of entry)) rests.old result rests.new }
+    ensures { Proceeds (machine.list_step (spot_of spot.entry) (items_view items.now) s (entry_of entry)) stacks.old.rests state.old result
+        stacks.new.rests state.new }
 {
-    match items {
-        [] => Ok(Progress::On(Work::Left(Exit::Past))),
-        [ListItem::Command(command), left @ ..] => match entry {
-            Entry::Beginning => {
-                put(Rest::Exit(ExitRest::Follows(spot, left, s)), rests)?;
-                Ok(Progress::On(Work::Perform(spot, command, s)))
-            }
-            Entry::AtCase(_) | Entry::AtDefault | Entry::AtLabel(_) => Ok(Progress::On(
-                Work::Listing(spot, left, s, entry),
-            )),
-        },
-        [ListItem::Case(k), left @ ..] => {
-            let met = matches!(entry, Entry::AtCase(v) if v == k.get());
-            Ok(Progress::On(Work::Listing(
-                spot,
-                left,
-                s,
-                if met { Entry::Beginning } else { entry },
-            )))
+    let mut left = items;
+    let mut at = entry;
+    while let [first, behind @ ..] = left {
+        let along = list_item(spot, (first, behind), s, at, stacks, state)?;
+        match along {
+            Along::On(next) => at = next,
+            Along::Over(progress) => return Ok(progress),
         }
-        [ListItem::Default, left @ ..] => {
-            let met = matches!(entry, Entry::AtDefault);
-            Ok(Progress::On(Work::Listing(
-                spot,
-                left,
-                s,
-                if met { Entry::Beginning } else { entry },
-            )))
-        }
-        [ListItem::Label(k), left @ ..] => {
-            let met = matches!(entry, Entry::AtLabel(l) if l == *k);
-            Ok(Progress::On(Work::Listing(
-                spot,
-                left,
-                s,
-                if met { Entry::Beginning } else { entry },
-            )))
-        }
+        left = behind;
     }
+    Ok(Progress::On(Work::Left(Exit::Past)))
 }

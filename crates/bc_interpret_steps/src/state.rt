@@ -3,8 +3,7 @@
 ghost use Rattle.bc_interpret_steps.specs.Came.{Turned, Wrote};
 
 use crate::rests::Rest;
-use bc_core::CoreExp;
-use bc_interpret_quiet::{Cause, Rest as QuietRest};
+use bc_interpret_quiet::{Cause, Room};
 use bc_interpret_store::Store;
 
 /// The store, and the turns that are left.
@@ -14,13 +13,11 @@ pub struct State {
     pub turns: u64,
 }
 
-/// What is left to do, and memory that serves again: for parts of an expression without call, for expressions that wait to be looked at,
-/// and for the arguments of a call.
+/// What is left to do, and memory that serves again: for expressions without call, and for the arguments of a call.
 #[derive(Drop)]
 pub struct Stacks<'c> {
     pub rests: Vec<Rest<'c>>,
-    pub quiet: Vec<QuietRest<'c>>,
-    pub waiting: Vec<&'c CoreExp>,
+    pub room: Room<'c>,
     pub arguments: Vec<u16>,
 }
 

@@ -28,16 +28,12 @@ pub fn step<'c>(
 {
     match work {
         Work::Evaluate(spot, e, s) => Ok(evaluate(spot, e, s, stacks, state)?),
-        Work::Decide(spot, e, s) => Ok(decide(spot, e, s, &mut stacks.rests)?),
-        Work::Argue(arguments) => Ok(argue(arguments, &mut stacks.rests)?),
+        Work::Decide(spot, e, s) => Ok(decide(spot, e, s, stacks, state)?),
+        Work::Argue(arguments) => Ok(argue(arguments, stacks, state)?),
         Work::Store(spot, value, address, s) => Ok(store(spot, value, address, s, stacks, state)?),
-        Work::Perform(spot, command, s) => Ok(perform(spot, command, s, &mut stacks.rests, state)?),
+        Work::Perform(spot, command, s) => Ok(perform(spot, command, s, stacks, state)?),
         Work::While(spot, condition, body, s) => Ok(while_loop(
-            spot,
-            condition,
-            body,
-            s,
-            &mut stacks.rests,
+            spot, condition, body, s, stacks, state,
         )?),
         Work::Repeat(spot, body, s) => Ok(repeat(spot, body, s, &mut stacks.rests)?),
         Work::RepeatWhile(spot, body, condition, s) => Ok(repeat_while(
@@ -47,16 +43,9 @@ pub fn step<'c>(
             s,
             &mut stacks.rests,
         )?),
-        Work::Enter(spot, block, s) => Ok(enter(spot, block, s)?),
+        Work::Enter(spot, block, s) => Ok(enter(spot, block, s, stacks, state)?),
         Work::Declare(spot, declarations, items, s, level) => {
-            Ok(declare(
-                spot,
-                declarations,
-                items,
-                (s, level),
-                &mut stacks.rests,
-                state,
-            )?)
+            Ok(declare(spot, declarations, items, (s, level), stacks, state)?)
         }
         Work::Initialise(spot, variables, k, s) => Ok(initialise(
             spot,
@@ -66,21 +55,9 @@ pub fn step<'c>(
             &mut stacks.rests,
             state,
         )?),
-        Work::Listing(spot, items, s, entry) => Ok(listing(
-            spot,
-            items,
-            s,
-            entry,
-            &mut stacks.rests,
-        )?),
+        Work::Listing(spot, items, s, entry) => Ok(listing(spot, items, s, entry, stacks, state)?),
         Work::Round(spot, limit, by, body, s) => Ok(round(
-            spot,
-            limit,
-            by,
-            body,
-            s,
-            &mut stacks.rests,
-            state,
+            spot, limit, by, body, s, stacks, state,
         )?),
         Work::Number(v) => Ok(give_number(table, v, stacks, state)?),
         Work::Verdict(t) => Ok(give_verdict(table, t, stacks, state)?),

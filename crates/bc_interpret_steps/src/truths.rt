@@ -6,14 +6,15 @@ ghost use Rattle.bc_interpret_defs.specs.Machine as machine;
 ghost use Rattle.bc_interpret_steps.specs.Code.{truth_rest};
 ghost use Rattle.bc_interpret_steps.specs.Stepped.{Takes};
 
+use crate::commands::{enter_either, enter_if, enter_while};
 use crate::forms::{Exit, Progress, Work};
-use crate::rests::{ExitRest, Rest, TruthRest, above, put};
-use crate::state::{State, turn};
+use crate::rests::{TruthRest, above};
+use crate::state::{Stacks, State, turn};
 use bc_word::Memory;
 
 /// Whether a condition of this sense holds.
 #[inline(always)]
-fn agrees(sense: bool, truth: bool) -> bool
+pub(crate) fn agrees(sense: bool, truth: bool) -> bool
     ensures { result ≡ agrees_with sense truth }
 {
     if sense { truth } else { !truth }
@@ -23,10 +24,10 @@ fn agrees(sense: bool, truth: bool) -> bool
 pub(crate) fn truth_taken<'c>(
     rest: &TruthRest<'c>,
     t: bool,
-    rests: &mut Vec<Rest<'c>>,
+    stacks: &mut Stacks<'c>,
     state: &mut State,
 ) -> Result<Progress<'c>, Memory>
-    ensures { Takes (truth_rest rest.now) (machine.Verdict t) rests.old state.old result rests.new state.new }
+    ensures { Takes (truth_rest rest.now) (machine.Verdict t) stacks.old.rests state.old result stacks.new.rests state.new }
 {
     match rest {
         TruthRest::Opposes => Ok(Progress::On(Work::Verdict(!t))),
@@ -49,26 +50,15 @@ pub(crate) fn truth_taken<'c>(
             Ok(Progress::On(Work::Evaluate(*spot, that, *s)))
         }
         TruthRest::Ifs(spot, sense, body, s) => {
-            if agrees(*sense, t) {
-                return Ok(Progress::On(Work::Enter(*spot, body, *s)));
-            }
-            Ok(Progress::On(Work::Left(Exit::Past)))
+            let holds = agrees(*sense, t);
+            Ok(enter_if(holds, *spot, body, *s, stacks, state)?)
         }
         TruthRest::Chooses(spot, this, that, s) => {
-            if t {
-                return Ok(Progress::On(Work::Enter(*spot, this, *s)));
-            }
-            Ok(Progress::On(Work::Enter(*spot, that, *s)))
+            Ok(enter_either(t, *spot, (this, that), *s, stacks, state)?)
         }
         TruthRest::Whiles(spot, condition, body, s) => {
-            if agrees(condition.sense, t) {
-                put(
-                    Rest::Exit(ExitRest::WhileBody(*spot, condition, body, *s)),
-                    rests,
-                )?;
-                return Ok(Progress::On(Work::Enter(*spot, body, *s)));
-            }
-            Ok(Progress::On(Work::Left(Exit::Past)))
+            let holds = agrees(condition.sense, t);
+            Ok(enter_while(holds, *spot, condition, body, *s, stacks, state)?)
         }
         TruthRest::RepeatWhiles(spot, body, condition, s) => {
             if agrees(condition.sense, t) {

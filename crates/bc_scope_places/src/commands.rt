@@ -1,3 +1,4 @@
+use crate::expressions::Side;
 use crate::leaves::Leaves;
 use crate::walk::{Beside, End, Walk};
 use bc_parse_tree::{Block, Command, Exp, Item};
@@ -12,13 +13,10 @@ impl<'s> Walk<'s> {
         allowed: Allowed,
         tree: &Command<'s>,
         level: u64,
-    ) -> Result<u64, End<'s>> {
+    ) -> Result<u64, End> {
         match tree {
             Command::Assign(places, values) => self.assignment(places, values, level),
-            Command::Call(routine, values) => {
-                self.record.root(self.leaves)?;
-                self.call(false, routine, values, level)
-            }
+            Command::Call(routine, values) => self.called(routine, values, level),
             Command::Block(body) => self.block(allowed, body, level),
             Command::Break | Command::Loop => self.word(allowed.in_loop),
             Command::EndCase => self.word(allowed.in_cases),
@@ -28,9 +26,7 @@ impl<'s> Walk<'s> {
             Command::Goto(name) => self.goto(name),
             Command::Repeat(body) => self.command(allowed.in_a_loop(), body, level),
             Command::RepeatWhile(body, test) | Command::RepeatUntil(body, test) => {
-                let body = self.command(allowed.in_a_loop(), body, level)?;
-                self.record.root(self.leaves)?;
-                Ok(body.max(self.expression(false, test, level)?))
+                self.repeated(allowed.in_a_loop(), body, test, level)
             }
             Command::If(test, body) | Command::Unless(test, body) => {
                 self.guarded(allowed, test, body, level)
@@ -38,37 +34,76 @@ impl<'s> Walk<'s> {
             Command::While(test, body) | Command::Until(test, body) => {
                 self.guarded(allowed.in_a_loop(), test, body, level)
             }
-            Command::Test { test, this, that } => {
-                let this = self.guarded(allowed, test, this, level)?;
-                Ok(this.max(self.block(allowed, that, level)?))
-            }
-            Command::For {
-                variable,
-                start,
-                limit,
-                step,
-                body,
-            } => {
-                let leaf = self.leaf();
-                let ends = self.ends(start, limit, level)?;
-                if let Some(by) = step {
-                    let _at = self.constant(by)?;
-                }
-                let body = self.counted(allowed, variable, leaf, body, level)?;
-                Ok(ends.max(body))
-            }
+            Command::Test { test, this, that } => self.chosen(allowed, test, this, that, level),
+            Command::For { .. } => self.turns(allowed, tree, level),
             Command::SwitchOn(value, list) => self.switch(allowed, value, list, level),
         }
     }
 
+    /// A call of a routine.
+    #[cycle(places)]
+    fn called(&mut self, routine: &Exp<'s>, values: &[Exp<'s>], level: u64) -> Result<u64, End> {
+        self.record.root(self.leaves)?;
+        self.call(false, routine, values, level)
+    }
+
+    /// A command that is done again as a test behind it says.
+    #[cycle(places)]
+    fn repeated(
+        &mut self,
+        allowed: Allowed,
+        body: &Command<'s>,
+        test: &Exp<'s>,
+        level: u64,
+    ) -> Result<u64, End> {
+        let body = self.command(allowed, body, level)?;
+        Ok(body.max(self.rooted(test, level)?))
+    }
+
+    /// A TEST with its two bodies.
+    #[cycle(places)]
+    fn chosen(
+        &mut self,
+        allowed: Allowed,
+        test: &Exp<'s>,
+        this: &Block<'s>,
+        that: &Block<'s>,
+        level: u64,
+    ) -> Result<u64, End> {
+        let this = self.guarded(allowed, test, this, level)?;
+        Ok(this.max(self.block(allowed, that, level)?))
+    }
+
+    /// A FOR; nothing for another command.
+    #[cycle(places)]
+    fn turns(&mut self, allowed: Allowed, tree: &Command<'s>, level: u64) -> Result<u64, End> {
+        let Command::For {
+            variable,
+            start,
+            limit,
+            step,
+            body,
+        } = tree
+        else {
+            return Ok(0);
+        };
+        let leaf = self.leaf();
+        let ends = self.ends(start, limit, level)?;
+        if let Some(by) = step {
+            let _at = self.constant(by)?;
+        }
+        let body = self.counted(allowed, variable, leaf, body, level)?;
+        Ok(ends.max(body))
+    }
+
     /// A command that is one word, where it is allowed.
-    fn word(&mut self, allowed: bool) -> Result<u64, End<'s>> {
+    fn word(&mut self, allowed: bool) -> Result<u64, End> {
         let leaf = self.leaf();
         self.allowed(allowed, leaf)?;
         Ok(0)
     }
 
-    fn allowed(&self, allowed: bool, leaf: u64) -> Result<(), End<'s>> {
+    fn allowed(&mut self, allowed: bool, leaf: u64) -> Result<(), End> {
         if allowed {
             Ok(())
         } else {
@@ -77,7 +112,7 @@ impl<'s> Walk<'s> {
     }
 
     #[cycle(places)]
-    fn result_is(&mut self, allowed: bool, value: &Exp<'s>, level: u64) -> Result<u64, End<'s>> {
+    fn result_is(&mut self, allowed: bool, value: &Exp<'s>, level: u64) -> Result<u64, End> {
         let leaf = self.leaf();
         self.record.root(leaf)?;
         let width = self.expression(false, value, level)?;
@@ -85,7 +120,7 @@ impl<'s> Walk<'s> {
         Ok(width)
     }
 
-    fn goto(&mut self, name: &'s [u8]) -> Result<u64, End<'s>> {
+    fn goto(&mut self, name: &'s [u8]) -> Result<u64, End> {
         let _word = self.leaf();
         let leaf = self.leaf();
         let meant = self.scope.meant_by(name);
@@ -101,9 +136,8 @@ impl<'s> Walk<'s> {
         test: &Exp<'s>,
         body: &Block<'s>,
         level: u64,
-    ) -> Result<u64, End<'s>> {
-        self.record.root(self.leaves)?;
-        let test = self.expression(false, test, level)?;
+    ) -> Result<u64, End> {
+        let test = self.rooted(test, level)?;
         Ok(test.max(self.block(allowed, body, level)?))
     }
 
@@ -114,30 +148,65 @@ impl<'s> Walk<'s> {
         places: &[Exp<'s>],
         values: &[Exp<'s>],
         level: u64,
-    ) -> Result<u64, End<'s>> {
+    ) -> Result<u64, End> {
         let levels = side_levels(self.alloc, &self.scope, places, level)?;
         let held = all_held(self.alloc, &self.scope, places, level)?;
-        let addresses = self.side(places, &levels)?;
-        for at in addresses.leaves.iter() {
+        self.sides(places, values, &levels, &held)
+    }
+
+    /// The two sides of an assignment at these levels, whose addresses take so many cells.
+    #[cycle(places)]
+    fn sides(
+        &mut self,
+        places: &[Exp<'s>],
+        values: &[Exp<'s>],
+        levels: &[u64],
+        held: &[u64],
+    ) -> Result<u64, End> {
+        let addresses = self.side(places, levels)?;
+        self.note_roots(&addresses.leaves)?;
+        let contents = self.contents(values, levels, places, &addresses.leaves)?;
+        Ok(widest(held, &addresses.widths, &contents))
+    }
+
+    /// The values of an assignment at these levels, whose places stand at these leaves: how many cells each takes.
+    #[cycle(places)]
+    fn contents(
+        &mut self,
+        values: &[Exp<'s>],
+        levels: &[u64],
+        places: &[Exp<'s>],
+        leaves: &[Leaves],
+    ) -> Result<Vec<u64>, End> {
+        let Side { widths, .. } = self.side(values, levels)?;
+        self.assignable(places, leaves)?;
+        Ok(widths)
+    }
+
+    /// Roots, at the first of these leaves each.
+    fn note_roots(&mut self, leaves: &[Leaves]) -> Result<(), End> {
+        for at in leaves {
             self.record.root(at.first)?;
         }
-        let contents = self.side(values, &levels)?;
-        for (place, at) in places.iter().zip(addresses.leaves.iter()) {
+        Ok(())
+    }
+
+    /// Each of these expressions, at its leaves, has a cell.
+    fn assignable(&mut self, places: &[Exp<'s>], leaves: &[Leaves]) -> Result<(), End> {
+        for (place, at) in places.iter().zip(leaves.iter()) {
             if !has_cell(&self.scope, place) {
                 self.stop(ScopeError::NotAssignable, *at, Beside::Nothing)?;
             }
         }
-        Ok(widest(&held, &addresses.widths, &contents.widths))
+        Ok(())
     }
 
     /// The start and the limit of a FOR, which stand behind its two cells, as its own test and sum do.
     #[cycle(places)]
-    fn ends(&mut self, start: &Exp<'s>, limit: &Exp<'s>, level: u64) -> Result<u64, End<'s>> {
+    fn ends(&mut self, start: &Exp<'s>, limit: &Exp<'s>, level: u64) -> Result<u64, End> {
         let above = level.saturating_add(2);
-        self.record.root(self.leaves)?;
-        let start = self.expression(false, start, above)?;
-        self.record.root(self.leaves)?;
-        let limit = self.expression(false, limit, above)?;
+        let start = self.rooted(start, above)?;
+        let limit = self.rooted(limit, above)?;
         Ok(above.saturating_add(2).max(start.max(limit)))
     }
 
@@ -150,11 +219,10 @@ impl<'s> Walk<'s> {
         leaf: u64,
         body: &Block<'s>,
         level: u64,
-    ) -> Result<u64, End<'s>> {
+    ) -> Result<u64, End> {
         let mark = self.mark();
         self.scope.declare(variable, Meant::Variable(level))?;
-        self.know_at(variable, leaf)?;
-        self.record.variable(level, 1, leaf)?;
+        self.known_cell(variable, leaf, level)?;
         let width = self.block(allowed.in_a_loop(), body, level.saturating_add(2))?;
         self.leave(mark);
         Ok(width)
@@ -167,9 +235,8 @@ impl<'s> Walk<'s> {
         value: &Exp<'s>,
         list: &[Item<'s>],
         level: u64,
-    ) -> Result<u64, End<'s>> {
-        self.record.root(self.leaves)?;
-        let value = self.expression(false, value, level)?;
+    ) -> Result<u64, End> {
+        let value = self.rooted(value, level)?;
         let mark = self.mark();
         let list = self.list(true, allowed.in_a_switch(), list, level)?;
         self.leave(mark);

@@ -7,6 +7,7 @@ use bc_scope_names::{
     Meant, Numbers, ScopeError, constant, declare_entry, declare_let, declare_parameters,
     declare_pending, priors_of_let,
 };
+use bc_word::Memory;
 use indexmap::IndexMap;
 
 /// A LET at work: the names before the definition at work with their leaves, and the place of its next variable among
@@ -21,11 +22,7 @@ struct OfLet<'s> {
 impl<'s> Walk<'s> {
     /// Declarations, each behind those before it.
     #[cycle(places)]
-    pub fn declarations(
-        &mut self,
-        list: &[Declaration<'s>],
-        level: u64,
-    ) -> Result<Extent, End<'s>> {
+    pub fn declarations(&mut self, list: &[Declaration<'s>], level: u64) -> Result<Extent, End> {
         let mut all = Extent { level, width: 0 };
         for tree in list {
             let own = self.declaration(tree, all.level)?;
@@ -39,7 +36,7 @@ impl<'s> Walk<'s> {
 
     /// A declaration.
     #[cycle(places)]
-    fn declaration(&mut self, tree: &Declaration<'s>, level: u64) -> Result<Extent, End<'s>> {
+    fn declaration(&mut self, tree: &Declaration<'s>, level: u64) -> Result<Extent, End> {
         match tree {
             Declaration::Constants(storage, list) => {
                 self.entries(*storage, list)?;
@@ -51,59 +48,92 @@ impl<'s> Walk<'s> {
 
     /// Declarations of constants.
     #[cycle(places)]
-    fn entries(&mut self, storage: Storage, list: &[Constant<'s>]) -> Result<(), End<'s>> {
+    fn entries(&mut self, storage: Storage, list: &[Constant<'s>]) -> Result<(), End> {
         declare_pending(&mut self.scope, storage, list)?;
         let mut before = IndexMap::new(self.alloc);
+        self.listed_entries(&mut before, storage, list)
+    }
+
+    /// The entries of a list, one by one, behind these names.
+    #[cycle(places)]
+    fn listed_entries(
+        &mut self,
+        before: &mut IndexMap<&'s [u8], u64>,
+        storage: Storage,
+        list: &[Constant<'s>],
+    ) -> Result<(), End> {
         for entry in list {
             let leaf = self.leaf();
-            self.once(&mut before, entry.name, leaf)?;
+            self.once(before, entry.name, leaf)?;
             let _at = self.constant(&entry.value)?;
-            match entry_fault(&self.scope, storage, entry.name, &entry.value) {
-                Ok(()) => {}
-                Err(fault) => {
-                    let number = constant(&self.scope, &entry.value).get();
-                    self.stop(fault, Leaves::one(leaf), Beside::Number(number))?;
-                }
-            }
-            declare_entry(&mut self.scope, storage, Numbers::start(), entry)?;
-            match storage {
-                Storage::Static => self.place(leaf)?,
-                Storage::Global => {
-                    let number = constant(&self.scope, &entry.value).get();
-                    self.record.sites.globals.push(GlobalSite { number, leaf })?;
-                }
-                Storage::Manifest => {}
-            }
+            self.declared(storage, entry, leaf)?;
         }
         Ok(())
     }
 
+    /// A constant, a static or a global at this leaf, behind its value.
+    fn declared(&mut self, storage: Storage, entry: &Constant<'s>, leaf: u64) -> Result<(), End> {
+        let answer = entry_fault(&self.scope, storage, entry.name, &entry.value);
+        if let Err(fault) = answer {
+            let number = constant(&self.scope, &entry.value).get();
+            self.stop(fault, Leaves::one(leaf), Beside::Number(number))?;
+        }
+        declare_entry(&mut self.scope, storage, Numbers::start(), entry)?;
+        Ok(self.note_entry(storage, &entry.value, leaf)?)
+    }
+
+    /// Notes where a static or a global is declared.
+    fn note_entry(&mut self, storage: Storage, value: &Exp<'s>, leaf: u64) -> Result<(), Memory> {
+        match storage {
+            Storage::Static => self.place(leaf),
+            Storage::Global => {
+                let number = constant(&self.scope, value).get();
+                Ok(self.record.sites.globals.push(GlobalSite { number, leaf })?)
+            }
+            Storage::Manifest => Ok(()),
+        }
+    }
+
     /// The definitions of a LET.
     #[cycle(places)]
-    fn definitions(&mut self, list: &[Definition<'s>], level: u64) -> Result<Extent, End<'s>> {
-        let priors = priors_of_let(&mut self.scope, list)?;
-        let level = declare_let(&mut self.scope, &priors, Numbers::start(), level, list)?;
+    fn definitions(&mut self, list: &[Definition<'s>], level: u64) -> Result<Extent, End> {
+        let level = self.declared_let(list, level)?;
+        let next = self.known();
+        self.know_variables(list)?;
         let mut of_let = OfLet {
             before: IndexMap::new(self.alloc),
-            next: self.known(),
+            next,
         };
-        self.know_variables(list)?;
-        let mut width = level;
-        for tree in list {
-            width = width.max(self.definition(&mut of_let, tree, level)?);
-        }
+        let width = self.defined(&mut of_let, list, level)?;
         Ok(Extent { level, width })
     }
 
+    /// Declares the names of a LET; gives the level behind its cells.
+    fn declared_let(&mut self, list: &[Definition<'s>], level: u64) -> Result<u64, End> {
+        let priors = priors_of_let(&mut self.scope, list)?;
+        Ok(declare_let(&mut self.scope, &priors, Numbers::start(), level, list)?)
+    }
+
+    /// The definitions of a LET, one by one: how many cells of the frame they take.
+    #[cycle(places)]
+    fn defined(
+        &mut self,
+        of_let: &mut OfLet<'s>,
+        list: &[Definition<'s>],
+        level: u64,
+    ) -> Result<u64, End> {
+        let mut width = level;
+        for tree in list {
+            width = width.max(self.definition(of_let, tree, level)?);
+        }
+        Ok(width)
+    }
+
     /// The variables of a LET are known before their leaves are met.
-    fn know_variables(&mut self, list: &[Definition<'s>]) -> Result<(), End<'s>> {
+    fn know_variables(&mut self, list: &[Definition<'s>]) -> Result<(), End> {
         for tree in list {
             match tree {
-                Definition::Variables(names, _) => {
-                    for name in names {
-                        self.know(name)?;
-                    }
-                }
+                Definition::Variables(names, _) => self.know_all(names)?,
                 Definition::Vector(name, _) => self.know(name)?,
                 Definition::Function(_, _, _) | Definition::Routine(_, _, _) => {}
             }
@@ -111,8 +141,15 @@ impl<'s> Walk<'s> {
         Ok(())
     }
 
+    fn know_all(&mut self, names: &[&'s [u8]]) -> Result<(), Memory> {
+        for name in names {
+            self.know(name)?;
+        }
+        Ok(())
+    }
+
     /// A variable of a LET.
-    fn variable(&mut self, of_let: &mut OfLet<'s>, name: &'s [u8]) -> Result<u64, End<'s>> {
+    fn variable(&mut self, of_let: &mut OfLet<'s>, name: &'s [u8]) -> Result<u64, End> {
         let leaf = self.leaf();
         self.once(&mut of_let.before, name, leaf)?;
         self.declared_at(of_let.next, leaf)?;
@@ -121,7 +158,7 @@ impl<'s> Walk<'s> {
     }
 
     /// A variable's cells are noted.
-    fn note(&mut self, name: &'s [u8], cells: u64, leaf: u64) -> Result<(), End<'s>> {
+    fn note(&mut self, name: &'s [u8], cells: u64, leaf: u64) -> Result<(), End> {
         if let Meant::Variable(offset) = self.scope.meant_by(name) {
             self.record.variable(offset, cells, leaf)?;
         }
@@ -129,7 +166,7 @@ impl<'s> Walk<'s> {
     }
 
     /// The name of a routine of a LET.
-    fn routine_name(&mut self, of_let: &mut OfLet<'s>, name: &'s [u8]) -> Result<u64, End<'s>> {
+    fn routine_name(&mut self, of_let: &mut OfLet<'s>, name: &'s [u8]) -> Result<u64, End> {
         let leaf = self.leaf();
         self.once(&mut of_let.before, name, leaf)?;
         self.place(leaf)?;
@@ -137,7 +174,7 @@ impl<'s> Walk<'s> {
     }
 
     /// Variables may not stand outside of routines.
-    fn inside(&self, at: Leaves) -> Result<(), End<'s>> {
+    fn inside(&mut self, at: Leaves) -> Result<(), End> {
         if self.scope.is_inside() {
             Ok(())
         } else {
@@ -152,83 +189,115 @@ impl<'s> Walk<'s> {
         of_let: &mut OfLet<'s>,
         tree: &Definition<'s>,
         level: u64,
-    ) -> Result<u64, End<'s>> {
+    ) -> Result<u64, End> {
         match tree {
-            Definition::Variables(names, values) => {
-                let first = self.leaves;
-                for name in names {
-                    let leaf = self.variable(of_let, name)?;
-                    self.note(name, 1, leaf)?;
-                }
-                let at = Leaves::words(first, self.last(first));
-                let width = self.initials(values, level)?;
-                self.inside(at)?;
-                Ok(width)
-            }
-            Definition::Vector(name, greatest) => {
-                let leaf = self.variable(of_let, name)?;
-                let _word = self.leaf();
-                let _at = self.constant(greatest)?;
-                let cells = u64::from(constant(&self.scope, greatest).get()).saturating_add(2);
-                self.note(name, cells, leaf)?;
-                self.inside(Leaves::one(leaf))?;
-                Ok(0)
-            }
+            Definition::Variables(names, values) => self.variables(of_let, names, values, level),
+            Definition::Vector(name, greatest) => self.vector(of_let, name, greatest),
             Definition::Function(name, parameters, value) => {
                 let leaf = self.routine_name(of_let, name)?;
-                self.function(leaf, parameters, value)?;
-                Ok(0)
+                self.function(leaf, parameters, value)
             }
             Definition::Routine(name, parameters, body) => {
                 let leaf = self.routine_name(of_let, name)?;
-                self.routine(leaf, parameters, body)?;
-                Ok(0)
+                self.routine(leaf, parameters, body)
             }
         }
     }
 
+    /// Variables with their starting values.
+    #[cycle(places)]
+    fn variables(
+        &mut self,
+        of_let: &mut OfLet<'s>,
+        names: &[&'s [u8]],
+        values: &[Exp<'s>],
+        level: u64,
+    ) -> Result<u64, End> {
+        let first = self.leaves;
+        self.cells(of_let, names)?;
+        let at = Leaves::words(first, self.last(first));
+        let width = self.initials(values, level)?;
+        self.inside(at)?;
+        Ok(width)
+    }
+
+    /// The cells of these variables, one each.
+    fn cells(&mut self, of_let: &mut OfLet<'s>, names: &[&'s [u8]]) -> Result<(), End> {
+        for name in names {
+            let leaf = self.variable(of_let, name)?;
+            self.note(name, 1, leaf)?;
+        }
+        Ok(())
+    }
+
+    /// A variable that points to cells of its own.
+    #[cycle(places)]
+    fn vector(
+        &mut self,
+        of_let: &mut OfLet<'s>,
+        name: &'s [u8],
+        greatest: &Exp<'s>,
+    ) -> Result<u64, End> {
+        let leaf = self.variable(of_let, name)?;
+        let _word = self.leaf();
+        let _at = self.constant(greatest)?;
+        self.note_vector(name, greatest, leaf)?;
+        Ok(0)
+    }
+
+    /// Notes the cells of a vector, which may not stand outside of routines.
+    fn note_vector(&mut self, name: &'s [u8], greatest: &Exp<'s>, leaf: u64) -> Result<(), End> {
+        let cells = u64::from(constant(&self.scope, greatest).get()).saturating_add(2);
+        self.note(name, cells, leaf)?;
+        self.inside(Leaves::one(leaf))
+    }
+
     /// The parameters of a routine, behind which is this level.
-    fn parameters(&mut self, names: &[&'s [u8]]) -> Result<u64, End<'s>> {
+    fn parameters(&mut self, names: &[&'s [u8]]) -> Result<u64, End> {
         declare_parameters(&mut self.scope, names)?;
         let mut before = IndexMap::new(self.alloc);
         let mut offset = 2u64;
         for name in names {
             let leaf = self.leaf();
             self.once(&mut before, name, leaf)?;
-            self.know_at(name, leaf)?;
-            self.record.variable(offset, 1, leaf)?;
+            self.known_cell(name, leaf, offset)?;
             offset = offset.saturating_add(1);
         }
         Ok((names.len() as u64).saturating_add(2))
     }
 
-    /// A routine that gives a value, behind its name.
+    /// A variable that is declared at this leaf, with its cell at this offset.
+    pub fn known_cell(&mut self, name: &'s [u8], leaf: u64, offset: u64) -> Result<(), Memory> {
+        self.know_at(name, leaf)?;
+        self.record.variable(offset, 1, leaf)
+    }
+
+    /// A routine that gives a value, behind its name. It takes no cells of the frame in which it stands.
     #[cycle(places)]
     fn function(
         &mut self,
         leaf: u64,
         parameters: &[&'s [u8]],
         value: &Exp<'s>,
-    ) -> Result<(), End<'s>> {
+    ) -> Result<u64, End> {
         let mark = self.mark();
         let outside = self.record.into_routine();
         let level = self.parameters(parameters)?;
-        self.record.root(self.leaves)?;
-        let width = self.expression(false, value, level)?;
+        let width = self.rooted(value, level)?;
         self.leave(mark);
         self.record.back(outside);
         self.frame(leaf, level.max(width));
-        Ok(())
+        Ok(0)
     }
 
-    /// A routine that does commands, behind its name.
+    /// A routine that does commands, behind its name. It takes no cells of the frame in which it stands.
     #[cycle(places)]
     fn routine(
         &mut self,
         leaf: u64,
         parameters: &[&'s [u8]],
         body: &Block<'s>,
-    ) -> Result<(), End<'s>> {
+    ) -> Result<u64, End> {
         let mark = self.mark();
         let outside = self.record.into_routine();
         let level = self.parameters(parameters)?;
@@ -236,6 +305,6 @@ impl<'s> Walk<'s> {
         self.leave(mark);
         self.record.back(outside);
         self.frame(leaf, level.max(width));
-        Ok(())
+        Ok(0)
     }
 }

@@ -3,54 +3,88 @@ use crate::walk::{Beside, End, Walk};
 use bc_parse_tree::{Block, Exp, Monadic};
 use bc_scope_faults::{Allowed, address_fault, level_at, name_fault};
 use bc_scope_names::{ScopeError, constant_in};
+use bc_word::Memory;
 
 /// The expressions of a walk. Each function gives how many cells of the frame an expression takes.
 impl<'s> Walk<'s> {
     /// An expression at a level; or a part of a constant.
     #[cycle(places)]
-    pub fn expression(
-        &mut self,
-        in_constant: bool,
-        e: &Exp<'s>,
-        level: u64,
-    ) -> Result<u64, End<'s>> {
+    pub fn expression(&mut self, in_constant: bool, e: &Exp<'s>, level: u64) -> Result<u64, End> {
         match e {
             Exp::Name(name) => self.name(in_constant, name),
-            Exp::Number(_) | Exp::Character(_) | Exp::True | Exp::False => {
-                let _leaf = self.leaf();
-                Ok(0)
-            }
-            Exp::String(_) => {
-                let leaf = self.leaf();
-                self.place(leaf)?;
-                Ok(0)
-            }
-            Exp::Table(values) => {
-                let leaf = self.leaf();
-                self.constants(values)?;
-                self.place(leaf)?;
-                Ok(0)
-            }
+            Exp::Number(_) | Exp::Character(_) | Exp::True | Exp::False => Ok(self.plain()),
+            Exp::String(_) => self.string(),
+            Exp::Table(values) => self.table(values),
             Exp::Valof(body) => self.valof(body, level),
             Exp::Monadic(sign, operand) => self.monadic(in_constant, *sign, operand, level),
-            Exp::Dyadic(_, left, right) => {
-                let above = level.saturating_add(1);
-                let left = self.expression(in_constant, left, above)?;
-                let right = self.expression(in_constant, right, above)?;
-                Ok(level.saturating_add(2).max(left.max(right)))
-            }
+            Exp::Dyadic(_, left, right) => self.dyadic(in_constant, left, right, level),
             Exp::Condition { test, this, that } => {
-                let test = self.expression(in_constant, test, level)?;
-                let this = self.expression(in_constant, this, level)?;
-                let that = self.expression(in_constant, that, level)?;
-                Ok(test.max(this.max(that)))
+                self.condition(in_constant, test, this, that, level)
             }
             Exp::Call(routine, values) => self.call(in_constant, routine, values, level),
         }
     }
 
+    /// A leaf that takes no cells.
+    fn plain(&mut self) -> u64 {
+        let _leaf = self.leaf();
+        0
+    }
+
+    fn string(&mut self) -> Result<u64, End> {
+        let leaf = self.leaf();
+        self.place(leaf)?;
+        Ok(0)
+    }
+
+    #[cycle(places)]
+    fn table(&mut self, values: &[Exp<'s>]) -> Result<u64, End> {
+        let leaf = self.leaf();
+        self.constants(values)?;
+        self.place(leaf)?;
+        Ok(0)
+    }
+
+    /// An operator with its two operands.
+    #[cycle(places)]
+    fn dyadic(
+        &mut self,
+        in_constant: bool,
+        left: &Exp<'s>,
+        right: &Exp<'s>,
+        level: u64,
+    ) -> Result<u64, End> {
+        let above = level.saturating_add(1);
+        let left = self.expression(in_constant, left, above)?;
+        let right = self.expression(in_constant, right, above)?;
+        Ok(level.saturating_add(2).max(left.max(right)))
+    }
+
+    /// `->` with its test and its two parts.
+    #[cycle(places)]
+    fn condition(
+        &mut self,
+        in_constant: bool,
+        test: &Exp<'s>,
+        this: &Exp<'s>,
+        that: &Exp<'s>,
+        level: u64,
+    ) -> Result<u64, End> {
+        let test = self.expression(in_constant, test, level)?;
+        let this = self.expression(in_constant, this, level)?;
+        let that = self.expression(in_constant, that, level)?;
+        Ok(test.max(this.max(that)))
+    }
+
+    /// An expression that is a root.
+    #[cycle(places)]
+    pub fn rooted(&mut self, e: &Exp<'s>, level: u64) -> Result<u64, End> {
+        self.record.root(self.leaves)?;
+        self.expression(false, e, level)
+    }
+
     /// A name in an expression.
-    fn name(&mut self, in_constant: bool, name: &'s [u8]) -> Result<u64, End<'s>> {
+    fn name(&mut self, in_constant: bool, name: &'s [u8]) -> Result<u64, End> {
         let leaf = self.leaf();
         let meant = self.scope.meant_by(name);
         self.judged(name_fault(in_constant, name, meant), leaf)?;
@@ -58,7 +92,7 @@ impl<'s> Walk<'s> {
     }
 
     #[cycle(places)]
-    fn valof(&mut self, body: &Block<'s>, level: u64) -> Result<u64, End<'s>> {
+    fn valof(&mut self, body: &Block<'s>, level: u64) -> Result<u64, End> {
         let _word = self.leaf();
         let mark = self.mark();
         self.scope.enter_valof()?;
@@ -77,7 +111,7 @@ impl<'s> Walk<'s> {
         sign: Monadic,
         operand: &Exp<'s>,
         level: u64,
-    ) -> Result<u64, End<'s>> {
+    ) -> Result<u64, End> {
         let first = self.leaves;
         let width = self.expression(in_constant, operand, level)?;
         match address_fault(&self.scope, in_constant, sign, operand) {
@@ -98,7 +132,7 @@ impl<'s> Walk<'s> {
         called: &Exp<'s>,
         values: &[Exp<'s>],
         level: u64,
-    ) -> Result<u64, End<'s>> {
+    ) -> Result<u64, End> {
         let first = level.saturating_add(2);
         let above = first.saturating_add(values.len() as u64);
         let called = self.expression(in_constant, called, above)?;
@@ -108,12 +142,7 @@ impl<'s> Walk<'s> {
 
     /// Arguments, each one level above the one before it.
     #[cycle(places)]
-    fn arguments(
-        &mut self,
-        in_constant: bool,
-        list: &[Exp<'s>],
-        level: u64,
-    ) -> Result<u64, End<'s>> {
+    fn arguments(&mut self, in_constant: bool, list: &[Exp<'s>], level: u64) -> Result<u64, End> {
         let mut width = 0u64;
         let mut above = level;
         for e in list {
@@ -125,7 +154,7 @@ impl<'s> Walk<'s> {
 
     /// A constant: what is in it, and then that it is one.
     #[cycle(places)]
-    pub fn constant(&mut self, e: &Exp<'s>) -> Result<Leaves, End<'s>> {
+    pub fn constant(&mut self, e: &Exp<'s>) -> Result<Leaves, End> {
         let first = self.leaves;
         let _width = self.expression(true, e, 0)?;
         let at = Leaves::expression(first, self.last(first), e);
@@ -137,7 +166,7 @@ impl<'s> Walk<'s> {
 
     /// The constants of a TABLE.
     #[cycle(places)]
-    fn constants(&mut self, list: &[Exp<'s>]) -> Result<(), End<'s>> {
+    fn constants(&mut self, list: &[Exp<'s>]) -> Result<(), End> {
         for e in list {
             let _at = self.constant(e)?;
         }
@@ -146,18 +175,17 @@ impl<'s> Walk<'s> {
 
     /// Initialisers, all at one level.
     #[cycle(places)]
-    pub fn initials(&mut self, list: &[Exp<'s>], level: u64) -> Result<u64, End<'s>> {
+    pub fn initials(&mut self, list: &[Exp<'s>], level: u64) -> Result<u64, End> {
         let mut width = 0u64;
         for e in list {
-            self.record.root(self.leaves)?;
-            width = width.max(self.expression(false, e, level)?);
+            width = width.max(self.rooted(e, level)?);
         }
         Ok(width)
     }
 
     /// One side of an assignment, each expression at its level: their widths, and the leaves of each.
     #[cycle(places)]
-    pub fn side(&mut self, list: &[Exp<'s>], levels: &[u64]) -> Result<Side, End<'s>> {
+    pub fn side(&mut self, list: &[Exp<'s>], levels: &[u64]) -> Result<Side, End> {
         let mut side = Side {
             widths: Vec::new(self.alloc),
             leaves: Vec::new(self.alloc),
@@ -166,9 +194,7 @@ impl<'s> Walk<'s> {
             let first = self.leaves;
             let level = level_at(levels, side.widths.len() as u64);
             let width = self.expression(false, e, level)?;
-            side.widths.push(width)?;
-            side.leaves
-                .push(Leaves::expression(first, self.last(first), e))?;
+            side.add(width, Leaves::expression(first, self.last(first), e))?;
         }
         Ok(side)
     }
@@ -179,4 +205,12 @@ impl<'s> Walk<'s> {
 pub struct Side {
     pub widths: Vec<u64>,
     pub leaves: Vec<Leaves>,
+}
+
+impl Side {
+    /// One expression more.
+    fn add(&mut self, width: u64, leaves: Leaves) -> Result<(), Memory> {
+        self.widths.push(width)?;
+        Ok(self.leaves.push(leaves)?)
+    }
 }

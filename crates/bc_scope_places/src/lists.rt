@@ -33,12 +33,7 @@ impl<'s> OfList<'s> {
 impl<'s> Walk<'s> {
     /// A block.
     #[cycle(places)]
-    pub fn block(
-        &mut self,
-        allowed: Allowed,
-        tree: &Block<'s>,
-        level: u64,
-    ) -> Result<u64, End<'s>> {
+    pub fn block(&mut self, allowed: Allowed, tree: &Block<'s>, level: u64) -> Result<u64, End> {
         let mark = self.mark();
         let extent = self.declarations(&tree.declarations, level)?;
         let width = self.list(false, allowed, &tree.items, extent.level)?;
@@ -54,17 +49,36 @@ impl<'s> Walk<'s> {
         allowed: Allowed,
         items: &[Item<'s>],
         level: u64,
-    ) -> Result<u64, End<'s>> {
+    ) -> Result<u64, End> {
         declare_list(&mut self.scope, 0, items)?;
-        let mut of_list = OfList::new(self.alloc, cases, self.known());
+        let next = self.known();
+        self.know_all_labels(items)?;
+        let mut of_list = OfList::new(self.alloc, cases, next);
+        self.listed(&mut of_list, allowed, items, level)
+    }
+
+    /// The items of a list, one by one.
+    #[cycle(places)]
+    fn listed(
+        &mut self,
+        of_list: &mut OfList<'s>,
+        allowed: Allowed,
+        items: &[Item<'s>],
+        level: u64,
+    ) -> Result<u64, End> {
+        let mut width = 0u64;
+        for tree in items {
+            width = width.max(self.item(of_list, allowed, tree, level)?);
+        }
+        Ok(width)
+    }
+
+    /// Labels with a name are known in all of a list.
+    fn know_all_labels(&mut self, items: &[Item<'s>]) -> Result<(), End> {
         for item in items {
             self.know_labels(&item.labels)?;
         }
-        let mut width = 0u64;
-        for tree in items {
-            width = width.max(self.item(&mut of_list, allowed, tree, level)?);
-        }
-        Ok(width)
+        Ok(())
     }
 
     /// One item: its labels, and its command.
@@ -75,7 +89,7 @@ impl<'s> Walk<'s> {
         allowed: Allowed,
         tree: &Item<'s>,
         level: u64,
-    ) -> Result<u64, End<'s>> {
+    ) -> Result<u64, End> {
         match &tree.command {
             Some(labelled) => {
                 self.labels(of_list, &tree.labels)?;
@@ -89,7 +103,7 @@ impl<'s> Walk<'s> {
     }
 
     /// Labels with a name are known before their leaves are met.
-    fn know_labels(&mut self, labels: &[Label<'s>]) -> Result<(), End<'s>> {
+    fn know_labels(&mut self, labels: &[Label<'s>]) -> Result<(), End> {
         for label in labels {
             match label {
                 Label::Name(name) => self.know(name)?,
@@ -101,7 +115,7 @@ impl<'s> Walk<'s> {
 
     /// The labels of an item.
     #[cycle(places)]
-    fn labels(&mut self, of_list: &mut OfList<'s>, list: &[Label<'s>]) -> Result<(), End<'s>> {
+    fn labels(&mut self, of_list: &mut OfList<'s>, list: &[Label<'s>]) -> Result<(), End> {
         for tree in list {
             self.label(of_list, tree)?;
         }
@@ -110,7 +124,7 @@ impl<'s> Walk<'s> {
 
     /// A label.
     #[cycle(places)]
-    fn label(&mut self, of_list: &mut OfList<'s>, tree: &Label<'s>) -> Result<(), End<'s>> {
+    fn label(&mut self, of_list: &mut OfList<'s>, tree: &Label<'s>) -> Result<(), End> {
         let leaf = self.leaf();
         match tree {
             Label::Case(value) => {
@@ -121,22 +135,26 @@ impl<'s> Walk<'s> {
                     signs: 0,
                     calls: value_at.calls,
                 };
-                self.case(of_list, constant(&self.scope, value).get(), at)
+                let number = constant(&self.scope, value).get();
+                self.case(of_list, number, at)
             }
             Label::Default => self.default(of_list, Leaves::one(leaf)),
             Label::Name(name) => self.name_label(of_list, name, leaf),
         }
     }
 
-    /// CASE with its value. One that may not stand here is at fault by its word alone.
-    fn case(&self, of_list: &mut OfList<'s>, value: u16, at: Leaves) -> Result<(), End<'s>> {
-        if !of_list.cases {
-            self.stop(
-                ScopeError::Misplaced,
-                Leaves::one(at.first),
-                Beside::Nothing,
-            )?;
+    /// CASE and DEFAULT stand in a SWITCHON's own list.
+    fn in_switch(&mut self, cases: bool, at: Leaves) -> Result<(), End> {
+        if cases {
+            Ok(())
+        } else {
+            self.stop(ScopeError::Misplaced, at, Beside::Nothing)
         }
+    }
+
+    /// CASE with its value. One that may not stand here is at fault by its word alone.
+    fn case(&mut self, of_list: &mut OfList<'s>, value: u16, at: Leaves) -> Result<(), End> {
+        self.in_switch(of_list.cases, Leaves::one(at.first))?;
         match of_list.values.insert(value, at)? {
             Some(first) => self.stop(ScopeError::CaseTwice, at, Beside::First(first)),
             None => Ok(()),
@@ -144,10 +162,8 @@ impl<'s> Walk<'s> {
     }
 
     /// DEFAULT.
-    fn default(&self, of_list: &mut OfList<'s>, at: Leaves) -> Result<(), End<'s>> {
-        if !of_list.cases {
-            self.stop(ScopeError::Misplaced, at, Beside::Nothing)?;
-        }
+    fn default(&mut self, of_list: &mut OfList<'s>, at: Leaves) -> Result<(), End> {
+        self.in_switch(of_list.cases, at)?;
         if let Some(first) = of_list.default {
             self.stop(ScopeError::CaseTwice, at, Beside::First(first))?;
         }
@@ -161,7 +177,7 @@ impl<'s> Walk<'s> {
         of_list: &mut OfList<'s>,
         name: &'s [u8],
         leaf: u64,
-    ) -> Result<(), End<'s>> {
+    ) -> Result<(), End> {
         self.once(&mut of_list.names, name, leaf)?;
         self.declared_at(of_list.next, leaf)?;
         of_list.next = of_list.next.saturating_add(1);

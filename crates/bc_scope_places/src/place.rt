@@ -127,7 +127,7 @@ fn found<'s>(alloc: Global, section: &Section<'s>) -> Result<Option<Found<'s>>, 
     let mut walk = Walk::new(alloc);
     match walk.declarations(&section.declarations, 0) {
         Ok(_extent) => Ok(walk.of_whole()),
-        Err(End::Found(found)) => Ok(Some(found)),
+        Err(End::Found) => Ok(walk.found()),
         Err(End::Memory) => Err(Memory),
     }
 }
@@ -140,7 +140,7 @@ pub fn sites_of(alloc: Global, section: &Section<'_>) -> Result<Option<Sites>, M
     let mut walk = Walk::new(alloc);
     match walk.declarations(&section.declarations, 0) {
         Ok(_extent) => Ok(Some(walk.into_sites())),
-        Err(End::Found(_)) => Ok(None),
+        Err(End::Found) => Ok(None),
         Err(End::Memory) => Err(Memory),
     }
 }

@@ -33,27 +33,27 @@ pub struct Found<'s> {
     pub beside: Beside,
 }
 
-/// Why a walk ends before the section does.
+/// Why a walk ends before the section does: by a fault, which the walk keeps, or for want of memory.
 #[derive(Clone, Copy)]
-pub enum End<'s> {
-    Found(Found<'s>),
+pub enum End {
+    Found,
     Memory,
 }
 
-impl<'s> From<Memory> for End<'s> {
-    fn from(_refused: Memory) -> End<'s> {
+impl From<Memory> for End {
+    fn from(_refused: Memory) -> End {
         End::Memory
     }
 }
 
-impl<'s> From<AllocError> for End<'s> {
-    fn from(_refused: AllocError) -> End<'s> {
+impl From<AllocError> for End {
+    fn from(_refused: AllocError) -> End {
         End::Memory
     }
 }
 
-impl<'s, T: Drop> From<AllocFailed<T>> for End<'s> {
-    fn from(_refused: AllocFailed<T>) -> End<'s> {
+impl<T: Drop> From<AllocFailed<T>> for End {
+    fn from(_refused: AllocFailed<T>) -> End {
         End::Memory
     }
 }
@@ -97,6 +97,8 @@ pub struct Walk<'s> {
     /// How many leaves were met.
     pub leaves: u64,
     known: Vec<Known<'s>>,
+    /// The fault by which the walk ended.
+    found: Option<Found<'s>>,
     /// The first fault, where its variable's declaration is still to come: other faults are then none of the walk's.
     awaited: Option<Awaited<'s>>,
     /// The first routine in text order whose frame is too large.
@@ -115,6 +117,7 @@ impl<'s> Walk<'s> {
             scope: Scope::new(alloc),
             leaves: 0,
             known: Vec::new(alloc),
+            found: None,
             awaited: None,
             large: None,
             places: 0,
@@ -156,16 +159,27 @@ impl<'s> Walk<'s> {
         self.record.leave(back.variables);
     }
 
+    /// The fault by which the walk ended, if one did.
+    pub fn found(&self) -> Option<Found<'s>> {
+        self.found
+    }
+
+    /// The walk ends by this fault.
+    fn end(&mut self, fault: ScopeError<'s>, at: Leaves, beside: Beside) -> Result<(), End> {
+        self.found = Some(Found { fault, at, beside });
+        Err(End::Found)
+    }
+
     /// A fault ends the walk, unless an earlier one still waits.
-    pub fn stop(&self, fault: ScopeError<'s>, at: Leaves, beside: Beside) -> Result<(), End<'s>> {
+    pub fn stop(&mut self, fault: ScopeError<'s>, at: Leaves, beside: Beside) -> Result<(), End> {
         match self.awaited {
             Some(_) => Ok(()),
-            None => Err(End::Found(Found { fault, at, beside })),
+            None => self.end(fault, at, beside),
         }
     }
 
     /// What judging a name answered, which stands at this leaf.
-    pub fn judged(&mut self, answer: Result<(), ScopeError<'s>>, leaf: u64) -> Result<(), End<'s>> {
+    pub fn judged(&mut self, answer: Result<(), ScopeError<'s>>, leaf: u64) -> Result<(), End> {
         match answer {
             Ok(()) => Ok(()),
             Err(ScopeError::Memory) => Err(End::Memory),
@@ -175,27 +189,32 @@ impl<'s> Walk<'s> {
     }
 
     /// A name of an enclosing routine: the walk ends at its declaration, which may stand before it or behind.
-    fn of_another(&mut self, name: &'s [u8], leaf: u64) -> Result<(), End<'s>> {
-        let fault = ScopeError::DynamicFree(name);
+    fn of_another(&mut self, name: &'s [u8], leaf: u64) -> Result<(), End> {
         let Some(declared) = self.newest(name) else {
-            return self.stop(fault, Leaves::one(leaf), Beside::Nothing);
+            return self.not_free(name, leaf, Beside::Nothing);
         };
         match self.known[declared].leaf {
-            Some(first) => self.stop(
-                fault,
-                Leaves::one(leaf),
-                Beside::Declared(Leaves::one(first)),
-            ),
+            Some(first) => self.not_free(name, leaf, Beside::Declared(Leaves::one(first))),
             None => {
-                if self.awaited.is_none() {
-                    self.awaited = Some(Awaited {
-                        name,
-                        leaf,
-                        declared,
-                    });
-                }
+                self.wait(name, leaf, declared);
                 Ok(())
             }
+        }
+    }
+
+    /// The name at this leaf is that of an enclosing routine.
+    fn not_free(&mut self, name: &'s [u8], leaf: u64, beside: Beside) -> Result<(), End> {
+        self.stop(ScopeError::DynamicFree(name), Leaves::one(leaf), beside)
+    }
+
+    /// The name at this leaf waits for its declaration, unless an earlier one does.
+    fn wait(&mut self, name: &'s [u8], leaf: u64, declared: usize) {
+        if self.awaited.is_none() {
+            self.awaited = Some(Awaited {
+                name,
+                leaf,
+                declared,
+            });
         }
     }
 
@@ -234,32 +253,27 @@ impl<'s> Walk<'s> {
     }
 
     /// This one of what is known is declared at this leaf.
-    pub fn declared_at(&mut self, place: usize, leaf: u64) -> Result<(), End<'s>> {
+    pub fn declared_at(&mut self, place: usize, leaf: u64) -> Result<(), End> {
         if place < self.known.len() {
             self.known[place].leaf = Some(leaf);
         }
         match self.awaited {
-            Some(awaited) => {
-                if awaited.declared == place {
-                    return Err(End::Found(Found {
-                        fault: ScopeError::DynamicFree(awaited.name),
-                        at: Leaves::one(awaited.leaf),
-                        beside: Beside::Declared(Leaves::one(leaf)),
-                    }));
-                }
-                Ok(())
-            }
-            None => Ok(()),
+            Some(awaited) if awaited.declared == place => self.end(
+                ScopeError::DynamicFree(awaited.name),
+                Leaves::one(awaited.leaf),
+                Beside::Declared(Leaves::one(leaf)),
+            ),
+            _ => Ok(()),
         }
     }
 
     /// A name may stand once among those that were declared before in one place.
     pub fn once(
-        &self,
+        &mut self,
         before: &mut IndexMap<&'s [u8], u64>,
         name: &'s [u8],
         leaf: u64,
-    ) -> Result<(), End<'s>> {
+    ) -> Result<(), End> {
         match before.insert(name, leaf)? {
             Some(first) => self.stop(
                 ScopeError::DeclaredTwice(name),

@@ -1,7 +1,7 @@
 //! The command `check`.
 
 use crate::loading::{all_contents, explained, segments_of, texts_of};
-use bc_cert::{CheckFault, Verdict, check, check_against};
+use bc_cert::{CheckFault, Verdict, check, check_against, check_sums};
 use bcpl_faults::{Cause, Failure};
 use bcpl_files::contents;
 use bcpl_reports::{Text, against_lines, check_lines};
@@ -48,6 +48,33 @@ fn unread<F: Files>(rt: &F, alloc: Global, path: &str) -> Failure {
     }
 }
 
+/// The failure that a fault of a certificate is.
+fn refused<F: Files>(rt: &F, alloc: Global, path: &str, fault: CheckFault, shows: bool) -> Failure {
+    match fault {
+        CheckFault::Read => unread(rt, alloc, path),
+        fault => {
+            let failure = Failure::new(Cause::Check(fault));
+            if shows {
+                told_of_certificate(rt, alloc, failure, path, fault)
+            } else {
+                failure
+            }
+        }
+    }
+}
+
+/// The certificate of these words, to be read.
+fn opened<F: Files>(rt: &F, alloc: Global, path: &str) -> Result<BufReader<F::File>, Failure> {
+    let file = match fs::open(rt, path) {
+        Ok(file) => file,
+        Err(error) => return Err(Failure::io(alloc, &error, path)),
+    };
+    match BufReader::new(alloc, file) {
+        Ok(reader) => Ok(reader),
+        Err(error) => Err(Failure::io(alloc, &error, path)),
+    }
+}
+
 /// What the certificate of these words says.
 pub fn verdict_of<F: Files>(
     rt: &F,
@@ -55,26 +82,39 @@ pub fn verdict_of<F: Files>(
     path: &str,
     shows: bool,
 ) -> Result<Verdict, Failure> {
-    let file = match fs::open(rt, path) {
-        Ok(file) => file,
-        Err(error) => return Err(Failure::io(alloc, &error, path)),
-    };
-    let reader = match BufReader::new(alloc, file) {
-        Ok(reader) => reader,
-        Err(error) => return Err(Failure::io(alloc, &error, path)),
-    };
-    match check(alloc, reader) {
+    match check(alloc, opened(rt, alloc, path)?) {
         Ok(verdict) => Ok(verdict),
-        Err(CheckFault::Read) => Err(unread(rt, alloc, path)),
-        Err(fault) => {
-            let failure = Failure::new(Cause::Check(fault));
-            Err(if shows {
-                told_of_certificate(rt, alloc, failure, path, fault)
-            } else {
-                failure
-            })
-        }
+        Err(fault) => Err(refused(rt, alloc, path, fault, shows)),
     }
+}
+
+/// How many entries the certificate of these words has, and their words in all. Nothing of an entry is kept.
+fn sums_of<F: Files>(
+    rt: &F,
+    alloc: Global,
+    path: &str,
+    shows: bool,
+) -> Result<(u64, u64), Failure> {
+    match check_sums(alloc, opened(rt, alloc, path)?) {
+        Ok(sums) => Ok((sums.entries, sums.words)),
+        Err(fault) => Err(refused(rt, alloc, path, fault, shows)),
+    }
+}
+
+/// The same of a certificate that has the code of the texts that are named.
+fn sums_against<F: Files>(
+    rt: &F,
+    alloc: Global,
+    order: &CheckOrder<'_>,
+    shows: bool,
+) -> Result<(u64, u64), Failure> {
+    let verdict = verdict_of(rt, alloc, order.certificate, shows)?;
+    compare(rt, alloc, order, &verdict, shows)?;
+    let mut words: u64 = 0;
+    for entry in &verdict.entries {
+        words = words.saturating_add(entry.words);
+    }
+    Ok((verdict.entries.len() as u64, words))
 }
 
 /// Compares what a certificate says with the texts of these words.
@@ -119,15 +159,11 @@ pub fn check_certificate<F: Files, O: Write + Drop>(
     shows: bool,
     out: &mut O,
 ) -> Result<(), Failure> {
-    let verdict = verdict_of(rt, alloc, order.certificate, shows)?;
-    if !order.texts.is_empty() {
-        compare(rt, alloc, order, &verdict, shows)?;
-    }
-    let entries = verdict.entries.len();
-    let mut words: u64 = 0;
-    for entry in &verdict.entries {
-        words = words.saturating_add(entry.words);
-    }
+    let (entries, words) = if order.texts.is_empty() {
+        sums_of(rt, alloc, order.certificate, shows)?
+    } else {
+        sums_against(rt, alloc, order, shows)?
+    };
     if writeln!(out, "ok {entries} {words}").is_ok() && out.flush().is_ok() {
         Ok(())
     } else {

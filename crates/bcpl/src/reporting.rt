@@ -3,7 +3,7 @@
 use crate::compiling::{given_to_compiler, library_sources, mains_of, paths_of, sources_of, spare};
 use crate::explaining::{Program, explained};
 use bc_build::{Built, build};
-use bc_cert::{check, write_cert};
+use bc_cert::{check_sums, write_cert};
 use bc_lex::{Source, Token, lex};
 use bc_parse::{Section, parse};
 use bc_rules_defs::Entry;
@@ -71,17 +71,11 @@ fn judged(alloc: Global, built: &Built) -> Result<Checked, Failure> {
     if write_cert(alloc, built.entries.as_slice(), &mut certificate).is_err() {
         return Err(Failure::new(Cause::Certificate));
     }
-    match check(alloc, certificate.as_slice()) {
-        Ok(verdict) => {
-            let mut words: u64 = 0;
-            for entry in &verdict.entries {
-                words = words.saturating_add(entry.words);
-            }
-            Ok(Checked {
-                entries: verdict.entries.len() as u64,
-                words,
-            })
-        }
+    match check_sums(alloc, certificate.as_slice()) {
+        Ok(sums) => Ok(Checked {
+            entries: sums.entries,
+            words: sums.words,
+        }),
         Err(fault) => Err(Failure::new(Cause::Check(fault))),
     }
 }

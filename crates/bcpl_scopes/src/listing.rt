@@ -4,7 +4,7 @@ use bc_lex_tokens::Token;
 use bc_parse_tree::Section;
 use bc_text_items::Item;
 use bc_word::Memory;
-use bcpl_show::{Files, Lines, Page, leaves_of};
+use bcpl_show::{Field, Files, Lines, Page, leaves_of};
 use std::alloc::Global;
 
 /// How many columns of a name or a string are shown.
@@ -12,7 +12,8 @@ const SHOWN: usize = 50;
 
 /// What stands in front of each frame's names.
 const KEPT: &str =
-    "Offset 0 of each frame keeps the caller's frame, offset 1 where the caller goes on.";
+    "Offset 0 of each frame keeps the caller's frame, offset 1 where the caller goes on.\n\
+    The level beside a name is the first offset behind its cells, at which what comes next begins.\n\n";
 
 /// A segment that sets globals beside the section's own.
 #[derive(Clone, Copy)]
@@ -65,77 +66,75 @@ fn sets(items: &[Item], wanted: u16) -> bool {
 }
 
 impl<'p, 's> Listing<'p, 's> {
-    /// Adds where a leaf stands.
-    fn add_line(&mut self, leaf: usize) -> Result<(), Memory> {
-        match self.leaves.get(leaf).copied() {
+    /// Ends a line, with where a leaf stands.
+    fn end_line(&mut self, leaf: usize) -> Result<(), Memory> {
+        match self.leaves.get(leaf) {
             Some(token) if token.file == self.scopes.main => {
-                let number = self.lines.number_at(token.start);
-                self.page.add(b"line ")?;
-                self.page.add_number(number as u64, 0)
+                let number = self.lines.number_at(token.start) as u64;
+                self.page
+                    .add_line(&[Field::Text("line "), Field::Number(number, 0)])
             }
-            Some(token) => self.page.add_text(self.scopes.files.path(token.file)),
-            None => Ok(()),
+            Some(token) => {
+                let path = self.scopes.files.path(token.file);
+                self.page.add_line(&[Field::Text(path)])
+            }
+            None => self.page.end_line(),
         }
     }
 
-    fn add_label(&mut self, label: u64) -> Result<(), Memory> {
-        let alloc = self.page.alloc();
-        let text = format!(in alloc; "L{label}")?;
-        self.page.add_text(text.as_str())
+    /// Adds what the cells of a row are, and where it is declared.
+    fn end_row(&mut self, row: Row<'s>) -> Result<(), Memory> {
+        match row.cells {
+            Cells::Parameter => return self.page.add_line(&[Field::Text("parameter")]),
+            Cells::Variable => self.page.add_text("variable, ")?,
+            Cells::Counter => self.page.add_text("FOR, with its limit, ")?,
+            Cells::Vector(last) => self.page.add_all(&[
+                Field::Text("vector 0 to "),
+                Field::Number(u64::from(last), 0),
+                Field::Text(" behind its own cell, "),
+            ])?,
+        }
+        self.end_line(row.leaf)
     }
 
     fn add_row(&mut self, row: Row<'s>) -> Result<(), Memory> {
-        self.page.add_number(row.offset, 8)?;
-        self.page.add_number(row.count, 8)?;
         let level = row.offset.saturating_add(row.count);
-        self.page.add_number(level, 8)?;
-        self.page.add(b"  ")?;
-        self.page.add_front(row.name, SHOWN)?;
-        self.page.fill_to(44)?;
-        self.page.add(b" ")?;
-        match row.cells {
-            Cells::Parameter => self.page.add(b"parameter")?,
-            Cells::Variable => {
-                self.page.add(b"variable, ")?;
-                self.add_line(row.leaf)?;
-            }
-            Cells::Vector(last) => {
-                self.page.add(b"vector 0 to ")?;
-                self.page.add_number(u64::from(last), 0)?;
-                self.page.add(b" behind its own cell, ")?;
-                self.add_line(row.leaf)?;
-            }
-            Cells::Counter => {
-                self.page.add(b"FOR, with its limit, ")?;
-                self.add_line(row.leaf)?;
-            }
+        self.page.add_all(&[
+            Field::Number(row.offset, 8),
+            Field::Number(row.count, 8),
+            Field::Number(level, 8),
+            Field::Text("  "),
+            Field::Front(row.name, SHOWN),
+            Field::Column(44),
+            Field::Text(" "),
+        ])?;
+        self.end_row(row)
+    }
+
+    /// Adds what a frame is that of.
+    fn add_routine(&mut self, frame: Frame<'s>) -> Result<(), Memory> {
+        self.page.add_all(&[
+            Field::Text("routine "),
+            Field::Front(frame.name, SHOWN),
+            Field::Text(", L"),
+            Field::Number(frame.label, 0),
+        ])?;
+        if let Some(number) = frame.global {
+            let number = Field::Number(u64::from(number), 0);
+            self.page.add_all(&[Field::Text(", sets global "), number])?;
         }
-        self.page.end_line()
+        self.page.add_text(", ")?;
+        self.end_line(frame.leaf)
     }
 
     fn add_frame(&mut self, index: usize, frame: Frame<'s>) -> Result<(), Memory> {
-        self.page.add(b"routine ")?;
-        self.page.add_front(frame.name, SHOWN)?;
-        self.page.add(b", ")?;
-        self.add_label(frame.label)?;
-        if let Some(number) = frame.global {
-            self.page.add(b", sets global ")?;
-            self.page.add_number(u64::from(number), 0)?;
-        }
-        self.page.add(b", ")?;
-        self.add_line(frame.leaf)?;
-        self.page.end_line()?;
-        let mut is_first = true;
-        for place in 0..self.walk.rows.len() {
-            if let Some(row) = self.walk.rows.get(place).copied() {
-                if row.frame == index {
-                    if is_first {
-                        self.page.add(b"  offset   cells   level  name")?;
-                        self.page.end_line()?;
-                        is_first = false;
-                    }
-                    self.add_row(row)?;
-                }
+        self.add_routine(frame)?;
+        let mut head = "  offset   cells   level  name\n";
+        for row in &self.walk.rows {
+            if row.frame == index {
+                self.page.add_lines(head)?;
+                head = "";
+                self.add_row(*row)?;
             }
         }
         self.page.end_line()
@@ -143,106 +142,117 @@ impl<'p, 's> Listing<'p, 's> {
 
     fn add_frames(&mut self) -> Result<(), Memory> {
         if !self.walk.frames.is_empty() {
-            self.page.add_text(KEPT)?;
-            self.page.end_line()?;
-            self.page.end_line()?;
+            self.page.add_lines(KEPT)?;
         }
-        for index in 0..self.walk.frames.len() {
-            if let Some(frame) = self.walk.frames.get(index).copied() {
-                self.add_frame(index, frame)?;
-            }
+        for (index, frame) in self.walk.frames.iter().enumerate() {
+            self.add_frame(index, *frame)?;
         }
         Ok(())
     }
 
-    /// A static, a table or a string.
-    fn add_datum(&mut self, datum: Datum) -> Result<(), Memory> {
-        self.page.add(b"  ")?;
-        self.add_label(datum.label)?;
-        self.page.fill_to(10)?;
-        let index = (datum.label as usize).saturating_sub(1);
-        let text: &[u8] = match self.leaves.get(datum.leaf).copied() {
+    /// The text at a leaf.
+    fn text_at(&self, leaf: usize) -> &'s [u8] {
+        match self.leaves.get(leaf) {
             Some(token) => token.text,
             None => b"",
-        };
-        match self.scopes.core.places().get(index) {
-            Some(Place::Static(word)) => {
-                self.page.add(b"static ")?;
-                self.page.add_front(text, SHOWN)?;
-                self.page.add(b" = ")?;
-                self.page.add_number(u64::from(word.get()), 0)?;
-            }
-            Some(Place::Table(words)) => {
-                self.page.add(b"table of ")?;
-                self.page.add_number(words.len() as u64, 0)?;
-                self.page
-                    .add_text(if words.len() == 1 { " word" } else { " words" })?;
-            }
-            Some(Place::Text(_)) => {
-                self.page.add(b"string ")?;
-                self.page.add_front(text, SHOWN)?;
-            }
-            Some(Place::Routine(_)) | None => {}
         }
-        self.page.add(b", ")?;
-        self.add_line(datum.leaf)?;
-        self.page.end_line()
+    }
+
+    /// Adds what stands at a label, with its name or its text.
+    fn add_place(&mut self, label: u64, text: &[u8]) -> Result<(), Memory> {
+        let index = (label as usize).saturating_sub(1);
+        let places = self.scopes.core.places();
+        match places.get(index) {
+            Some(Place::Static(word)) => self.page.add_all(&[
+                Field::Text("static "),
+                Field::Front(text, SHOWN),
+                Field::Text(" = "),
+                Field::Number(u64::from(word.get()), 0),
+            ]),
+            Some(Place::Table(words)) => {
+                let count = words.len() as u64;
+                let unit = if count == 1 { " word" } else { " words" };
+                self.page.add_all(&[
+                    Field::Text("table of "),
+                    Field::Number(count, 0),
+                    Field::Text(unit),
+                ])
+            }
+            Some(Place::Text(_)) => self
+                .page
+                .add_all(&[Field::Text("string "), Field::Front(text, SHOWN)]),
+            Some(Place::Routine(_)) | None => Ok(()),
+        }
+    }
+
+    /// A static, a table or a string.
+    fn add_datum(&mut self, datum: Datum) -> Result<(), Memory> {
+        self.page.add_all(&[
+            Field::Text("  L"),
+            Field::Number(datum.label, 0),
+            Field::Column(10),
+        ])?;
+        self.add_place(datum.label, self.text_at(datum.leaf))?;
+        self.page.add_text(", ")?;
+        self.end_line(datum.leaf)
     }
 
     fn add_data(&mut self) -> Result<(), Memory> {
         if self.walk.data.is_empty() {
             return Ok(());
         }
-        self.page.add(b"statics, tables and strings")?;
-        self.page.end_line()?;
-        for place in 0..self.walk.data.len() {
-            if let Some(datum) = self.walk.data.get(place).copied() {
-                self.add_datum(datum)?;
-            }
+        self.page.add_lines("statics, tables and strings\n")?;
+        for datum in &self.walk.data {
+            self.add_datum(*datum)?;
         }
         self.page.end_line()
     }
 
-    /// The frame that sets a global, by its index, if one does.
-    fn setting(&self, number: u16) -> Option<usize> {
-        for index in 0..self.walk.frames.len() {
-            if let Some(frame) = self.walk.frames.get(index) {
-                if is_number(frame.global, number) {
-                    return Some(index);
-                }
+    /// The label of the routine that sets a global, if one does.
+    fn setting(&self, number: u16) -> Option<u64> {
+        for frame in &self.walk.frames {
+            if is_number(frame.global, number) {
+                return Some(frame.label);
             }
         }
         None
     }
 
+    /// What the segment is called that sets a global, if one does.
+    fn setter(&self, number: u16) -> &'p str {
+        for setter in self.scopes.setters {
+            if sets(setter.items, number) {
+                return setter.name;
+            }
+        }
+        "no routine here"
+    }
+
     /// Adds what sets a global.
     fn add_setting(&mut self, number: u16) -> Result<(), Memory> {
-        if let Some(index) = self.setting(number) {
-            if let Some(frame) = self.walk.frames.get(index).copied() {
-                self.page.add(b"set by ")?;
-                return self.add_label(frame.label);
+        match self.setting(number) {
+            Some(label) => self
+                .page
+                .add_all(&[Field::Text("set by L"), Field::Number(label, 0)]),
+            None => {
+                let setter = self.setter(number);
+                self.page
+                    .add_all(&[Field::Text("set by "), Field::Text(setter)])
             }
         }
-        let setters = self.scopes.setters;
-        for setter in setters {
-            if sets(setter.items, number) {
-                self.page.add(b"set by ")?;
-                return self.page.add_text(setter.name);
-            }
-        }
-        self.page.add(b"set by no routine here")
     }
 
     fn add_global(&mut self, known: Known<'s>) -> Result<(), Memory> {
-        self.page.add_number(u64::from(known.number), 8)?;
-        self.page.add(b"  ")?;
-        self.page.add_front(known.name, SHOWN)?;
-        self.page.fill_to(44)?;
-        self.page.add(b" ")?;
+        self.page.add_all(&[
+            Field::Number(u64::from(known.number), 8),
+            Field::Text("  "),
+            Field::Front(known.name, SHOWN),
+            Field::Column(44),
+            Field::Text(" "),
+        ])?;
         self.add_setting(known.number)?;
-        self.page.add(b"; ")?;
-        self.add_line(known.leaf)?;
-        self.page.end_line()
+        self.page.add_text("; ")?;
+        self.end_line(known.leaf)
     }
 
     /// Whether a global is told: one that is declared in the file, named or set.
@@ -255,18 +265,12 @@ impl<'p, 's> Listing<'p, 's> {
     }
 
     fn add_globals(&mut self) -> Result<(), Memory> {
-        let mut is_first = true;
-        for place in 0..self.walk.globals.len() {
-            if let Some(known) = self.walk.globals.get(place).copied() {
-                if self.is_told(known) {
-                    if is_first {
-                        self.page
-                            .add(b"globals that are declared here, named or set")?;
-                        self.page.end_line()?;
-                        is_first = false;
-                    }
-                    self.add_global(known)?;
-                }
+        let mut head = "globals that are declared here, named or set\n";
+        for known in &self.walk.globals {
+            if self.is_told(*known) {
+                self.page.add_lines(head)?;
+                head = "";
+                self.add_global(*known)?;
             }
         }
         Ok(())

@@ -124,10 +124,7 @@ impl<'p, 's> Walk<'p, 's> {
 
     /// A table or a string at the next leaf.
     fn datum(&mut self) -> Result<(), Memory> {
-        self.data.push(Datum {
-            label: self.at.place,
-            leaf: self.leaves,
-        })?;
+        self.keep_datum()?;
         self.leaf();
         self.at = self.at.behind_place()?;
         Ok(())
@@ -155,6 +152,14 @@ impl<'p, 's> Walk<'p, 's> {
         Ok(())
     }
 
+    /// The word VALOF; given is the level of its body.
+    fn valof(&mut self) -> Result<u64, Memory> {
+        self.leaf();
+        let level = self.level_of(self.at.valof);
+        self.at = self.at.behind_valof()?;
+        Ok(level)
+    }
+
     #[cycle(scoping)]
     fn expression(&mut self, frame: usize, e: &Exp<'s>) -> Result<(), Memory> {
         match e {
@@ -169,9 +174,7 @@ impl<'p, 's> Walk<'p, 's> {
                 self.expressions(frame, values)
             }
             Exp::Valof(body) => {
-                self.leaf();
-                let level = self.level_of(self.at.valof);
-                self.at = self.at.behind_valof()?;
+                let level = self.valof()?;
                 self.block(frame, body, level)
             }
             Exp::Monadic(_, operand) => self.expression(frame, operand),
@@ -250,13 +253,20 @@ impl<'p, 's> Walk<'p, 's> {
             })?;
         }
         if let Storage::Static = storage {
-            self.data.push(Datum {
-                label: self.at.place,
-                leaf: self.leaves,
-            })?;
+            self.keep_datum()?;
         }
         self.leaf();
         Ok(())
+    }
+
+    /// What is at the next leaf is a place.
+    fn keep_datum(&mut self) -> Result<(), Memory> {
+        Ok(
+            self.data.push(Datum {
+                label: self.at.place,
+                leaf: self.leaves,
+            })?,
+        )
     }
 
     /// The definitions of a LET at this next free offset; given is the one behind them.
@@ -286,43 +296,55 @@ impl<'p, 's> Walk<'p, 's> {
     ) -> Result<(), Memory> {
         match tree {
             Definition::Variables(names, values) => {
-                for name in names {
-                    self.variable(frame, name, 1, Cells::Variable)?;
-                }
+                self.variables(frame, names, Cells::Variable)?;
                 self.expressions(frame, values)
             }
             Definition::Vector(name, greatest) => {
-                let count = u64::from(prior.greatest).saturating_add(2);
-                self.variable(frame, name, count, Cells::Vector(prior.greatest))?;
-                self.leaf();
+                self.vector(frame, name, prior.greatest)?;
                 self.expression(frame, greatest)
             }
-            Definition::Function(name, parameters, value) => {
-                let outside = self.scope.mark();
-                let inside = self.routine(name, parameters, prior.global)?;
-                self.expression(inside, value)?;
-                self.scope.leave(outside);
-                Ok(())
-            }
-            Definition::Routine(name, parameters, body) => {
-                let outside = self.scope.mark();
-                let inside = self.routine(name, parameters, prior.global)?;
-                let level = (parameters.len() as u64).saturating_add(2);
-                self.block(inside, body, level)?;
-                self.scope.leave(outside);
-                Ok(())
-            }
+            Definition::Function(name, parameters, _) | Definition::Routine(name, parameters, _) =>
+                {
+                    let outside = self.scope.mark();
+                    let inside = self.routine(name, parameters, prior.global)?;
+                    self.inside(inside, tree)?;
+                    self.scope.leave(outside);
+                    Ok(())
+                }
         }
     }
 
-    /// The name and the parameters of a routine; given is its frame.
-    fn routine(
-        &mut self,
-        name: &'s [u8],
-        parameters: &[&'s [u8]],
-        global: Option<u16>,
-    ) -> Result<usize, Memory> {
-        let frame = self.frames.len();
+    /// What a routine with this frame gives or does.
+    #[cycle(scoping)]
+    fn inside(&mut self, frame: usize, tree: &Definition<'s>) -> Result<(), Memory> {
+        match tree {
+            Definition::Function(_, _, value) => self.expression(frame, value),
+            Definition::Routine(_, parameters, body) => {
+                let level = (parameters.len() as u64).saturating_add(2);
+                self.block(frame, body, level)
+            }
+            Definition::Variables(_, _) | Definition::Vector(_, _) => Ok(()),
+        }
+    }
+
+    /// Variables of a frame, each with one cell.
+    fn variables(&mut self, frame: usize, names: &[&'s [u8]], cells: Cells) -> Result<(), Memory> {
+        for name in names {
+            self.variable(frame, name, 1, cells)?;
+        }
+        Ok(())
+    }
+
+    /// The name of a vector, and the word VEC.
+    fn vector(&mut self, frame: usize, name: &'s [u8], greatest: u16) -> Result<(), Memory> {
+        let count = u64::from(greatest).saturating_add(2);
+        self.variable(frame, name, count, Cells::Vector(greatest))?;
+        self.leaf();
+        Ok(())
+    }
+
+    /// The name of a routine is a place, and may set a global.
+    fn head(&mut self, name: &'s [u8], global: Option<u16>) -> Result<(), Memory> {
         self.frames.push(Frame {
             name,
             label: self.at.place,
@@ -334,10 +356,20 @@ impl<'p, 's> Walk<'p, 's> {
         }
         self.leaf();
         self.at = self.at.behind_place()?;
+        Ok(())
+    }
+
+    /// The name and the parameters of a routine; given is its frame.
+    fn routine(
+        &mut self,
+        name: &'s [u8],
+        parameters: &[&'s [u8]],
+        global: Option<u16>,
+    ) -> Result<usize, Memory> {
+        let frame = self.frames.len();
+        self.head(name, global)?;
         declare_parameters(&mut self.scope, parameters)?;
-        for name in parameters {
-            self.variable(frame, name, 1, Cells::Parameter)?;
-        }
+        self.variables(frame, parameters, Cells::Parameter)?;
         Ok(frame)
     }
 
@@ -413,19 +445,30 @@ impl<'p, 's> Walk<'p, 's> {
         if let Some(by) = step {
             self.expression(frame, by)?;
         }
-        self.rows.push(Row {
-            frame,
-            name: *variable,
-            offset: level,
-            count: 2,
-            cells: Cells::Counter,
-            leaf: first,
-        })?;
         let outside = self.scope.mark();
-        self.scope.declare(variable, Meant::Variable(level))?;
+        self.counter(frame, variable, level, first)?;
         self.block(frame, body, level.saturating_add(2))?;
         self.scope.leave(outside);
         Ok(())
+    }
+
+    /// The variable of a FOR at this offset, and its limit.
+    fn counter(
+        &mut self,
+        frame: usize,
+        name: &'s [u8],
+        offset: u64,
+        leaf: usize,
+    ) -> Result<(), Memory> {
+        self.rows.push(Row {
+            frame,
+            name,
+            offset,
+            count: 2,
+            cells: Cells::Counter,
+            leaf,
+        })?;
+        Ok(self.scope.declare(name, Meant::Variable(offset))?)
     }
 
     #[cycle(scoping)]

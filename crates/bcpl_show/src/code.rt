@@ -2,7 +2,7 @@ use crate::leaves::leaves_of;
 use crate::lines::{Files, Lines};
 use crate::marks::{Marks, Owner};
 use crate::outline::Outline;
-use crate::page::{Page, WIDTH};
+use crate::page::{Field, Page, WIDTH};
 use crate::sizes::{words_of_items, words_of_pieces};
 use bc_core::{Core, Place};
 use bc_lex_tokens::Token;
@@ -72,16 +72,14 @@ impl<'p, 's> Listing<'p, 's> {
     /// Tells a line of the file.
     fn tell(&mut self, number: usize) -> Result<(), Memory> {
         let line = self.lines.line(self.text, number);
-        self.page.add(b"/ ")?;
-        self.page.add_number(number as u64, 4)?;
-        self.page.add(b" |")?;
-        if !line.is_empty() {
-            self.page.add(b" ")?;
-            self.page.add_front(line, LINE)?;
-        }
-        self.page.end_line()?;
+        let sign = if line.is_empty() { " |" } else { " | " };
         self.last = Some(number);
-        Ok(())
+        self.page.add_line(&[
+            Field::Text("/ "),
+            Field::Number(number as u64, 4),
+            Field::Text(sign),
+            Field::Front(line, LINE),
+        ])
     }
 
     /// Tells that a line of another file is meant.
@@ -89,25 +87,30 @@ impl<'p, 's> Listing<'p, 's> {
         let text = self.program.files.text(file);
         let lines = Lines::new(self.page.alloc(), text)?;
         let number = lines.number_at(at);
-        self.page.add(b"/ ")?;
-        self.page.add_text(self.program.files.path(file))?;
-        self.page.add(b":")?;
-        self.page.add_number(number as u64, 0)?;
-        self.page.add(b" | ")?;
-        self.page.add_front(lines.line(text, number), SHOWN)?;
-        self.page.end_line()?;
         self.last = None;
+        self.page.add_line(&[
+            Field::Text("/ "),
+            Field::Text(self.program.files.path(file)),
+            Field::Text(":"),
+            Field::Number(number as u64, 0),
+            Field::Text(" | "),
+            Field::Front(lines.line(text, number), SHOWN),
+        ])
+    }
+
+    /// Tells the lines up to this one that were not told.
+    fn tell_further(&mut self, number: usize) -> Result<(), Memory> {
+        for line in self.told..number {
+            self.tell(line.saturating_add(1))?;
+        }
+        self.told = number;
         Ok(())
     }
 
     /// Tells the lines up to this one that were not told, or this one again.
     fn tell_up_to(&mut self, number: usize) -> Result<(), Memory> {
         if number > self.told {
-            for line in self.told..number {
-                self.tell(line.saturating_add(1))?;
-            }
-            self.told = number;
-            return Ok(());
+            return self.tell_further(number);
         }
         match self.last {
             Some(last) if last == number => Ok(()),
@@ -142,14 +145,14 @@ impl<'p, 's> Listing<'p, 's> {
 
     /// Adds an item to its line.
     fn put_item(&mut self, item: &Item, text: &str) -> Result<(), Memory> {
-        if !matches!(item, Item::Label(_)) {
-            if self.page.column() < ITEMS {
-                self.page.fill_to(ITEMS)?;
-            } else {
-                self.page.add(b" ")?;
-            }
-        }
-        self.page.add_text(text)
+        let before = if matches!(item, Item::Label(_)) {
+            Field::Text("")
+        } else if self.page.column() < ITEMS {
+            Field::Column(ITEMS)
+        } else {
+            Field::Text(" ")
+        };
+        self.page.add_all(&[before, Field::Text(text)])
     }
 
     /// Adds an item, where need be on a further line.
@@ -163,25 +166,23 @@ impl<'p, 's> Listing<'p, 's> {
 
     /// Ends a line, with what is said in it.
     fn end_line(&mut self, said: &str) -> Result<(), Memory> {
-        if !said.is_empty() {
-            self.page.fill_to(SAID)?;
-            self.page.add(b"/ ")?;
-            self.page.add_text(said)?;
+        if said.is_empty() {
+            return self.page.end_line();
         }
+        self.page.add_line(&[Field::Column(SAID), Field::Text("/ "), Field::Text(said)])
+    }
+
+    /// Tells what is said of the items that follow, in lines of its own.
+    fn say_before(&mut self, said: &str) -> Result<(), Memory> {
+        self.page
+            .add_all(&[Field::Column(ITEMS), Field::Text("/ ")])?;
+        self.page.add_words(said, "        /   ")?;
         self.page.end_line()
     }
 
-    /// Adds items in lines, and what is said of them: behind the first line, or in front where that is long.
-    fn add_items(&mut self, items: &[Item], said: &str) -> Result<(), Memory> {
-        let is_behind = SAID.saturating_add(said.len()).saturating_add(2) <= WIDTH;
-        if !is_behind {
-            self.page.fill_to(ITEMS)?;
-            self.page.add(b"/ ")?;
-            self.page.add_words(said, "        /   ")?;
-            self.page.end_line()?;
-        }
-        let limit = if is_behind { SAID - 1 } else { WIDTH };
-        let mut left = if is_behind { said } else { "" };
+    /// Adds items in lines up to this column, and behind the first line what is said of them.
+    fn put_items(&mut self, items: &[Item], said: &str, limit: usize) -> Result<(), Memory> {
+        let mut left = said;
         for item in items {
             let text = self.text_of(item)?;
             if self.is_further(item, text.len(), limit) {
@@ -191,6 +192,16 @@ impl<'p, 's> Listing<'p, 's> {
             self.put_item(item, text.as_str())?;
         }
         self.end_line(left)
+    }
+
+    /// Adds items in lines, and what is said of them: behind the first line, or in front where that is long.
+    fn add_items(&mut self, items: &[Item], said: &str) -> Result<(), Memory> {
+        let is_behind = SAID.saturating_add(said.len()).saturating_add(2) <= WIDTH;
+        if is_behind {
+            return self.put_items(items, said, SAID - 1);
+        }
+        self.say_before(said)?;
+        self.put_items(items, "", WIDTH)
     }
 
     /// The items of an owner from this one on: the index behind the last that stands beside it.
@@ -226,21 +237,17 @@ impl<'p, 's> Listing<'p, 's> {
             self.tell_leaf(leaf)?;
         }
         let entries = self.program.entries;
-        let Some(entry) = entries.get(index) else {
-            return self.add_items(items, "");
-        };
-        if self.is_begun(index) {
-            return self.add_items(items, "the same, behind a VALOF");
+        match entries.get(index) {
+            None => self.add_items(items, ""),
+            Some(_) if self.is_begun(index) => self.add_items(items, "the same, behind a VALOF"),
+            Some(entry) => self.add_entry(entry, items),
         }
+    }
+
+    /// The items of a root for the first time.
+    fn add_entry(&mut self, entry: &Entry, items: &[Item]) -> Result<(), Memory> {
         let alloc = self.page.alloc();
-        let pieces = code_of(
-            alloc,
-            &entry.root,
-            &entry.derivation,
-            entry.target,
-            entry.first,
-        )?;
-        let words = words_of_pieces(pieces.as_slice());
+        let words = words_of_entry(alloc, entry)?;
         self.sizes.roots = self.sizes.roots.saturating_add(words);
         let rules = ShownDerivation(&entry.derivation);
         let unit = unit(words);
@@ -254,15 +261,18 @@ impl<'p, 's> Listing<'p, 's> {
             return self.add_items(items, "");
         };
         self.tell_leaf(own.leaf)?;
-        let alloc = self.page.alloc();
-        let words = words_of_items(alloc, items)?;
+        let words = words_of_items(self.page.alloc(), items)?;
         self.sizes.commands = self.sizes.commands.saturating_add(words);
-        let what = own.what.words();
+        self.add_counted(items, words, own.what.words())
+    }
+
+    /// Items of so many words, and what they are.
+    fn add_counted(&mut self, items: &[Item], words: u64, what: &str) -> Result<(), Memory> {
         if words == 0 {
             return self.add_items(items, what);
         }
         let unit = unit(words);
-        let said = format!(in alloc; "{words} {unit}: {what}")?;
+        let said = format!(in self.page.alloc(); "{words} {unit}: {what}")?;
         self.add_items(items, said.as_str())
     }
 
@@ -285,26 +295,50 @@ impl<'p, 's> Listing<'p, 's> {
             Some(Place::Text(_)) => "string ",
             Some(Place::Routine(_)) | None => return Ok(()),
         };
-        self.page.add(b"/ ")?;
-        self.page.add_text(what)?;
-        self.page.add_front(token.text, SHOWN)?;
-        if token.file == self.program.main {
-            let number = self.lines.number_at(token.start);
-            self.page.add(b" of line ")?;
-            self.page.add_number(number as u64, 0)?;
+        let shown = [
+            Field::Text("/ "),
+            Field::Text(what),
+            Field::Front(token.text, SHOWN),
+        ];
+        if token.file != self.program.main {
+            return self.page.add_line(&shown);
         }
-        self.page.end_line()
+        self.page.add_all(&shown)?;
+        let number = self.lines.number_at(token.start);
+        self.page.add_line(&[Field::Text(" of line "), Field::Number(number as u64, 0)])
     }
 
     /// A global that is set.
     fn add_setting(&mut self, item: &Item, label: u16) -> Result<(), Memory> {
         self.add_item(item)?;
-        self.page.fill_to(SAID)?;
-        self.page.add(b"/ ")?;
-        if let Some(token) = self.token_of_place(label) {
-            self.page.add_front(token.text, SHOWN)?;
+        let name: &[u8] = match self.token_of_place(label) {
+            Some(token) => token.text,
+            None => b"",
+        };
+        self.page.add_line(&[
+            Field::Column(SAID),
+            Field::Text("/ "),
+            Field::Front(name, SHOWN),
+        ])
+    }
+
+    /// A label, and what it is that of.
+    fn add_place(&mut self, item: &Item, label: u16) -> Result<(), Memory> {
+        self.page.end_begun()?;
+        self.tell_place(label)?;
+        self.add_item(item)
+    }
+
+    /// An item of the section's.
+    fn add_datum(&mut self, item: &Item) -> Result<(), Memory> {
+        match item {
+            Item::Label(label) => self.add_place(item, label.get()),
+            Item::Global { label, .. } => {
+                self.page.end_begun()?;
+                self.add_setting(item, label.get())
+            }
+            _ => self.add_item(item),
         }
-        self.page.end_line()
     }
 
     /// What is the section's: its data, and the globals that it sets.
@@ -312,27 +346,9 @@ impl<'p, 's> Listing<'p, 's> {
         let words = words_of_items(self.page.alloc(), items)?;
         self.sizes.data = self.sizes.data.saturating_add(words);
         for item in items {
-            match item {
-                Item::Label(label) => {
-                    if self.page.column() > 0 {
-                        self.page.end_line()?;
-                    }
-                    self.tell_place(label.get())?;
-                    self.add_item(item)?;
-                }
-                Item::Global { label, .. } => {
-                    if self.page.column() > 0 {
-                        self.page.end_line()?;
-                    }
-                    self.add_setting(item, label.get())?;
-                }
-                _ => self.add_item(item)?,
-            }
+            self.add_datum(item)?;
         }
-        if self.page.column() > 0 {
-            self.page.end_line()?;
-        }
-        Ok(())
+        self.page.end_begun()
     }
 
     /// The items from this one on that have one owner; gives the index behind them.
@@ -342,20 +358,21 @@ impl<'p, 's> Listing<'p, 's> {
         let Some(items) = all.get(from..end) else {
             return Ok(end);
         };
-        match self.marks.owners.get(from).copied() {
-            Some(Owner::Root(index)) => self.add_root(index, items)?,
-            Some(Owner::Command(index)) => self.add_own(index, items)?,
-            Some(Owner::Section) => {
-                let count = self.lines.count(self.text);
-                for line in self.told..count {
-                    self.tell(line.saturating_add(1))?;
-                }
-                self.told = count;
-                self.add_data(items)?;
-            }
-            None => {}
-        }
+        self.add_owned(self.marks.owners.get(from).copied(), items)?;
         Ok(end)
+    }
+
+    /// The items of an owner.
+    fn add_owned(&mut self, owner: Option<Owner>, items: &[Item]) -> Result<(), Memory> {
+        match owner {
+            Some(Owner::Root(index)) => self.add_root(index, items),
+            Some(Owner::Command(index)) => self.add_own(index, items),
+            Some(Owner::Section) => {
+                self.tell_further(self.lines.count(self.text))?;
+                self.add_data(items)
+            }
+            None => Ok(()),
+        }
     }
 
     /// Adds all items in runs of one owner, the end of the text, and the sizes.
@@ -368,18 +385,18 @@ impl<'p, 's> Listing<'p, 's> {
             }
             at = self.add_run(at)?;
         }
-        self.page.add(b"Z")?;
-        self.page.end_line()?;
+        self.page.add_line(&[Field::Text("Z")])?;
         self.add_sizes()
     }
 
     /// A line of sizes.
     fn add_size(&mut self, words: u64, what: &str) -> Result<(), Memory> {
-        self.page.add(b"/ ")?;
-        self.page.add_number(words, 6)?;
-        self.page.add(b"  ")?;
-        self.page.add_text(what)?;
-        self.page.end_line()
+        self.page.add_line(&[
+            Field::Text("/ "),
+            Field::Number(words, 6),
+            Field::Text("  "),
+            Field::Text(what),
+        ])
     }
 
     /// How many words there are, and at which address the stack begins.
@@ -390,20 +407,37 @@ impl<'p, 's> Listing<'p, 's> {
             data,
         } = self.sizes;
         let [cells, primitives, library] = self.program.first;
-        self.add_size(roots, "words of roots")?;
-        self.add_size(commands, "words of commands")?;
-        self.add_size(data, "words of data")?;
         let own = roots.saturating_add(commands).saturating_add(data);
-        self.add_size(own, "words of this segment")?;
-        self.add_size(cells, "cells in front of all segments")?;
-        self.add_size(primitives, "words of the primitives")?;
-        self.add_size(library, "words of BLIB")?;
         let sum = own
             .saturating_add(cells)
             .saturating_add(primitives)
             .saturating_add(library);
-        self.add_size(sum, "is their sum, the address at which the stack begins")
+        for (words, what) in [
+            (roots, "words of roots"),
+            (commands, "words of commands"),
+            (data, "words of data"),
+            (own, "words of this segment"),
+            (cells, "cells in front of all segments"),
+            (primitives, "words of the primitives"),
+            (library, "words of BLIB"),
+            (sum, "is their sum, the address at which the stack begins"),
+        ] {
+            self.add_size(words, what)?;
+        }
+        Ok(())
     }
+}
+
+/// The words of a root's code.
+fn words_of_entry(alloc: Global, entry: &Entry) -> Result<u64, Memory> {
+    let pieces = code_of(
+        alloc,
+        &entry.root,
+        &entry.derivation,
+        entry.target,
+        entry.first,
+    )?;
+    Ok(words_of_pieces(pieces.as_slice()))
 }
 
 /// What so many words are called.

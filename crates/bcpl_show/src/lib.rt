@@ -16,7 +16,7 @@ pub use leaves::leaves_of;
 pub use lines::{Files, Lines};
 pub use marks::{Marks, Own, Owner};
 pub use outline::{Outline, Purpose, Step, Work};
-pub use page::Page;
+pub use page::{Field, Page};
 pub use sizes::{words_of_items, words_of_pieces};
 pub use tokens::token_listing;
 pub use tree::tree_listing;

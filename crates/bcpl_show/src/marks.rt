@@ -43,6 +43,15 @@ struct Inside {
     valofs: Vec<u64>,
 }
 
+impl Inside {
+    /// One VALOF more; gives how many items its body has.
+    fn add(&mut self, entry: &Entry, number: u64) -> Result<u64, Memory> {
+        let count = count_at(entry, self.valofs.len());
+        self.valofs.push(number)?;
+        Ok(count)
+    }
+}
+
 /// The steps of a body from one on.
 #[derive(Clone, Copy)]
 struct Cursor {
@@ -72,27 +81,27 @@ fn own_items(
     index: usize,
     entry: &Entry,
 ) -> Result<Inside, Memory> {
-    let mut valofs = Vec::new(alloc);
-    let mut at = entry.item;
-    for piece in &code_of(
+    let pieces = code_of(
         alloc,
         &entry.root,
         &entry.derivation,
         entry.target,
         entry.first,
-    )? {
-        match piece {
+    )?;
+    let mut inside = Inside {
+        valofs: Vec::new(alloc),
+    };
+    let mut at = entry.item;
+    for piece in &pieces {
+        at = match piece {
             Piece::Item(_) => {
                 own_item(owners, at, Owner::Root(index));
-                at = at.saturating_add(1);
+                at.saturating_add(1)
             }
-            Piece::Body(number) => {
-                at = at.saturating_add(count_at(entry, valofs.len()));
-                valofs.push(*number)?;
-            }
-        }
+            Piece::Body(number) => at.saturating_add(inside.add(entry, *number)?),
+        };
     }
-    Ok(Inside { valofs })
+    Ok(inside)
 }
 
 /// Puts these indexes' bodies on a stack, so that the first one is on top.
@@ -166,29 +175,39 @@ impl Marks {
             let Some(cursor) = waiting.pop() else {
                 break;
             };
-            let Some(step) = step_at(outline, cursor) else {
-                continue;
-            };
-            waiting.push(Cursor {
-                body: cursor.body,
-                next: cursor.next.saturating_add(1),
-            })?;
-            match step.work {
-                Work::Own(count, what) => self.own.push(Own {
+            if let Some(step) = step_at(outline, cursor) {
+                waiting.push(Cursor {
+                    body: cursor.body,
+                    next: cursor.next.saturating_add(1),
+                })?;
+                let bodies = bodies_of(alloc, outline, self.inside(step, insides))?;
+                stack(&mut waiting, &bodies)?;
+                self.add(step)?;
+            }
+        }
+        Ok(())
+    }
+
+    /// The numbers of the VALOFs of the next root, where a step is one.
+    fn inside<'i>(&self, step: Step, insides: &'i [Inside]) -> &'i [u64] {
+        match (step.work, insides.get(self.leaves.len())) {
+            (Work::Root, Some(inside)) => inside.valofs.as_slice(),
+            _ => &[],
+        }
+    }
+
+    /// One step more.
+    fn add(&mut self, step: Step) -> Result<(), Memory> {
+        match step.work {
+            Work::Own(count, what) => Ok(
+                self.own.push(Own {
                     leaf: step.leaf,
                     count,
                     what,
                 })?,
-                Work::Root => {
-                    if let Some(inside) = insides.get(self.leaves.len()) {
-                        let bodies = bodies_of(alloc, outline, &inside.valofs)?;
-                        stack(&mut waiting, &bodies)?;
-                    }
-                    self.leaves.push(step.leaf)?;
-                }
-            }
+            ),
+            Work::Root => Ok(self.leaves.push(step.leaf)?),
         }
-        Ok(())
     }
 
     /// The marks of so many items with these entries. Memory is answered where a growth was refused.
@@ -198,10 +217,7 @@ impl Marks {
         count: usize,
         entries: &[Entry],
     ) -> Result<Marks, Memory> {
-        let mut owners = Vec::new(alloc);
-        for _ in 0..count {
-            owners.push(Owner::Section)?;
-        }
+        let mut owners = vec![in alloc; Owner::Section; count]?;
         let mut insides = Vec::new(alloc);
         for (index, entry) in entries.iter().enumerate() {
             insides.push(own_items(alloc, &mut owners, index, entry)?)?;

@@ -167,6 +167,13 @@ impl Outline {
         Ok(self.places.push(self.leaves)?)
     }
 
+    /// A leaf that is a place.
+    fn placed(&mut self) -> Result<(), Memory> {
+        self.place()?;
+        self.leaf();
+        Ok(())
+    }
+
     #[cycle(walking)]
     fn expression(&mut self, e: &Exp<'_>) -> Result<(), Memory> {
         match e {
@@ -174,14 +181,9 @@ impl Outline {
                 self.leaf();
                 Ok(())
             }
-            Exp::String(_) => {
-                self.place()?;
-                self.leaf();
-                Ok(())
-            }
+            Exp::String(_) => self.placed(),
             Exp::Table(values) => {
-                self.place()?;
-                self.leaf();
+                self.placed()?;
                 self.expressions(values)
             }
             Exp::Valof(block) => self.valof(block),

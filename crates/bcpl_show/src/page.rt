@@ -4,6 +4,18 @@ use std::alloc::Global;
 /// How many columns a listing has.
 pub const WIDTH: usize = 100;
 
+/// What is added to a line.
+#[derive(Clone, Copy)]
+pub enum Field<'a> {
+    Text(&'a str),
+    /// As many of these bytes as take so many columns, and a sign where there are more.
+    Front(&'a [u8], usize),
+    /// A number, with blanks in front of it up to so many columns.
+    Number(u64, usize),
+    /// Blanks up to this column.
+    Column(usize),
+}
+
 /// A listing that is being written.
 #[derive(Drop)]
 pub struct Page {
@@ -93,28 +105,77 @@ impl Page {
         Ok(())
     }
 
+    fn add_field(&mut self, field: Field<'_>) -> Result<(), Memory> {
+        match field {
+            Field::Text(text) => self.add_text(text),
+            Field::Front(bytes, columns) => self.add_front(bytes, columns),
+            Field::Number(number, columns) => self.add_number(number, columns),
+            Field::Column(column) => self.fill_to(column),
+        }
+    }
+
+    /// Adds these, one behind the other.
+    pub fn add_all(&mut self, fields: &[Field<'_>]) -> Result<(), Memory> {
+        for field in fields {
+            self.add_field(*field)?;
+        }
+        Ok(())
+    }
+
+    /// Adds these, and ends the line.
+    pub fn add_line(&mut self, fields: &[Field<'_>]) -> Result<(), Memory> {
+        self.add_all(fields)?;
+        self.end_line()
+    }
+
+    /// Adds whole lines, each with its line break, where none is begun.
+    pub fn add_lines(&mut self, lines: &str) -> Result<(), Memory> {
+        Ok(self.text.extend_from_slice(lines.as_bytes())?)
+    }
+
+    /// Ends a line that has something on it.
+    pub fn end_begun(&mut self) -> Result<(), Memory> {
+        if self.column > 0 {
+            self.end_line()
+        } else {
+            Ok(())
+        }
+    }
+
     /// Adds bytes that go on in further lines from this column on where they don't fit.
     pub fn add_folded(&mut self, bytes: &[u8], column: usize) -> Result<(), Memory> {
         for byte in bytes {
             if self.column >= WIDTH && !is_further(*byte) {
-                self.end_line()?;
-                self.fill_to(column)?;
+                self.go_on(column)?;
             }
             self.add(&[*byte])?;
         }
         Ok(())
     }
 
+    /// Goes on in a further line at this column.
+    pub fn go_on(&mut self, column: usize) -> Result<(), Memory> {
+        self.end_line()?;
+        self.fill_to(column)
+    }
+
+    /// What stands in front of a word that takes so many columns: a blank, or in a further line this head.
+    fn before_word(&mut self, columns: usize, head: &str) -> Result<(), Memory> {
+        let taken = columns.saturating_add(1);
+        if self.column.saturating_add(taken) > WIDTH {
+            self.end_line()?;
+            self.add_text(head)
+        } else {
+            self.add(b" ")
+        }
+    }
+
     /// Adds words with a blank between each two. Where one doesn't fit, a further line begins with this head.
     pub fn add_words(&mut self, words: &str, head: &str) -> Result<(), Memory> {
         let mut is_first = true;
         for word in words.split_whitespace() {
-            let taken = width(word.as_bytes()).saturating_add(1);
-            if !is_first && self.column.saturating_add(taken) > WIDTH {
-                self.end_line()?;
-                self.add_text(head)?;
-            } else if !is_first {
-                self.add(b" ")?;
+            if !is_first {
+                self.before_word(width(word.as_bytes()), head)?;
             }
             self.add_text(word)?;
             is_first = false;

@@ -1,5 +1,5 @@
 use crate::lines::{Files, Lines};
-use crate::page::Page;
+use crate::page::{Field, Page};
 use bc_lex_tokens::{Symbol, Token, TokenKind};
 use bc_parse_close::close;
 use bc_parse_tree::Part;
@@ -29,9 +29,11 @@ fn kind_word(token: &Token<'_>) -> &'static str {
 
 /// Adds what a token stands for, where its text doesn't say so itself.
 fn add_value(page: &mut Page, number: u64) -> Result<(), Memory> {
-    page.fill_to(VALUE)?;
-    page.add(b"  = ")?;
-    page.add_number(number, 0)
+    page.add_all(&[
+        Field::Column(VALUE),
+        Field::Text("  = "),
+        Field::Number(number, 0),
+    ])
 }
 
 /// The sign or word that a symbol is known by; a bracket's tag belongs to its text.
@@ -51,25 +53,37 @@ fn is_plain(alloc: Global, number: u16, text: &[u8]) -> Result<bool, Memory> {
     Ok(digits.as_bytes() == text)
 }
 
-fn add_token(page: &mut Page, text: &[u8], lines: &Lines, token: &Token<'_>) -> Result<(), Memory> {
-    page.add_number(lines.number_at(token.start) as u64, 5)?;
-    page.add(b":")?;
-    let column = lines.column_at(page.alloc(), text, token.start)?;
-    page.add_number(column as u64, 0)?;
-    page.fill_to(KIND)?;
-    page.add_text(kind_word(token))?;
-    page.fill_to(TEXT)?;
-    page.add_folded(token.text, TEXT)?;
-    match token.kind {
-        TokenKind::Number(number) => {
-            if !is_plain(page.alloc(), number, token.text)? {
-                add_value(page, u64::from(number))?;
-            }
-        }
-        TokenKind::Character(code) => add_value(page, u64::from(code))?,
-        TokenKind::Symbol(symbol) => add_symbol(page, symbol, token.text)?,
-        TokenKind::Name(_) | TokenKind::String(_) => {}
+/// Adds the number that a token is, where its text doesn't say so itself.
+fn add_written(page: &mut Page, number: u16, text: &[u8]) -> Result<(), Memory> {
+    if is_plain(page.alloc(), number, text)? {
+        Ok(())
+    } else {
+        add_value(page, u64::from(number))
     }
+}
+
+/// Adds what a token stands for.
+fn add_meaning(page: &mut Page, token: &Token<'_>) -> Result<(), Memory> {
+    match token.kind {
+        TokenKind::Number(number) => add_written(page, number, token.text),
+        TokenKind::Character(code) => add_value(page, u64::from(code)),
+        TokenKind::Symbol(symbol) => add_symbol(page, symbol, token.text),
+        TokenKind::Name(_) | TokenKind::String(_) => Ok(()),
+    }
+}
+
+fn add_token(page: &mut Page, text: &[u8], lines: &Lines, token: &Token<'_>) -> Result<(), Memory> {
+    let column = lines.column_at(page.alloc(), text, token.start)?;
+    page.add_all(&[
+        Field::Number(lines.number_at(token.start) as u64, 5),
+        Field::Text(":"),
+        Field::Number(column as u64, 0),
+        Field::Column(KIND),
+        Field::Text(kind_word(token)),
+        Field::Column(TEXT),
+    ])?;
+    page.add_folded(token.text, TEXT)?;
+    add_meaning(page, token)?;
     page.end_line()
 }
 
@@ -87,19 +101,47 @@ fn broken(alloc: Global, tokens: &[Token<'_>]) -> Result<Vec<usize>, Memory> {
     Ok(places)
 }
 
-/// Adds how many tokens stand in another file.
-fn add_elsewhere(page: &mut Page, path: &str, count: u64) -> Result<(), Memory> {
-    page.fill_to(KIND)?;
-    page.add(b"GET")?;
-    page.fill_to(TEXT)?;
-    page.add_number(count, 0)?;
-    page.add_text(if count == 1 {
-        " token of "
-    } else {
-        " tokens of "
-    })?;
-    page.add_text(path)?;
-    page.end_line()
+/// Tokens of other files that stand one behind the other.
+#[derive(Clone, Copy)]
+struct Elsewhere<'a> {
+    path: &'a str,
+    count: u64,
+}
+
+impl<'a> Elsewhere<'a> {
+    /// Adds how many tokens stand in another file, if any do.
+    fn add(self, page: &mut Page) -> Result<(), Memory> {
+        let tokens = match self.count {
+            0 => return Ok(()),
+            1 => " token of ",
+            _ => " tokens of ",
+        };
+        page.add_line(&[
+            Field::Column(KIND),
+            Field::Text("GET"),
+            Field::Column(TEXT),
+            Field::Number(self.count, 0),
+            Field::Text(tokens),
+            Field::Text(self.path),
+        ])
+    }
+
+    /// With one token more of the file with this path. Those of another file are told.
+    fn with(self, page: &mut Page, path: &'a str) -> Result<Elsewhere<'a>, Memory> {
+        if self.path == path {
+            return Ok(Elsewhere {
+                path,
+                count: self.count.saturating_add(1),
+            });
+        }
+        self.add(page)?;
+        Ok(Elsewhere { path, count: 1 })
+    }
+}
+
+/// Adds a line break that stands for a semicolon.
+fn add_break(page: &mut Page) -> Result<(), Memory> {
+    page.add_line(&[Field::Column(KIND), Field::Text("line break  ;")])
 }
 
 /// The tokens of the source `main`, one a line, with their places, and a line for each line break that stands for a
@@ -114,31 +156,20 @@ pub fn token_listing(
     let lines = Lines::new(alloc, text)?;
     let breaks = broken(alloc, tokens)?;
     let mut page = Page::new(alloc);
-    let mut elsewhere: u64 = 0;
-    let mut path = "";
+    let nowhere = Elsewhere { path: "", count: 0 };
+    let mut elsewhere = nowhere;
     for (at, token) in tokens.iter().enumerate() {
         if token.file != main {
-            if elsewhere > 0 && files.path(token.file) != path {
-                add_elsewhere(&mut page, path, elsewhere)?;
-                elsewhere = 0;
+            elsewhere = elsewhere.with(&mut page, files.path(token.file))?;
+        } else {
+            elsewhere.add(&mut page)?;
+            elsewhere = nowhere;
+            if breaks.as_slice().binary_search(&at).is_ok() {
+                add_break(&mut page)?;
             }
-            path = files.path(token.file);
-            elsewhere = elsewhere.saturating_add(1);
-            continue;
+            add_token(&mut page, text, &lines, token)?;
         }
-        if elsewhere > 0 {
-            add_elsewhere(&mut page, path, elsewhere)?;
-            elsewhere = 0;
-        }
-        if breaks.as_slice().binary_search(&at).is_ok() {
-            page.fill_to(KIND)?;
-            page.add(b"line break  ;")?;
-            page.end_line()?;
-        }
-        add_token(&mut page, text, &lines, token)?;
     }
-    if elsewhere > 0 {
-        add_elsewhere(&mut page, path, elsewhere)?;
-    }
+    elsewhere.add(&mut page)?;
     Ok(page.into_text())
 }

@@ -1,6 +1,6 @@
 use crate::leaves::{is_leaf, leaves_of};
 use crate::lines::Files;
-use crate::page::{Page, WIDTH, width};
+use crate::page::{Field, Page, WIDTH, width};
 use bc_lex_tokens::{Symbol, Token, TokenKind};
 use bc_parse_spell::render;
 use bc_word::Memory;
@@ -148,9 +148,9 @@ impl Layout<'_, '_> {
         };
         if file != self.file {
             self.file = file;
-            self.page.add(b"// ")?;
-            self.page.add_text(self.files.path(file))?;
-            self.page.end_line()?;
+            let path = self.files.path(file);
+            self.page
+                .add_line(&[Field::Text("// "), Field::Text(path)])?;
         }
         Ok(())
     }
@@ -180,9 +180,7 @@ impl Layout<'_, '_> {
     fn begin_line(&mut self, kinds: &[TokenKind<'_>], place: usize) -> Result<(), Memory> {
         let is_out = self.is_label(kinds, place);
         let depth = self.depth().saturating_sub(usize::from(is_out));
-        if self.page.column() > 0 {
-            self.page.end_line()?;
-        }
+        self.page.end_begun()?;
         self.breaks = false;
         if self.opened.is_empty() && is_declaration(at(kinds, place)) {
             self.tell_file()?;
@@ -211,14 +209,10 @@ impl Layout<'_, '_> {
         let columns = columns.saturating_add(glued(kinds, place));
         let behind = self.page.column().saturating_add(columns).saturating_add(1);
         if behind > WIDTH && is_foldable(last) {
-            self.page.end_line()?;
             let column = self.depth().saturating_mul(2).saturating_add(4);
-            return self.page.fill_to(column);
+            return self.page.go_on(column);
         }
-        if is_close {
-            return Ok(());
-        }
-        self.page.add(b" ")
+        self.page.add_text(if is_close { "" } else { " " })
     }
 
     /// Whether the token at this place is the colon of a label.
@@ -238,20 +232,37 @@ impl Layout<'_, '_> {
 
     /// What opens or ends behind a token that was added.
     fn open(&mut self, kinds: &[TokenKind<'_>], place: usize) -> Result<(), Memory> {
-        if is(at(kinds, place), Symbol::OpenSection) {
-            self.opened
-                .push(is(before(kinds, place, 1), Symbol::Global))?;
+        let kind = at(kinds, place);
+        if is(kind, Symbol::OpenSection) {
             self.breaks = true;
-        } else if is(at(kinds, place), Symbol::Semicolon) {
-            if self.opened.is_empty() {
-                self.page.end_line()?;
-                self.page.end_line()?;
-            }
+            let is_of_globals = is(before(kinds, place, 1), Symbol::Global);
+            return Ok(self.opened.push(is_of_globals)?);
+        }
+        if is(kind, Symbol::Semicolon) {
             self.breaks = true;
-        } else if is(at(kinds, place), Symbol::Colon) {
+            return self.end_declaration();
+        }
+        if is(kind, Symbol::Colon) {
             self.breaks = !self.is_in_globals();
         }
         Ok(())
+    }
+
+    /// Behind a declaration outside of all brackets stands an empty line.
+    fn end_declaration(&mut self) -> Result<(), Memory> {
+        if !self.opened.is_empty() {
+            return Ok(());
+        }
+        self.page.end_line()?;
+        self.page.end_line()
+    }
+
+    /// Adds the token at this place, which has this text.
+    fn add(&mut self, kinds: &[TokenKind<'_>], place: usize, text: &[u8]) -> Result<(), Memory> {
+        self.close(kinds, place);
+        self.part(kinds, place, width(text))?;
+        self.page.add(text)?;
+        self.open(kinds, place)
     }
 }
 
@@ -277,10 +288,7 @@ pub fn tree_listing<'s>(
     };
     for (place, kind) in kinds.iter().enumerate() {
         let text = render(alloc, &[*kind])?;
-        layout.close(kinds, place);
-        layout.part(kinds, place, width(text.as_slice()))?;
-        layout.page.add(text.as_slice())?;
-        layout.open(kinds, place)?;
+        layout.add(kinds, place, text.as_slice())?;
         if is_leaf(*kind) {
             layout.met = layout.met.saturating_add(1);
         }

@@ -12,4 +12,5 @@ invariant-loop g l = record {
   parallel : AreParallel (state l.checker).trees;
   few : l.checker.lines + l.left ≤ 1073741824;
   nodes : l.checker.nodes ≤ l.checker.lines;
+  passed : l.checker.passed ≡ 0;
 }

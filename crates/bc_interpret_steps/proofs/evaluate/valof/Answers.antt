@@ -5,22 +5,20 @@ use Rattle.bc_interpret_steps.proofs.Valofs.{valof_before, valof_behind, valof_e
 use Rattle.bc_interpret_steps.proofs.evaluate.valof.Goals as goal
 
 pub returns-then-number-spot : goal.returns-then-number-spot
-returns-then-number-spot c st program =
+returns-then-number-spot c st =
     let E = c.args.spot in
     let address : ℕ → ℕ = λ l. slice_index_or E.addresses.now l 0 in
-    (tt, λ streams. ap (λ r. r (state_of st streams)) (valof_before address E.frame E.first E.valofs.now c.args.number c.args.s (stack c.args.rests.now.items) c.if-number-spot.true))
+    (λ streams. ap (λ r. r (state_of st streams)) (valof_before address E.frame E.first E.valofs.now c.args.number c.args.s (stack c.args.rests.now.items) c.if-number-spot.true))
 
 pub returns-then-index-spot : goal.returns-then-index-spot
-returns-then-index-spot c st program =
+returns-then-index-spot c st =
     let E = c.args.spot in
     let address : ℕ → ℕ = λ l. slice_index_or E.addresses.now l 0 in
-    (tt, λ streams. ap (λ r. r (state_of st streams)) (valof_behind address E.frame E.first E.valofs.now c.args.number (c.args.number - E.first) c.args.s (stack c.args.rests.now.items) (omega arith) c.if-index-spot.true))
+    (λ streams. ap (λ r. r (state_of st streams)) (valof_behind address E.frame E.first E.valofs.now c.args.number (c.args.number - E.first) c.args.s (stack c.args.rests.now.items) (omega arith) c.if-index-spot.true))
 
 pub returns : goal.returns
-returns c st program =
+returns c st =
     let E = c.args.spot in
-    let address : ℕ → ℕ = λ l. slice_index_or E.addresses.now l 0 in (
-      tt,
-      λ streams. valof_entered address E.frame E.first E.valofs.now c.args.number (c.args.number - E.first) c.args.s c.in_ok-above.field-0 c.index-spot-index.result (stack c.args.rests.now.items) (stack c.put.new.rests.items) (state_of st streams)
-          (omega arith) (omega arith) c.in_ok-above.ensures c.in_ok-put.ensures.stack,
-    )
+    let address : ℕ → ℕ = λ l. slice_index_or E.addresses.now l 0 in
+    λ streams. valof_entered address E.frame E.first E.valofs.now c.args.number (c.args.number - E.first) c.args.s c.in_ok-above.field-0 c.index-spot-index.result (stack c.args.rests.now.items) (stack c.put.new.rests.items) (state_of st streams)
+    (omega arith) (omega arith) c.in_ok-above.ensures c.in_ok-put.ensures.stack

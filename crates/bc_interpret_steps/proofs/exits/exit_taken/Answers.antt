@@ -8,21 +8,21 @@ use Rattle.bc_interpret_steps.proofs.exits.exit_taken.Goals as goal
 
 pub returns-in-Returns : goal.returns-in-Returns
 returns-in-Returns c program =
-    let before = c.args.rests.now.items in
+    let before = c.args.stacks.now.rests.items in
     let st = c.args.state.now in
     subst (λ r. Goes (next program (exit_rest r) (Left (exit_of c.args.exit))) before st c.returned.result before st) (sym c.in-Returns.is)
     (c.returned.ensures st program (stack before) (given before))
 
 pub returns-in-Results : goal.returns-in-Results
 returns-in-Results c program =
-    let before = c.args.rests.now.items in
+    let before = c.args.stacks.now.rests.items in
     let st = c.args.state.now in
     subst (λ r. Goes (next program (exit_rest r) (Left (exit_of c.args.exit))) before st c.resulted.result before st) (sym c.in-Results.is)
     (c.resulted.ensures st program (stack before) (given before))
 
 pub returns-in-None-behind-3 : goal.returns-in-None-behind-3
 returns-in-None-behind-3 c program =
-    let before = c.args.rests.now.items in
+    let before = c.args.stacks.now.rests.items in
     let old = c.args.state.now in
     let new = c.step_variable.new.state in
     let t = c.in-ForBody in

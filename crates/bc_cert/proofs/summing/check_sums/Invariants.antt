@@ -1,0 +1,19 @@
+-- What was found so far is what the bytes say that the reader gave, behind entries that are no longer kept.
+use Rattle.std.proofs.Common.{◌≡◌, ◌≤◌, ◌+◌, ◌-◌, ◌^◌, ℕ, List, [], Ok, length, min}
+use Rattle.std.specs.Io.KnownBytes.{Consumes}
+use Rattle.bc_cert_defs.specs.Verdict.{Judged}
+use Rattle.bc_cert_trees.specs.Stacks.{AreParallel}
+use Rattle.bc_cert_laws.specs.Judging.{feed_from, start}
+use Rattle.bc_cert.specs.View.{own, fed_behind, sum_of}
+use Rattle.bc_cert.proofs.Summed.{Found}
+use Rattle.bc_cert.proofs.summing.check_sums.Given as goal
+
+abbrev pub invariant-loop : goal.invariant-loop
+invariant-loop g l = record {
+  so_far : Found (g.R.Read.remaining l.fn.input) (g.R.Read.remaining l.input) (own l.checker, l.checker.line.items) l.checker.passed l.words;
+  parallel : AreParallel (own l.checker).trees;
+  few : l.checker.lines + l.left ≤ 1073741824;
+  nodes : l.checker.nodes ≤ l.checker.lines;
+  passed : l.checker.passed + l.left ≤ 1073741824;
+  none : (own l.checker).entries ≡ [];
+}

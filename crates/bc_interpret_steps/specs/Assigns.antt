@@ -1,0 +1,58 @@
+-- Assignments that are done at once, and what comes next in a list.
+use Rattle.std.specs.Prelude.{ℕ, ◌≡◌, ◌||◌, ◌∷◌, true, false, List, Option, Some, None}
+use Rattle.bc_machine_defs.specs.Streams.{Content}
+use Rattle.bc_core.specs.Tree.{Exp}
+use Rattle.bc_core.specs.Commands.{Command, Items}
+use Rattle.bc_core.specs.Lists.{Beginning}
+use Rattle.bc_core.specs.Outcome.{Outcome, Done, Ended, Wild, ZeroDivide, followed, second_side, write}
+use Rattle.bc_core.specs.Value.{has_call, assign}
+use Rattle.bc_core.specs.View.{command as command_view, items_before}
+use Rattle.bc_core.specs.declared.command.ListItem.{ListItem}
+use Rattle.bc_interpret_defs.specs.Quiet as quiet_forms
+use Rattle.bc_interpret_defs.specs.Quiet.{settled}
+use Rattle.bc_interpret_defs.specs.Machine as machine
+use Rattle.bc_interpret_defs.specs.Machine.{quiet, first_command, list_step}
+use Rattle.bc_interpret_steps.specs.declared.state.State.{State}
+use Rattle.bc_interpret_steps.specs.declared.forms.Entry.{Entry}
+use Rattle.bc_interpret_steps.specs.declared.assign.Assigned.{Assigned}
+use Rattle.bc_interpret_steps.specs.declared.assign.Assigned.TheVariants as forms
+use Rattle.bc_interpret_steps.specs.declared.lists.Next.{Next}
+use Rattle.bc_interpret_steps.specs.declared.lists.Next.TheVariants as nexts
+use Rattle.bc_interpret_steps.specs.Code.{entry_of}
+use Rattle.bc_interpret_steps.specs.Came.{state_of}
+
+-- what came of an assignment
+abbrev pub outcome_of : Assigned → State → Content → Outcome (Unit {0})
+outcome_of forms.Done new streams = Done tt (state_of new streams)
+outcome_of forms.Divides new streams = Ended ZeroDivide streams
+outcome_of (forms.Fails c) new streams = Wild
+
+-- one whose sides are worth these
+abbrev pub BothWorth : quiet_forms.Worth ℕ → quiet_forms.Worth ℕ → (old : State) → Assigned → (new : State) → Type 0
+BothWorth w x old done new =
+    (streams : Content) → second_side false (settled w (state_of old streams)) (settled x) (λ word address. write address word) (state_of old streams) ≡
+    outcome_of done new streams
+
+-- it was done, or a call stands in it
+abbrev pub IsAssigned : machine.Spot → (value address : Exp) → (old : State) → Option Assigned → (new : State) → Type 0
+IsAssigned E v a old None new = ((has_call v || has_call a) ≡ true) × (new ≡ old)
+IsAssigned E v a old (Some done) new =
+    ((has_call v || has_call a) ≡ false) × ((s : ℕ) (streams : Content) → assign (quiet E) v a E.frame s (state_of old streams) ≡ outcome_of done new streams)
+
+-- the first command of a list was done, or is performed
+abbrev pub IsDone : machine.Spot → Command → (old : State) → Option Assigned → (new : State) → Type 0
+IsDone E c old None new =
+    ((is : Items) (s : ℕ) (rs : List machine.Rest) (onward : machine.Step) → first_command E c is s rs onward ≡ machine.go (machine.Perform E c s)
+    (machine.Follows E is s ∷ rs)) × (new ≡ old)
+IsDone E c old (Some done) new =
+    (is : Items) (s : ℕ) (rs : List machine.Rest) (onward : machine.Step) (streams : Content)
+    → first_command E c is s rs onward (state_of old streams) ≡ followed (outcome_of done new streams) (λ u. onward)
+
+-- what comes next in a list whose first item this is, and which is entered so
+abbrev pub IsNext : Next → ListItem → Entry → Type 0
+IsNext (nexts.Passes next) i at =
+    (E : machine.Spot) (behind : Items) (s : ℕ) (rs : List machine.Rest) → list_step E (items_before i behind) s (entry_of at) rs ≡ list_step E behind s
+    (entry_of next) rs
+IsNext (nexts.Does c) i at =
+    (E : machine.Spot) (behind : Items) (s : ℕ) (rs : List machine.Rest)
+    → list_step E (items_before i behind) s (entry_of at) rs ≡ first_command E (command_view c.now) behind s rs (list_step E behind s Beginning rs)

@@ -1,0 +1,103 @@
+// Assignments without call.
+
+ghost use Rattle.std.specs.Prelude.{ℕ, IfOk};
+ghost use Rattle.bc_core.specs.View.{exp, command as command_view};
+ghost use Rattle.bc_interpret_steps.specs.Code.{spot_of};
+ghost use Rattle.bc_interpret_quiet.specs.Views.{seen};
+ghost use Rattle.bc_interpret_steps.specs.Assigns.{BothWorth, IsAssigned, IsDone};
+
+use crate::evaluate::worth_at;
+use crate::forms::Spot;
+use crate::state::{State, put_word};
+use bc_core::{Command, CoreExp};
+use bc_interpret_quiet::{Cause, Room, Worth};
+use bc_word::Memory;
+
+/// What came of an assignment without call.
+#[derive(Clone, Copy)]
+pub(crate) enum Assigned {
+    Done,
+    Divides,
+    Fails(Cause),
+}
+
+/// What comes of an assignment of a value that is worth this to an address that is worth that.
+#[inline(always)]
+fn both_assigned(word: Worth, place: Worth, state: &mut State) -> Assigned
+    ensures { BothWorth (seen word) (seen place) state.old result state.new }
+{
+    match word {
+        Worth::Fails(cause) => Assigned::Fails(cause),
+        Worth::Divides => match place {
+            Worth::Fails(cause) => Assigned::Fails(cause),
+            Worth::Is(_) | Worth::Divides => Assigned::Divides,
+        },
+        Worth::Is(w) => match place {
+            Worth::Fails(cause) => Assigned::Fails(cause),
+            Worth::Divides => Assigned::Divides,
+            Worth::Is(a) => match put_word(state, a, w) {
+                None => Assigned::Done,
+                Some(cause) => Assigned::Fails(cause),
+            },
+        },
+    }
+}
+
+/// An assignment, which is done if no call stands in it: a wild access in its second side outweighs a zero divisor in the first.
+///
+/// `Memory` comes where an allocation was refused.
+#[inline(always)]
+#[tactic(auto, using(crate::proofs::Assigns::at_once))]
+pub(crate) fn assign_at_once<'c>(
+    spot: &Spot<'c>,
+    value: &'c CoreExp,
+    address: &'c CoreExp,
+    room: &mut Room<'c>,
+    state: &mut State,
+) -> Result<Option<Assigned>, Memory>
+    ensures { IfOk result (λ done. IsAssigned (spot_of spot.now) (exp value.now) (exp address.now) state.old done state.new) }
+{
+    match worth_at(spot, value, room, state)? {
+        None => Ok(None),
+        Some(word) => match worth_at(spot, address, room, state)? {
+            None => Ok(None),
+            Some(place) => Ok(Some(both_assigned(word, place, state))),
+        },
+    }
+}
+
+/// A command of a list, which is done if it is an assignment in which no call stands.
+///
+/// `Memory` comes where an allocation was refused.
+#[inline(always)]
+#[tactic(auto, using(crate::proofs::Assigns::first_done, crate::proofs::Assigns::first_left))]
+pub(crate) fn command_at_once<'c>(
+    spot: &Spot<'c>,
+    command: &'c Command,
+    room: &mut Room<'c>,
+    state: &mut State,
+) -> Result<Option<Assigned>, Memory>
+    ensures { IfOk result (λ done. IsDone (spot_of spot.now) (command_view command.now) state.old done state.new) }
+{
+    match command {
+        Command::Assign { value, address } => {
+            Ok(assign_at_once(spot, value, address, room, state)?)
+        }
+        Command::Call(_)
+        | Command::If(_, _)
+        | Command::Test(_, _, _)
+        | Command::While(_, _)
+        | Command::Repeat(_)
+        | Command::RepeatWhile(_, _)
+        | Command::For { .. }
+        | Command::SwitchOn(_, _)
+        | Command::Break
+        | Command::Loop
+        | Command::EndCase
+        | Command::Return
+        | Command::ResultIs(_)
+        | Command::Finish
+        | Command::Goto(_)
+        | Command::Nested(_) => Ok(None),
+    }
+}
