@@ -4,3 +4,4 @@ pub mod Codes
 pub mod Steps
 pub mod Apart
 pub mod Summed
+pub mod Short

@@ -1,5 +1,5 @@
 -- What `check` and `check_sums` answer, by the bytes that its reader gave.
-use Rattle.std.specs.Prelude.{◌≡◌, ℕ, ◌-◌, ◌^◌, min, length, List, Option, Result, Ok, Err}
+use Rattle.std.specs.Prelude.{◌≡◌, ◌≤◌, ℕ, ◌-◌, ◌^◌, min, length, List, Option, Result, Ok, Err}
 use Rattle.std.specs.Option.{IfSome}
 use Rattle.bc_cert_defs.specs.declared.check_fault.CheckFault.{CheckFault}
 use Rattle.bc_cert_defs.specs.declared.check_fault.CheckFault.TheVariants as faults
@@ -10,6 +10,14 @@ use Rattle.bc_cert.specs.declared.sums.Sums.{Sums}
 use Rattle.bc_cert.specs.View.{sum_of}
 use Rattle.bc_cert_laws.specs.Entries.{Says}
 use Rattle.bc_cert_laws.specs.Faults.{Lacks}
+
+-- the most bytes that a certificate may have
+abbrev pub limit : ℕ
+limit = 1073741824
+
+-- a reader that tells its bytes tells no more than a certificate may have
+abbrev pub IsShort : Option (List ℕ) → Type 0
+IsShort known = IfSome known (λ bytes. length bytes ≤ limit)
 
 -- this is what the bytes say that the reader gave; where it tells its bytes, they are all of them
 abbrev pub IsSaid : Option (List ℕ) → Verdict → Type 0

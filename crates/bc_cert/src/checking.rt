@@ -1,6 +1,7 @@
 // Checking a certificate that a reader gives.
 
-ghost use Rattle.bc_cert.specs.Answer.{IsAnswer};
+ghost use Rattle.std.specs.Prelude.{OnOk};
+ghost use Rattle.bc_cert.specs.Answer.{IsAnswer, IsShort};
 
 use crate::checker::Checker;
 use bc_cert_defs::{CheckFault, Verdict};
@@ -16,7 +17,10 @@ pub const LIMIT: usize = 1_073_741_824;
 /// fault of a line comes in front of a failure of `input` behind it. `Read` comes where `input` failed, or gave
 /// more than 2^30 bytes, and `Memory` where an allocation was refused.
 pub fn check<R: Read + Drop>(alloc: Global, mut input: R) -> Result<Verdict, CheckFault>
-    ensures { IsAnswer (R.Read.remaining input) result }
+    ensures answer { IsAnswer (R.Read.remaining input) result }
+
+    // No longer one is taken.
+    ensures bound { OnOk result (IsShort (R.Read.remaining input)) }
 {
     let mut checker = Checker::new(alloc);
     let mut piece = [0u8; 4096];

@@ -1,6 +1,7 @@
 // Checking a certificate for its sums alone.
 
-ghost use Rattle.bc_cert.specs.Answer.{IsSumsAnswer};
+ghost use Rattle.std.specs.Prelude.{OnOk};
+ghost use Rattle.bc_cert.specs.Answer.{IsShort, IsSumsAnswer};
 
 use crate::checker::Checker;
 use crate::checking::LIMIT;
@@ -14,7 +15,10 @@ use std::io::Read;
 ///
 /// Its faults are those of `check`.
 pub fn check_sums<R: Read + Drop>(alloc: Global, mut input: R) -> Result<Sums, CheckFault>
-    ensures { IsSumsAnswer (R.Read.remaining input) result }
+    ensures answer { IsSumsAnswer (R.Read.remaining input) result }
+
+    // No longer one is taken.
+    ensures bound { OnOk result (IsShort (R.Read.remaining input)) }
 {
     let mut checker = Checker::new(alloc);
     let mut piece = [0u8; 4096];

@@ -4,6 +4,7 @@ use Rattle.std.specs.Io.KnownBytes.{Consumes}
 use Rattle.bc_cert_trees.specs.Stacks.{AreParallel}
 use Rattle.bc_cert_laws.specs.Judging.{feed_from, start}
 use Rattle.bc_cert.specs.View.{state, fed}
+use Rattle.bc_cert.proofs.Short.{Leaves}
 use Rattle.bc_cert.proofs.checking.check.Given as goal
 
 abbrev pub invariant-loop : goal.invariant-loop
@@ -13,4 +14,5 @@ invariant-loop g l = record {
   few : l.checker.lines + l.left ≤ 1073741824;
   nodes : l.checker.nodes ≤ l.checker.lines;
   passed : l.checker.passed ≡ 0;
+  short : Leaves (g.R.Read.remaining l.fn.input) (g.R.Read.remaining l.input) l.left;
 }

@@ -1,10 +1,13 @@
 -- What the bytes so far say, and at their end.
-use Rattle.std.proofs.Common.{◌∙◌, ◌≡◌, ◌≤◌, ◌<◌, ◌+◌, ◌^◌, [], Ok, map, refl, ap, sym, subst, take, length, length-take, arith}
+use Rattle.std.specs.Prelude.{OnOk, Err}
+use Rattle.std.proofs.Common.{◌∙◌, ◌≡◌, ◌≤◌, ◌+◌, Ok, refl, ap, sym, subst, take, length, length-take, arith}
 use Rattle.bc_cert_defs.specs.View.{judged}
 use Rattle.bc_cert_trees.specs.Stacks.{AreParallel}
 use Rattle.bc_cert.specs.View.{own, fed_behind, gone}
 use Rattle.bc_cert.proofs.Lengths.{seen_length}
 use Rattle.bc_cert.proofs.Summed.{own_is_fed, found_none, found_more, found_moved, found_few, found_fault, found_answer}
+use Rattle.bc_cert.specs.Answer.{IsShort}
+use Rattle.bc_cert.proofs.Short.{leaves_all, leaves_less, short_at_end}
 use Rattle.bc_cert.proofs.summing.check_sums.Goals as goal
 
 pub loop-init : goal.loop-init
@@ -18,15 +21,16 @@ loop-init g c =
       nodes = omega (arith, fresh.lines.0, fresh.lines.1);
       passed = omega (arith, fresh.passed);
       none = ap (λ x. x.0.entries) begins;
+      short = leaves_all (g.R.Read.remaining c.args.input);
     }
 
-pub returns-then-count-eq0 : goal.returns-then-count-eq0
-returns-then-count-eq0 g c =
+pub returns-then-count-eq0-clause-answer : goal.returns-then-count-eq0-clause-answer
+returns-then-count-eq0-clause-answer g c =
     let read = (c.in-Ok.ensures {u = tt}).bytes in
     found_answer (g.R.Read.remaining c.args.input) _ _ (own c.loop.checker, c.loop.checker.line.items) c.loop.checker.passed c.loop.words c.read.new.buf c.in-Ok.count c.sums.result c.if-count-eq0.true c.loop.invariant.so_far read.0 (read.1 c.if-count-eq0.true (omega arith)) c.loop.invariant.none c.sums.ensures.exact c.sums.ensures.sums
 
-pub returns-in-Err : goal.returns-in-Err
-returns-in-Err g c =
+pub returns-in-Err-clause-answer : goal.returns-in-Err-clause-answer
+returns-in-Err-clause-answer g c =
     let read = (c.in-Ok.ensures {u = tt}).bytes in
     found_fault (g.R.Read.remaining c.args.input) _ _ (own c.loop.checker, c.loop.checker.line.items) c.loop.checker.passed c.loop.words c.read.new.buf c.min-kept.result c.in-Ok.count c.in-Err.fault (omega arith) c.loop.invariant.so_far read.0 (c.in-Err.ensures {u = tt}).exact
 
@@ -64,4 +68,13 @@ loop-preserved g c =
       nodes = omega (arith, lines, nodes, done.nodes);
       passed = omega (arith, few, short, seen, passed, gone_on, c.loop.invariant.passed);
       none = ap (λ st. st.entries) forgot.own;
+      short = leaves_less (g.R.Read.remaining c.args.input) _ _ c.read.new.buf c.loop.left c.min-kept.result c.in-Ok.count (omega arith) (omega arith) c.loop.invariant.short read.0;
     }
+
+pub returns-then-count-eq0-clause-bound : goal.returns-then-count-eq0-clause-bound
+returns-then-count-eq0-clause-bound g c =
+    let read = (c.in-Ok.ensures {u = tt}).bytes in
+    elim c.sums.result as (λ r. OnOk r (IsShort (g.R.Read.remaining c.args.input))) [
+      | Ok v ↦ short_at_end (g.R.Read.remaining c.args.input) _ _ c.read.new.buf c.loop.left c.in-Ok.count c.if-count-eq0.true c.loop.invariant.short read.0 (read.1 c.if-count-eq0.true (omega arith))
+      | Err f ↦ tt
+    ]

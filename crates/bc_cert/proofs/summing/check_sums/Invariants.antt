@@ -1,11 +1,9 @@
 -- What was found so far is what the bytes say that the reader gave, behind entries that are no longer kept.
-use Rattle.std.proofs.Common.{◌≡◌, ◌≤◌, ◌+◌, ◌-◌, ◌^◌, ℕ, List, [], Ok, length, min}
-use Rattle.std.specs.Io.KnownBytes.{Consumes}
-use Rattle.bc_cert_defs.specs.Verdict.{Judged}
+use Rattle.std.proofs.Common.{◌≡◌, ◌≤◌, ◌+◌, []}
 use Rattle.bc_cert_trees.specs.Stacks.{AreParallel}
-use Rattle.bc_cert_laws.specs.Judging.{feed_from, start}
-use Rattle.bc_cert.specs.View.{own, fed_behind, sum_of}
+use Rattle.bc_cert.specs.View.{own}
 use Rattle.bc_cert.proofs.Summed.{Found}
+use Rattle.bc_cert.proofs.Short.{Leaves}
 use Rattle.bc_cert.proofs.summing.check_sums.Given as goal
 
 abbrev pub invariant-loop : goal.invariant-loop
@@ -16,4 +14,5 @@ invariant-loop g l = record {
   nodes : l.checker.nodes ≤ l.checker.lines;
   passed : l.checker.passed + l.left ≤ 1073741824;
   none : (own l.checker).entries ≡ [];
+  short : Leaves (g.R.Read.remaining l.fn.input) (g.R.Read.remaining l.input) l.left;
 }
