@@ -1,4 +1,5 @@
 use crate::escapes::expanded;
+use crate::said::said;
 use crate::tokens::Reading;
 use crate::{arithmetic, certificates, linking, machines, rules, streams, sweeps, tokens};
 use bc_word::Memory;
@@ -122,7 +123,7 @@ fn of_others(alloc: Global, kind: Other, input: &str) -> Result<String, Memory> 
 fn whole(alloc: Global, input: &str) -> Result<String, Memory> {
     match String::from_utf8(expanded(alloc, input)?) {
         Ok(text) => Ok(text),
-        Err(_) => Ok(String::from_str(alloc, input)?),
+        Err(_) => said(alloc, input),
     }
 }
 
@@ -137,6 +138,6 @@ pub fn answer(alloc: Global, kind: &str, input: &str) -> Result<String, Memory> 
     }
     match named(&OTHERS, kind) {
         Some(kind) => of_others(alloc, kind, input),
-        None => Ok(String::from_str(alloc, "no such kind")?),
+        None => said(alloc, "no such kind"),
     }
 }

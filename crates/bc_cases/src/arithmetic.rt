@@ -1,4 +1,5 @@
-use crate::number::{short, word};
+use crate::number::{next, short, word};
+use crate::said::said;
 use bc_lex_tokens::Symbol;
 use bc_show::{ShownBytes, sign};
 use bc_word::{Memory, Op, Rel, Word, apply, complement, mirror};
@@ -19,18 +20,23 @@ fn operator(text: &str) -> Option<Op> {
 /// The value of `B OPERATOR A`, signed.
 pub fn applied(alloc: Global, input: &str) -> Result<String, Memory> {
     let mut words = input.split_whitespace();
-    let b = word(words.next().unwrap_or(""));
-    let op = operator(words.next().unwrap_or(""));
-    let a = word(words.next().unwrap_or(""));
-    let Some(op) = op else {
-        return Ok(String::from_str(alloc, "no operator")?);
-    };
-    match apply(op, b, a) {
+    let b = word(next(&mut words));
+    let op = operator(next(&mut words));
+    let a = word(next(&mut words));
+    match op {
+        Some(op) => value(alloc, apply(op, b, a)),
+        None => said(alloc, "no operator"),
+    }
+}
+
+/// The value of an operation, signed.
+fn value(alloc: Global, value: Option<Word>) -> Result<String, Memory> {
+    match value {
         Some(value) => {
             let value = value.signed();
             Ok(format!(in alloc; "{value}")?)
         }
-        None => Ok(String::from_str(alloc, "no value")?),
+        None => said(alloc, "no value"),
     }
 }
 
@@ -64,7 +70,7 @@ fn relation(op: Op) -> Option<Rel> {
 pub fn operators(alloc: Global, input: &str) -> Result<String, Memory> {
     let number = short(input.lines().next().unwrap_or(""));
     let Ok(op) = Op::try_from(Word::new(number)) else {
-        return Ok(String::from_str(alloc, "no operator")?);
+        return said(alloc, "no operator");
     };
     let this = sign(op);
     let number = Word::from(op).get();
@@ -82,11 +88,16 @@ pub fn operators(alloc: Global, input: &str) -> Result<String, Memory> {
 /// The symbol that is spelled so, with its first spelling and its number, and whether it is the one of a second word.
 pub fn symbols(alloc: Global, input: &str) -> Result<String, Memory> {
     let mut words = input.split_whitespace();
-    let symbol = Symbol::spelled(words.next().unwrap_or("").as_bytes());
-    let other = Symbol::spelled(words.next().unwrap_or("").as_bytes());
-    let Some(symbol) = symbol else {
-        return Ok(String::from_str(alloc, "no symbol")?);
-    };
+    let symbol = Symbol::spelled(next(&mut words).as_bytes());
+    let other = Symbol::spelled(next(&mut words).as_bytes());
+    match symbol {
+        Some(symbol) => spelled(alloc, symbol, other),
+        None => said(alloc, "no symbol"),
+    }
+}
+
+/// A symbol's spelling and number, and whether it is the other one.
+fn spelled(alloc: Global, symbol: Symbol, other: Option<Symbol>) -> Result<String, Memory> {
     let spelling = ShownBytes(symbol.spelling());
     let number = symbol.number();
     let is_other = match other {

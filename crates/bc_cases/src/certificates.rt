@@ -1,32 +1,34 @@
 use crate::derivations::derivation_of;
 use crate::expressions::root_of;
-use crate::number::{number, short};
+use crate::number::{next, number, short};
 use bc_cert::write_cert;
 use bc_rules_defs::Entry;
 use bc_show::ShownBytes;
 use bc_word::Memory;
 use std::alloc::Global;
+use std::str::SplitWhitespace;
 
 /// The entry of three lines: its segment, item, target, first label and the numbers of its bodies' items; its root; its derivation.
 fn entry_of(alloc: Global, head: &str, root: &str, derivation: &str) -> Result<Entry, Memory> {
     let mut fields = head.split_whitespace();
-    let segment = number(fields.next().unwrap_or(""));
-    let item = number(fields.next().unwrap_or(""));
-    let target = short(fields.next().unwrap_or(""));
-    let first = short(fields.next().unwrap_or(""));
-    let mut bodies = Vec::new(alloc);
-    for field in fields {
-        bodies.push(number(field))?;
-    }
     Ok(Entry {
-        segment,
-        item,
-        target,
-        first,
+        segment: number(next(&mut fields)),
+        item: number(next(&mut fields)),
+        target: short(next(&mut fields)),
+        first: short(next(&mut fields)),
         root: root_of(alloc, root)?,
         derivation: derivation_of(alloc, derivation)?,
-        bodies,
+        bodies: numbers(alloc, fields)?,
     })
+}
+
+/// The numbers that these words are.
+fn numbers(alloc: Global, words: SplitWhitespace<'_>) -> Result<Vec<u64>, Memory> {
+    let mut numbers = Vec::new(alloc);
+    for word in words {
+        numbers.push(number(word))?;
+    }
+    Ok(numbers)
 }
 
 /// The entries of an input, of three lines each.
@@ -47,18 +49,14 @@ fn add_line(lines: &mut String, line: &[u8]) -> Result<(), Memory> {
         lines.push('\n')?;
     }
     let line = ShownBytes(line);
-    write!(lines, "{line}")?;
-    Ok(())
+    Ok(write!(lines, "{line}")?)
 }
 
 /// The lines of a text whose lines all end by a line feed.
 fn lines(alloc: Global, text: &[u8]) -> Result<String, Memory> {
     let mut lines = String::new(alloc);
-    for line in text
-        .strip_suffix(b"\n")
-        .unwrap_or(text)
-        .split(|byte| *byte == b'\n')
-    {
+    let text = text.strip_suffix(b"\n").unwrap_or(text);
+    for line in text.split(|byte| *byte == b'\n') {
         add_line(&mut lines, line)?;
     }
     Ok(lines)

@@ -26,18 +26,25 @@ fn operator(head: &str) -> Option<Op> {
     None
 }
 
+/// The number behind the letter of what stands without brackets.
+fn behind_letter(text: &str) -> u16 {
+    for letter in ['P', 'G', 'L', 'V'] {
+        if let Some(number) = text.strip_prefix(letter) {
+            return short(number);
+        }
+    }
+    0
+}
+
 /// What stands without brackets.
 fn leaf(text: &str) -> CoreExp {
-    if let Some(offset) = text.strip_prefix('P') {
-        CoreExp::Frame(short(offset))
-    } else if let Some(number) = text.strip_prefix('G') {
-        CoreExp::Glob(short(number))
-    } else if let Some(label) = text.strip_prefix('L') {
-        CoreExp::Place(short(label))
-    } else if let Some(number) = text.strip_prefix('V') {
-        CoreExp::Valof(short(number))
-    } else {
-        CoreExp::Num(word(text))
+    let number = behind_letter(text);
+    match text.as_bytes().first() {
+        Some(b'P') => CoreExp::Frame(number),
+        Some(b'G') => CoreExp::Glob(number),
+        Some(b'L') => CoreExp::Place(number),
+        Some(b'V') => CoreExp::Valof(number),
+        _ => CoreExp::Num(word(text)),
     }
 }
 
@@ -67,22 +74,31 @@ fn call(alloc: Global, parts: Vec<CoreExp>) -> Result<CoreExp, Memory> {
 
 /// The expression of a bracket.
 fn made(alloc: Global, head: &str, parts: Vec<CoreExp>) -> Result<CoreExp, Memory> {
-    if head == "CALL" {
-        return call(alloc, parts);
-    }
     let mut parts = parts;
-    let third = last(alloc, &mut parts)?;
-    if head == "NEG" {
-        return Ok(CoreExp::Neg(third));
+    match head {
+        "CALL" => call(alloc, parts),
+        "NEG" => Ok(CoreExp::Neg(last(alloc, &mut parts)?)),
+        "NOT" => Ok(CoreExp::Not(last(alloc, &mut parts)?)),
+        _ => match operator(head) {
+            Some(op) => dyadic(alloc, op, &mut parts),
+            None => condition(alloc, &mut parts),
+        },
     }
-    if head == "NOT" {
-        return Ok(CoreExp::Not(third));
-    }
-    let second = last(alloc, &mut parts)?;
-    match operator(head) {
-        Some(op) => Ok(CoreExp::Bin(op, second, third)),
-        None => Ok(CoreExp::Cond(last(alloc, &mut parts)?, second, third)),
-    }
+}
+
+/// An operator with the last two parts.
+fn dyadic(alloc: Global, op: Op, parts: &mut Vec<CoreExp>) -> Result<CoreExp, Memory> {
+    let second = last(alloc, parts)?;
+    let first = last(alloc, parts)?;
+    Ok(CoreExp::Bin(op, first, second))
+}
+
+/// A condition of the last three parts.
+fn condition(alloc: Global, parts: &mut Vec<CoreExp>) -> Result<CoreExp, Memory> {
+    let third = last(alloc, parts)?;
+    let second = last(alloc, parts)?;
+    let first = last(alloc, parts)?;
+    Ok(CoreExp::Cond(first, second, third))
 }
 
 /// One part more for the innermost open bracket.
@@ -102,21 +118,23 @@ fn close(alloc: Global, open: &mut Vec<Open>) -> Result<(), Memory> {
     Ok(())
 }
 
+/// A bracket that opens with this word.
+fn begun(alloc: Global, head: &str, loads: usize) -> Result<Open, Memory> {
+    Ok(Open {
+        head: String::from_str(alloc, head)?,
+        loads,
+        parts: Vec::new(alloc),
+    })
+}
+
 /// A word, with the brackets that it opens and closes.
 fn add_word(alloc: Global, open: &mut Vec<Open>, word: &str) -> Result<(), Memory> {
     let body = word.trim_end_matches(')');
     let inner = body.trim_start_matches('!');
     let loads = body.len().saturating_sub(inner.len());
     match inner.strip_prefix('(') {
-        Some(head) => open.push(Open {
-            head: String::from_str(alloc, head)?,
-            loads,
-            parts: Vec::new(alloc),
-        })?,
-        None => {
-            let e = loaded(alloc, leaf(inner), loads)?;
-            add(open, e)?;
-        }
+        Some(head) => open.push(begun(alloc, head, loads)?)?,
+        None => add(open, loaded(alloc, leaf(inner), loads)?)?,
     }
     for _ in body.len()..word.len() {
         close(alloc, open)?;
@@ -127,11 +145,7 @@ fn add_word(alloc: Global, open: &mut Vec<Open>, word: &str) -> Result<(), Memor
 /// The expressions of a text, with blanks between them.
 pub fn expressions_of(alloc: Global, text: &str) -> Result<Vec<CoreExp>, Memory> {
     let mut open = Vec::new(alloc);
-    open.push(Open {
-        head: String::new(alloc),
-        loads: 0,
-        parts: Vec::new(alloc),
-    })?;
+    open.push(begun(alloc, "", 0)?)?;
     for word in text.split_whitespace() {
         add_word(alloc, &mut open, word)?;
     }
@@ -160,28 +174,34 @@ pub fn root_of(alloc: Global, line: &str) -> Result<Root, Memory> {
     let (level, text) = rest.split_once(' ').unwrap_or((rest, ""));
     let level = short(level);
     let text = text.strip_suffix(')').unwrap_or(text);
-    if form == "ASSIGN" {
-        let mut sides = expressions_of(alloc, text)?;
-        let value = sides.pop().unwrap_or(CoreExp::Num(Word::new(0)));
-        let address = sides.pop().unwrap_or(CoreExp::Num(Word::new(0)));
-        return Ok(Root::Assign {
-            level,
-            value,
-            address,
-        });
-    }
-    let expression = expression_of(alloc, text)?;
     match form {
-        "TRUE" => Ok(Root::Test {
+        "ASSIGN" => assignment(alloc, level, text),
+        "TRUE" => test(alloc, level, true, text),
+        "FALSE" => test(alloc, level, false, text),
+        _ => Ok(Root::Value {
             level,
-            sense: true,
-            expression,
+            expression: expression_of(alloc, text)?,
         }),
-        "FALSE" => Ok(Root::Test {
-            level,
-            sense: false,
-            expression,
-        }),
-        _ => Ok(Root::Value { level, expression }),
     }
+}
+
+/// An assignment of an address and a value.
+fn assignment(alloc: Global, level: u16, text: &str) -> Result<Root, Memory> {
+    let mut sides = expressions_of(alloc, text)?;
+    let value = sides.pop().unwrap_or(CoreExp::Num(Word::new(0)));
+    let address = sides.pop().unwrap_or(CoreExp::Num(Word::new(0)));
+    Ok(Root::Assign {
+        level,
+        value,
+        address,
+    })
+}
+
+/// A test, to jump where it is as this sense says.
+fn test(alloc: Global, level: u16, sense: bool, text: &str) -> Result<Root, Memory> {
+    Ok(Root::Test {
+        level,
+        sense,
+        expression: expression_of(alloc, text)?,
+    })
 }

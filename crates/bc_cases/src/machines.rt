@@ -51,15 +51,26 @@ fn image_of(alloc: Global, store: Vec<Word>) -> Option<Image> {
 
 /// One input and one output, where they can be had.
 fn streams(alloc: Global, input: &[u8], room: usize) -> Result<Option<MemoryStreams>, Memory> {
+    let inputs = inputs(alloc, input)?;
+    let outputs = outputs(alloc)?;
+    Ok(MemoryStreams::new(alloc, inputs, outputs, room).ok())
+}
+
+/// The input SYSIN.
+fn inputs(alloc: Global, input: &[u8]) -> Result<Vec<Named<Vec<u8>>>, Memory> {
     let mut inputs = Vec::new(alloc);
-    let device = Vec::from_slice(alloc, input)?;
     inputs.push(Named {
         name: Vec::from_slice(alloc, b"SYSIN")?,
-        device,
+        device: Vec::from_slice(alloc, input)?,
     })?;
+    Ok(inputs)
+}
+
+/// The output SYSPRINT.
+fn outputs(alloc: Global) -> Result<Vec<Vec<u8>>, Memory> {
     let mut outputs = Vec::new(alloc);
     outputs.push(Vec::from_slice(alloc, b"SYSPRINT")?)?;
-    Ok(MemoryStreams::new(alloc, inputs, outputs, room).ok())
+    Ok(outputs)
 }
 
 /// What a machine and its streams are made from.
@@ -71,30 +82,35 @@ struct Setting {
     budgets: Vec<u64>,
 }
 
-fn setting_of(alloc: Global, lines: &str) -> Result<Setting, Memory> {
-    let mut store = empty_store(alloc)?;
-    let mut input = String::new(alloc);
-    let mut room = 1000;
-    let mut budgets = Vec::new(alloc);
-    for line in lines.lines() {
-        if let Some(text) = line.strip_prefix("text ") {
-            store = store_of(alloc, text)?;
-        } else if let Some(words) = line.strip_prefix("words ") {
-            put(&mut store, words);
-        } else if let Some(text) = line.strip_prefix("input ") {
-            input = String::from_str(alloc, text)?;
-        } else if let Some(count) = line.strip_prefix("room ") {
-            room = usize::from(short(count));
-        } else if let Some(steps) = line.strip_prefix("run ") {
-            budgets.push(number(steps))?;
+impl Setting {
+    /// What a line says.
+    fn read(&mut self, alloc: Global, line: &str) -> Result<(), Memory> {
+        let Some((what, rest)) = line.split_once(' ') else {
+            return Ok(());
+        };
+        match what {
+            "text" => self.store = store_of(alloc, rest)?,
+            "words" => put(&mut self.store, rest),
+            "input" => self.input = String::from_str(alloc, rest)?,
+            "room" => self.room = usize::from(short(rest)),
+            "run" => self.budgets.push(number(rest))?,
+            _ => {}
         }
+        Ok(())
     }
-    Ok(Setting {
-        store,
-        input,
-        room,
-        budgets,
-    })
+}
+
+fn setting_of(alloc: Global, lines: &str) -> Result<Setting, Memory> {
+    let mut setting = Setting {
+        store: empty_store(alloc)?,
+        input: String::new(alloc),
+        room: 1000,
+        budgets: Vec::new(alloc),
+    };
+    for line in lines.lines() {
+        setting.read(alloc, line)?;
+    }
+    Ok(setting)
 }
 
 /// What each run in turn of one machine answers, and what is written by then.
@@ -105,33 +121,50 @@ pub fn steps(alloc: Global, lines: &str) -> Result<String, Memory> {
         room,
         budgets,
     } = setting_of(alloc, lines)?;
-    let mut text = String::new(alloc);
     let Some(image) = image_of(alloc, store) else {
-        return Ok(text);
+        return Ok(String::new(alloc));
     };
-    let mut machine = Machine::new(alloc, &image)?;
-    let Some(mut streams) = streams(alloc, input.as_bytes(), room)? else {
-        return Err(Memory);
-    };
+    let machine = Machine::new(alloc, &image)?;
+    match streams(alloc, input.as_bytes(), room)? {
+        Some(streams) => runs(alloc, machine, streams, budgets.as_slice()),
+        None => Err(Memory),
+    }
+}
+
+/// What each run of a machine with these streams answers, and what is written by then.
+fn runs(
+    alloc: Global,
+    machine: Machine,
+    streams: MemoryStreams,
+    budgets: &[u64],
+) -> Result<String, Memory> {
+    let mut machine = machine;
+    let mut streams = streams;
+    let mut text = String::new(alloc);
     for budget in budgets {
-        let end = machine.run(&mut streams, budget);
-        if !text.is_empty() {
-            text.push('\n')?;
-        }
-        add_end(&mut text, end)?;
-        add_written(&mut text, &streams)?;
+        let end = machine.run(&mut streams, *budget);
+        add_run(&mut text, end, &streams)?;
     }
     Ok(text)
 }
 
-fn add_end(text: &mut String, end: End) -> Result<(), Memory> {
-    if let End::BadInstruction(address) = end {
-        let address = address.get();
-        write!(text, "BadInstruction {address}")?;
-    } else {
-        write!(text, "{end:?}")?;
+/// Adds the line of a run.
+fn add_run(text: &mut String, end: End, streams: &MemoryStreams) -> Result<(), Memory> {
+    if !text.is_empty() {
+        text.push('\n')?;
     }
-    Ok(())
+    add_end(text, end)?;
+    add_written(text, streams)
+}
+
+fn add_end(text: &mut String, end: End) -> Result<(), Memory> {
+    match end {
+        End::BadInstruction(address) => {
+            let address = address.get();
+            Ok(write!(text, "BadInstruction {address}")?)
+        }
+        _ => Ok(write!(text, "{end:?}")?),
+    }
 }
 
 /// What was written, each byte behind the number of its output.

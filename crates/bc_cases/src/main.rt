@@ -13,6 +13,7 @@ mod machines;
 mod number;
 mod row;
 mod rules;
+mod said;
 mod sources;
 mod streams;
 mod sweeps;

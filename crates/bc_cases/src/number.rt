@@ -1,4 +1,5 @@
 use bc_word::Word;
+use std::str::SplitWhitespace;
 
 /// The number that a text is, or 0.
 pub fn number(text: &str) -> u64 {
@@ -16,4 +17,9 @@ pub fn word(text: &str) -> Word {
         Ok(signed) => Word::new(signed.cast_unsigned()),
         Err(_) => Word::new(short(text)),
     }
+}
+
+/// The next word of a line, or nothing.
+pub fn next<'t>(words: &mut SplitWhitespace<'t>) -> &'t str {
+    words.next().unwrap_or("")
 }

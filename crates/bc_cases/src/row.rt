@@ -24,11 +24,9 @@ fn write_choice<W: fmt::Write>(
     words: Option<u64>,
     rule: Option<Rule>,
 ) -> fmt::Result {
-    match words {
-        None => f.write_char('-'),
-        Some(words) => match rule {
-            None => write!(f, "{words}"),
-            Some(rule) => write!(f, "{words} {rule:?}"),
-        },
+    match (words, rule) {
+        (None, _) => f.write_char('-'),
+        (Some(words), None) => write!(f, "{words}"),
+        (Some(words), Some(rule)) => write!(f, "{words} {rule:?}"),
     }
 }

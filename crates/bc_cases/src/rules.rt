@@ -1,14 +1,15 @@
 use crate::derivations::derivation_of;
 use crate::expressions::{expression_of, expressions_of, root_of};
-use crate::number::short;
+use crate::number::{next, short};
 use crate::row::ShownRow;
+use crate::said::said;
 use bc_core::{CoreExp, Root, constant, copy, copy_expression, operand};
 use bc_rules::{code_of, free, is_derivation, is_derivation_by, next_label, words};
 use bc_rules_defs::{Derivation, Piece, Table};
-use bc_select::{is_selectable, rows, select};
+use bc_select::{Row, is_selectable, rows, select};
 use bc_show::{ShownDerivation, ShownExpression, ShownPiece, ShownRoot};
 use bc_text_items::Base;
-use bc_word::Memory;
+use bc_word::{Memory, Word};
 use std::alloc::Global;
 
 fn yes_or_no(yes: bool) -> &'static str {
@@ -23,7 +24,7 @@ fn line(input: &str, index: usize) -> &str {
 /// The number behind a word of a line, or 0.
 fn behind(line: &str, word: &str) -> u16 {
     match line.split_once(word) {
-        Some((_, rest)) => short(rest.split_whitespace().next().unwrap_or("")),
+        Some((_, rest)) => short(next(&mut rest.split_whitespace())),
         None => 0,
     }
 }
@@ -32,39 +33,42 @@ fn behind(line: &str, word: &str) -> u16 {
 pub fn judged(alloc: Global, input: &str) -> Result<String, Memory> {
     let root = root_of(alloc, line(input, 0))?;
     let derivation = derivation_of(alloc, line(input, 1))?;
-    let first = yes_or_no(is_derivation_by(Table::One, &root, &derivation));
-    let second = yes_or_no(is_derivation_by(Table::Two, &root, &derivation));
+    told(alloc, &root, &derivation, line(input, 2))
+}
+
+/// Whether this is a derivation of a root by each table, and what its code is from these labels on.
+fn told(
+    alloc: Global,
+    root: &Root,
+    derivation: &Derivation,
+    labels: &str,
+) -> Result<String, Memory> {
+    let first = yes_or_no(is_derivation_by(Table::One, root, derivation));
+    let second = yes_or_no(is_derivation_by(Table::Two, root, derivation));
     let mut text = format!(in alloc; "by table 1 {first}, by table 2 {second}")?;
-    if is_derivation(&root, &derivation) {
-        let labels = line(input, 2);
-        let target = behind(labels, "target ");
+    if is_derivation(root, derivation) {
         let first = behind(labels, "first ");
-        add_code(alloc, &mut text, &root, &derivation, target, first)?;
+        let code = code_of(alloc, root, derivation, behind(labels, "target "), first);
+        add_code(&mut text, code)?;
+        add_label(&mut text, next_label(root, derivation, first))?;
     }
     Ok(text)
 }
 
-fn add_code(
-    alloc: Global,
-    text: &mut String,
-    root: &Root,
-    derivation: &Derivation,
-    target: u16,
-    first: u16,
-) -> Result<(), Memory> {
-    match code_of(alloc, root, derivation, target, first) {
-        Ok(code) => {
-            text.push_str("\ncode")?;
-            add_pieces(text, code.as_slice())?;
-            add_words(text, code.as_slice())?;
-        }
-        Err(Memory) => text.push_str("\nno code")?,
+fn add_code(text: &mut String, code: Result<Vec<Piece>, Memory>) -> Result<(), Memory> {
+    let Ok(code) = code else {
+        return Ok(text.push_str("\nno code")?);
+    };
+    text.push_str("\ncode")?;
+    add_pieces(text, code.as_slice())?;
+    add_words(text, code.as_slice())
+}
+
+fn add_label(text: &mut String, label: Option<u32>) -> Result<(), Memory> {
+    match label {
+        Some(label) => Ok(write!(text, "\nnext label {label}")?),
+        None => Ok(text.push_str("\nno next label")?),
     }
-    match next_label(root, derivation, first) {
-        Some(label) => write!(text, "\nnext label {label}")?,
-        None => text.push_str("\nno next label")?,
-    }
-    Ok(())
 }
 
 fn add_pieces(text: &mut String, code: &[Piece]) -> Result<(), Memory> {
@@ -87,28 +91,33 @@ fn add_words(text: &mut String, code: &[Piece]) -> Result<(), Memory> {
 pub fn least(alloc: Global, input: &str) -> Result<String, Memory> {
     let root = root_of(alloc, line(input, 0))?;
     if !is_selectable(&root) {
-        return Ok(String::from_str(alloc, "not selectable")?);
+        return said(alloc, "not selectable");
     }
     let selected = select(alloc, &root)?;
     let table = rows(alloc, &root)?;
     let words = selected.words;
     let derivation = ShownDerivation(&selected.derivation);
     let mut text = format!(in alloc; "{words} words by {derivation}")?;
-    for row in &table {
-        let row = ShownRow(row);
-        write!(text, "\n{row}")?;
-    }
+    add_rows(&mut text, table.as_slice())?;
     if table != selected.table {
         text.push_str("\nother rows")?;
     }
     Ok(text)
 }
 
+fn add_rows(text: &mut String, table: &[Row]) -> Result<(), Memory> {
+    for row in table {
+        let row = ShownRow(row);
+        write!(text, "\n{row}")?;
+    }
+    Ok(())
+}
+
 /// The least words of a root.
 pub fn least_words(alloc: Global, input: &str) -> Result<String, Memory> {
     let root = root_of(alloc, line(input, 0))?;
     if !is_selectable(&root) {
-        return Ok(String::from_str(alloc, "not selectable")?);
+        return said(alloc, "not selectable");
     }
     let words = select(alloc, &root)?.words;
     Ok(format!(in alloc; "{words}")?)
@@ -126,31 +135,36 @@ fn base_letter(base: Base) -> &'static str {
 /// The operand of one instruction that an expression is, and the number that it is.
 pub fn operands(alloc: Global, input: &str) -> Result<String, Memory> {
     let e = expression_of(alloc, line(input, 0))?;
-    let mut text = match operand(&e) {
-        Some(found) => {
-            let indirection = if found.direct { "" } else { "I" };
-            let base = base_letter(found.base);
-            let n = found.n.get();
-            format!(in alloc; "operand {indirection}{base}{n}")?
-        }
-        None => String::from_str(alloc, "no operand")?,
-    };
-    match constant(&e) {
-        Some(word) => {
-            let word = word.get();
-            write!(text, ", constant {word}")?;
-        }
-        None => text.push_str(", no constant")?,
-    }
+    let mut text = operand_of(alloc, &e)?;
+    add_constant(&mut text, constant(&e))?;
     Ok(text)
+}
+
+/// The operand of one instruction that an expression is.
+fn operand_of(alloc: Global, e: &CoreExp) -> Result<String, Memory> {
+    let Some(found) = operand(e) else {
+        return said(alloc, "no operand");
+    };
+    let indirection = if found.direct { "" } else { "I" };
+    let base = base_letter(found.base);
+    let n = found.n.get();
+    Ok(format!(in alloc; "operand {indirection}{base}{n}")?)
+}
+
+fn add_constant(text: &mut String, constant: Option<Word>) -> Result<(), Memory> {
+    let Some(word) = constant else {
+        return Ok(text.push_str(", no constant")?);
+    };
+    let word = word.get();
+    Ok(write!(text, ", constant {word}")?)
 }
 
 /// Whether two expressions may change places.
 pub fn freedom(alloc: Global, input: &str) -> Result<String, Memory> {
     let pair = expressions_of(alloc, line(input, 0))?;
     match pair.as_slice() {
-        [first, second] => Ok(String::from_str(alloc, yes_or_no(free(first, second)))?),
-        _ => Ok(String::from_str(alloc, "not two expressions")?),
+        [first, second] => said(alloc, yes_or_no(free(first, second))),
+        _ => said(alloc, "not two expressions"),
     }
 }
 
@@ -159,14 +173,19 @@ pub fn copied(alloc: Global, input: &str) -> Result<String, Memory> {
     let root = root_of(alloc, line(input, 0))?;
     let other = root_of(alloc, line(input, 1))?;
     let new = copy(alloc, &root)?;
+    compared(alloc, &root, &other, &new)
+}
+
+/// A root's copy, and whether it is equal to it and to another one.
+fn compared(alloc: Global, root: &Root, other: &Root, new: &Root) -> Result<String, Memory> {
     let is_same = new == root;
     let is_other = new == other;
-    let whole = ShownRoot(&new);
+    let whole = ShownRoot(new);
     let mut text = format!(in alloc; "{whole}, the same: {is_same}, the other: {is_other}")?;
     if let Root::Value {
         level: _,
         expression,
-    } = &root
+    } = root
     {
         add_copy(alloc, &mut text, expression)?;
     }

@@ -39,30 +39,53 @@ fn add_line(alloc: Global, given: &mut Given, line: &str) -> Result<(), Memory> 
 /// The sources of a case. A line `-- NAME` begins one, a line `== NAME` the one that is read first; without such lines all is the
 /// source A.
 pub fn sources_of(alloc: Global, input: &str) -> Result<Sources, Memory> {
-    let mut given: Vec<Given> = Vec::new(alloc);
-    let mut main = 0;
+    let mut sources = Sources {
+        given: Vec::new(alloc),
+        main: 0,
+    };
     for line in input.lines() {
-        if let Some(name) = line.strip_prefix("-- ") {
-            given.push(begun(alloc, name)?)?;
-        } else if let Some(name) = line.strip_prefix("== ") {
-            main = given.len();
-            given.push(begun(alloc, name)?)?;
-        } else {
-            if given.is_empty() {
-                given.push(begun(alloc, "A")?)?;
-            }
-            if let Some(last) = given.last_mut() {
-                add_line(alloc, last, line)?;
-            }
-        }
+        sources.read(alloc, line)?;
     }
-    if given.is_empty() {
-        given.push(begun(alloc, "A")?)?;
-    }
-    Ok(Sources { given, main })
+    sources.begin_first(alloc)?;
+    Ok(sources)
 }
 
 impl Sources {
+    /// A source with this name begins.
+    fn begin(&mut self, alloc: Global, name: &str) -> Result<(), Memory> {
+        Ok(self.given.push(begun(alloc, name)?)?)
+    }
+
+    /// The source A begins, where none has begun.
+    fn begin_first(&mut self, alloc: Global) -> Result<(), Memory> {
+        if self.given.is_empty() {
+            self.begin(alloc, "A")
+        } else {
+            Ok(())
+        }
+    }
+
+    /// A line of the source that has begun last.
+    fn add(&mut self, alloc: Global, line: &str) -> Result<(), Memory> {
+        self.begin_first(alloc)?;
+        match self.given.last_mut() {
+            Some(last) => add_line(alloc, last, line),
+            None => Ok(()),
+        }
+    }
+
+    /// A line of a case.
+    fn read(&mut self, alloc: Global, line: &str) -> Result<(), Memory> {
+        if let Some(name) = line.strip_prefix("-- ") {
+            self.begin(alloc, name)
+        } else if let Some(name) = line.strip_prefix("== ") {
+            self.main = self.given.len();
+            self.begin(alloc, name)
+        } else {
+            self.add(alloc, line)
+        }
+    }
+
     /// The sources, and behind them LIBHDR and BLIB.
     pub fn all(&self, alloc: Global) -> Result<Vec<Source<'_>>, Memory> {
         let mut sources = Vec::new(alloc);

@@ -36,16 +36,16 @@ fn side_of(word: &str) -> Side {
 }
 
 fn add_read(text: &mut String, streams: &mut MemoryStreams) -> Result<(), Memory> {
-    match streams.read() {
+    let answer = match streams.read() {
         Ok(Some(byte)) => {
             let bytes = [byte];
             let byte = ShownBytes(&bytes);
-            write!(text, "read {byte}")?;
+            return Ok(write!(text, "read {byte}")?);
         }
-        Ok(None) => text.push_str("read nothing")?,
-        Err(_) => text.push_str("the device failed")?,
-    }
-    Ok(())
+        Ok(None) => "read nothing",
+        Err(_) => "the device failed",
+    };
+    Ok(text.push_str(answer)?)
 }
 
 fn add_done(text: &mut String, done: bool) -> Result<(), Memory> {
@@ -56,48 +56,66 @@ fn add_done(text: &mut String, done: bool) -> Result<(), Memory> {
 fn act(text: &mut String, streams: &mut MemoryStreams, line: &str) -> Result<(), Memory> {
     let (action, rest) = line.split_once(' ').unwrap_or((line, ""));
     let (side, value) = rest.split_once(' ').unwrap_or((rest, ""));
+    let side = side_of(side);
     match action {
-        "find" => {
-            let number = streams.find(side_of(side), value.as_bytes()).get();
-            write!(text, "number {number}")?;
-            Ok(())
-        }
+        "find" => add_found(text, streams, side, value),
         "select" => {
-            streams.select(side_of(side), word(value));
+            streams.select(side, word(value));
             add_done(text, true)
         }
-        "write" => match rest.as_bytes() {
-            [byte, ..] => {
-                let done = streams.write(*byte).is_ok();
-                add_done(text, done)
-            }
-            [] => Ok(()),
-        },
-        "end" => {
-            let done = streams.end(side_of(side)).is_ok();
-            add_done(text, done)
-        }
+        "write" => add_sent(text, streams, rest.as_bytes()),
+        "end" => add_done(text, streams.end(side).is_ok()),
         _ => add_read(text, streams),
     }
+}
+
+/// Adds the number of the stream with a name.
+fn add_found(
+    text: &mut String,
+    streams: &mut MemoryStreams,
+    side: Side,
+    name: &str,
+) -> Result<(), Memory> {
+    let number = streams.find(side, name.as_bytes()).get();
+    Ok(write!(text, "number {number}")?)
+}
+
+/// Writes the first of these bytes, if there is one, and adds whether that was done.
+fn add_sent(text: &mut String, streams: &mut MemoryStreams, bytes: &[u8]) -> Result<(), Memory> {
+    match bytes.first() {
+        Some(byte) => add_done(text, streams.write(*byte).is_ok()),
+        None => Ok(()),
+    }
+}
+
+/// The first line of a text, and what is behind it.
+fn front(text: &str) -> (&str, &str) {
+    text.split_once('\n').unwrap_or((text, ""))
 }
 
 /// What streams over memory answer to each line: the first has the inputs, the second the outputs, the third how many bytes may be
 /// written.
 pub fn streams(alloc: Global, input: &str) -> Result<String, Memory> {
-    let mut lines = input.lines();
-    let inputs = inputs(alloc, lines.next().unwrap_or(""))?;
-    let outputs = outputs(alloc, lines.next().unwrap_or(""))?;
-    let room = usize::from(word(lines.next().unwrap_or("")).get());
-    let mut streams = match MemoryStreams::new(alloc, inputs, outputs, room) {
-        Ok(streams) => streams,
-        Err(fault) => return Ok(format!(in alloc; "{fault:?}")?),
-    };
+    let (first, input) = front(input);
+    let (second, input) = front(input);
+    let (third, lines) = front(input);
+    let inputs = inputs(alloc, first)?;
+    let outputs = outputs(alloc, second)?;
+    let room = usize::from(word(third).get());
+    match MemoryStreams::new(alloc, inputs, outputs, room) {
+        Ok(mut streams) => acted(alloc, &mut streams, lines),
+        Err(fault) => Ok(format!(in alloc; "{fault:?}")?),
+    }
+}
+
+/// What streams answer to each of these lines, and what is written then.
+fn acted(alloc: Global, streams: &mut MemoryStreams, lines: &str) -> Result<String, Memory> {
     let mut text = String::from_str(alloc, "made")?;
-    for line in lines {
+    for line in lines.lines() {
         text.push('\n')?;
-        act(&mut text, &mut streams, line)?;
+        act(&mut text, streams, line)?;
     }
     text.push_str("\nwritten")?;
-    add_written(&mut text, &streams)?;
+    add_written(&mut text, streams)?;
     Ok(text)
 }

@@ -2,9 +2,10 @@
 
 use crate::escapes::expanded;
 use crate::linking::text_of;
-use crate::number::short;
-use bc_cert::{CheckFault, check};
-use bc_lex::{LexError, Source, lex};
+use crate::number::{next, short};
+use crate::said::said;
+use bc_cert::check;
+use bc_lex::{Source, lex};
 use bc_library::{BLIB, LIBHDR};
 use bc_text::{TextError, read_all};
 use bc_text_items::Segment;
@@ -24,31 +25,45 @@ struct Tally {
     places: u64,
 }
 
+/// One more.
+fn count(number: &mut u64) {
+    *number = number.wrapping_add(1);
+}
+
 impl Tally {
+    /// An answer more.
     fn add(&mut self, got: Result<Vec<Segment>, TextError>) {
         match got {
-            Ok(segments) => {
-                self.lawful = self.lawful.wrapping_add(1);
-                for segment in &segments {
-                    self.segments = self.segments.wrapping_add(1);
-                    self.items = self.items.wrapping_add(segment.items().len() as u64);
-                }
-            }
-            Err(TextError::BadCharacter(at)) => {
-                self.characters = self.characters.wrapping_add(1);
-                self.places = self.places.wrapping_add(at);
-            }
-            Err(TextError::BadNumber(at)) => {
-                self.numbers = self.numbers.wrapping_add(1);
-                self.places = self.places.wrapping_add(at);
-            }
-            Err(TextError::MissingLabel(at)) => {
-                self.labels = self.labels.wrapping_add(1);
-                self.places = self.places.wrapping_add(at);
-            }
-            Err(TextError::Unended) => self.unended = self.unended.wrapping_add(1),
-            Err(_) => {}
+            Ok(segments) => self.add_lawful(segments.as_slice()),
+            Err(fault) => self.add_fault(&fault),
         }
+    }
+
+    fn add_lawful(&mut self, segments: &[Segment]) {
+        count(&mut self.lawful);
+        for segment in segments {
+            count(&mut self.segments);
+            self.items = self.items.wrapping_add(segment.items().len() as u64);
+        }
+    }
+
+    fn add_fault(&mut self, fault: &TextError) {
+        match fault {
+            TextError::BadCharacter(_) => count(&mut self.characters),
+            TextError::BadNumber(_) => count(&mut self.numbers),
+            TextError::MissingLabel(_) => count(&mut self.labels),
+            TextError::Unended => count(&mut self.unended),
+            _ => {}
+        }
+        self.places = self.places.wrapping_add(place_of(fault));
+    }
+}
+
+/// The place of a fault that has one, or 0.
+fn place_of(fault: &TextError) -> u64 {
+    match fault {
+        TextError::BadCharacter(at) | TextError::BadNumber(at) | TextError::MissingLabel(at) => *at,
+        _ => 0,
     }
 }
 
@@ -90,46 +105,61 @@ pub fn texts(alloc: Global, input: &str) -> Result<String, Memory> {
 }
 
 fn told(alloc: Global, tally: &Tally) -> Result<String, Memory> {
-    let lawful = tally.lawful;
-    let segments = tally.segments;
-    let items = tally.items;
-    let characters = tally.characters;
-    let numbers = tally.numbers;
-    let labels = tally.labels;
-    let unended = tally.unended;
-    let places = tally.places;
-    let mut text = format!(in alloc;
-        "{lawful} lawful, with {segments} segments and {items} items\n"
-    )?;
-    write!(
-        text,
-        "{characters} BadCharacter, {numbers} BadNumber, {labels} MissingLabel, the sum of their places {places}\n"
-    )?;
-    write!(text, "{unended} Unended")?;
+    let mut text = String::new(alloc);
+    for (number, what) in [
+        (tally.lawful, " lawful, with "),
+        (tally.segments, " segments and "),
+        (tally.items, " items\n"),
+        (tally.characters, " BadCharacter, "),
+        (tally.numbers, " BadNumber, "),
+        (tally.labels, " MissingLabel, the sum of their places "),
+        (tally.places, "\n"),
+        (tally.unended, " Unended"),
+    ] {
+        write!(text, "{number}{what}")?;
+    }
     Ok(text)
 }
 
 /// The number of entries and the sum of their words.
-fn verdict(alloc: Global, bytes: &[u8]) -> Result<(usize, u64), CheckFault> {
-    let verdict = check(alloc, bytes)?;
+#[derive(Clone, Copy)]
+struct Sum {
+    entries: usize,
+    words: u64,
+}
+
+/// What a certificate that is accepted comes to.
+fn verdict(alloc: Global, bytes: &[u8]) -> Option<Sum> {
+    let verdict = check(alloc, bytes).ok()?;
     let mut words: u64 = 0;
     for entry in &verdict.entries {
         words = words.wrapping_add(entry.words);
     }
-    Ok((verdict.entries.len(), words))
+    Some(Sum {
+        entries: verdict.entries.len(),
+        words,
+    })
+}
+
+/// Whether a certificate is accepted and comes to this.
+fn has_verdict(alloc: Global, bytes: &[u8], wanted: Sum) -> bool {
+    match verdict(alloc, bytes) {
+        Some(sum) => sum.entries == wanted.entries && sum.words == wanted.words,
+        None => false,
+    }
 }
 
 /// How many of the certificates that differ from this one in a byte are accepted with as many entries and words.
 pub fn certificates(alloc: Global, input: &str) -> Result<String, Memory> {
     let mut bytes = expanded(alloc, input)?;
-    let Ok(wanted) = verdict(alloc, bytes.as_slice()) else {
-        return Ok(String::from_str(alloc, "refused")?);
+    let Some(wanted) = verdict(alloc, bytes.as_slice()) else {
+        return said(alloc, "refused");
     };
     let mut accepted: u64 = 0;
     for at in 0..bytes.len() {
         for byte in 0..=u8::MAX {
             let old = put(&mut bytes, at, byte);
-            if byte != old && verdict(alloc, bytes.as_slice()) == Ok(wanted) {
+            if byte != old && has_verdict(alloc, bytes.as_slice(), wanted) {
                 accepted = accepted.wrapping_add(1);
             }
             put(&mut bytes, at, old);
@@ -150,11 +180,7 @@ fn has_tokens(alloc: Global, text: &[u8]) -> bool {
             text: LIBHDR.as_bytes(),
         },
     ];
-    match lex(alloc, &sources, 0) {
-        Ok(_) => true,
-        Err(LexError::Memory) => false,
-        Err(_) => false,
-    }
+    lex(alloc, &sources, 0).is_ok()
 }
 
 /// How many of the texts have tokens that differ from BLIB in one byte from a place to another.
@@ -176,11 +202,11 @@ fn accepted_changes(alloc: Global, from: usize, to: usize) -> Result<u64, Memory
 /// Whether over 10,000 of the texts have tokens that differ from BLIB in one byte from a place to another.
 pub fn sources(alloc: Global, input: &str) -> Result<String, Memory> {
     let mut places = input.split_whitespace();
-    let from = short(places.next().unwrap_or(""));
-    let to = short(places.next().unwrap_or(""));
-    let accepted = accepted_changes(alloc, usize::from(from), usize::from(to))?;
+    let from = usize::from(short(next(&mut places)));
+    let to = usize::from(short(next(&mut places)));
+    let accepted = accepted_changes(alloc, from, to)?;
     if accepted > 10_000 {
-        Ok(String::from_str(alloc, "over 10000 have tokens")?)
+        said(alloc, "over 10000 have tokens")
     } else {
         Ok(format!(in alloc; "{accepted} have tokens")?)
     }

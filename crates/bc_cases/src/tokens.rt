@@ -1,3 +1,4 @@
+use crate::said::said;
 use crate::sources::sources_of;
 use crate::trees::{closed, read_back, resolved, spelled};
 use bc_lex::{LexError, Source, lex};
@@ -124,13 +125,13 @@ pub fn alike(alloc: Global, input: &str) -> Result<String, Memory> {
     let given = sources_of(alloc, input)?;
     let sources = given.all(alloc)?;
     let Ok(first) = tokens_of(alloc, sources.as_slice(), 0) else {
-        return Ok(String::from_str(alloc, "no tokens")?);
+        return said(alloc, "no tokens");
     };
     let Ok(second) = tokens_of(alloc, sources.as_slice(), 1) else {
-        return Ok(String::from_str(alloc, "no tokens")?);
+        return said(alloc, "no tokens");
     };
     let answer = compared(first.first(), second.first());
-    Ok(String::from_str(alloc, answer)?)
+    said(alloc, answer)
 }
 
 fn compared(first: Option<&Token<'_>>, second: Option<&Token<'_>>) -> &'static str {
@@ -147,26 +148,28 @@ fn compared(first: Option<&Token<'_>>, second: Option<&Token<'_>>) -> &'static s
 }
 
 fn rendered_back(alloc: Global, tokens: &[Token<'_>]) -> Result<String, Memory> {
-    let mut kinds = Vec::new(alloc);
-    for token in tokens {
-        kinds.push(token.kind)?;
-    }
+    let kinds = kinds_of(alloc, tokens)?;
     let text = render(alloc, kinds.as_slice())?;
     let source = Source {
         name: b"A",
         text: text.as_slice(),
     };
     match lex(alloc, &[source], 0) {
-        Ok(again) => {
-            if has_kinds(again.as_slice(), kinds.as_slice()) {
-                let text = ShownBytes(text.as_slice());
-                Ok(format!(in alloc; "{text}")?)
-            } else {
-                Ok(String::from_str(alloc, "other tokens")?)
-            }
+        Ok(again) if has_kinds(again.as_slice(), kinds.as_slice()) => {
+            let text = ShownBytes(text.as_slice());
+            Ok(format!(in alloc; "{text}")?)
         }
+        Ok(_) => said(alloc, "other tokens"),
         Err(error) => fault(alloc, error),
     }
+}
+
+fn kinds_of<'s>(alloc: Global, tokens: &[Token<'s>]) -> Result<Vec<TokenKind<'s>>, Memory> {
+    let mut kinds = Vec::new(alloc);
+    for token in tokens {
+        kinds.push(token.kind)?;
+    }
+    Ok(kinds)
 }
 
 fn has_kinds(tokens: &[Token<'_>], kinds: &[TokenKind<'_>]) -> bool {

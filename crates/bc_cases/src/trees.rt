@@ -1,6 +1,8 @@
+use crate::said::said;
+use bc_core::Core;
 use bc_lex::{Source, Token, lex};
 use bc_library::BLIB;
-use bc_parse::{ParseError, parse};
+use bc_parse::{ParseError, Section, parse};
 use bc_parse_close::close;
 use bc_parse_spell::{render, spell};
 use bc_scope::resolve;
@@ -10,27 +12,34 @@ use std::alloc::Global;
 
 /// The tokens' indexes once tags are closed and line breaks stand for semicolons.
 pub fn closed(alloc: Global, tokens: &[Token<'_>]) -> Result<String, Memory> {
-    let closed = match close(alloc, tokens) {
-        Ok(closed) => closed,
-        Err(fault) => return Ok(format!(in alloc; "{fault:?}")?),
-    };
+    match close(alloc, tokens) {
+        Ok(closed) => in_a_row(alloc, closed.places.as_slice()),
+        Err(fault) => Ok(format!(in alloc; "{fault:?}")?),
+    }
+}
+
+/// Numbers with blanks between them.
+fn in_a_row(alloc: Global, places: &[usize]) -> Result<String, Memory> {
     let mut text = String::new(alloc);
     let mut between = "";
-    for place in &closed.places {
+    for place in places {
         write!(text, "{between}{place}")?;
         between = " ";
     }
     Ok(text)
 }
 
-/// The canonical spelling of the section that the tokens are, or its first fault.
-fn canonical(alloc: Global, tokens: &[Token<'_>]) -> Result<Result<Vec<u8>, ParseError>, Memory> {
+/// The canonical spelling of a section.
+fn canonical(alloc: Global, section: &Section<'_>) -> Result<Vec<u8>, Memory> {
+    let kinds = spell(alloc, section)?;
+    render(alloc, kinds.as_slice())
+}
+
+/// The canonical spelling of the section that the tokens are, if they are one.
+fn respelled(alloc: Global, tokens: &[Token<'_>]) -> Result<Option<Vec<u8>>, Memory> {
     match parse(alloc, tokens) {
-        Ok(section) => {
-            let kinds = spell(alloc, &section)?;
-            Ok(Ok(render(alloc, kinds.as_slice())?))
-        }
-        Err(fault) => Ok(Err(fault)),
+        Ok(section) => Ok(Some(canonical(alloc, &section)?)),
+        Err(_) => Ok(None),
     }
 }
 
@@ -38,7 +47,7 @@ fn canonical(alloc: Global, tokens: &[Token<'_>]) -> Result<Result<Vec<u8>, Pars
 fn spelling_of(alloc: Global, text: &[u8]) -> Result<Option<Vec<u8>>, Memory> {
     let source = Source { name: b"A", text };
     match lex(alloc, &[source], 0) {
-        Ok(tokens) => Ok(canonical(alloc, tokens.as_slice())?.ok()),
+        Ok(tokens) => respelled(alloc, tokens.as_slice()),
         Err(_) => Ok(None),
     }
 }
@@ -57,45 +66,52 @@ fn parse_fault(alloc: Global, fault: ParseError) -> Result<String, Memory> {
 
 /// The canonical spelling, where it is read back from itself.
 pub fn spelled(alloc: Global, tokens: &[Token<'_>]) -> Result<String, Memory> {
-    match canonical(alloc, tokens)? {
-        Ok(text) => {
-            if is_read_back(alloc, text.as_slice())? {
-                let text = ShownBytes(text.as_slice());
-                Ok(format!(in alloc; "{text}")?)
-            } else {
-                Ok(String::from_str(alloc, "not read back")?)
-            }
-        }
+    match parse(alloc, tokens) {
+        Ok(section) => read_from_itself(alloc, canonical(alloc, &section)?.as_slice()),
         Err(fault) => parse_fault(alloc, fault),
+    }
+}
+
+/// A canonical spelling, where it is read back from itself.
+fn read_from_itself(alloc: Global, text: &[u8]) -> Result<String, Memory> {
+    if is_read_back(alloc, text)? {
+        let text = ShownBytes(text);
+        Ok(format!(in alloc; "{text}")?)
+    } else {
+        said(alloc, "not read back")
     }
 }
 
 /// Whether the section is read back from its canonical spelling, and whether that is longer than BLIB.
 pub fn read_back(alloc: Global, tokens: &[Token<'_>]) -> Result<String, Memory> {
-    match canonical(alloc, tokens)? {
-        Ok(text) => {
-            let is_longer = text.len() > BLIB.len();
-            let is_back = is_read_back(alloc, text.as_slice())?;
-            Ok(format!(in alloc; "read back: {is_back}, longer than BLIB: {is_longer}")?)
-        }
+    match parse(alloc, tokens) {
+        Ok(section) => told_back(alloc, canonical(alloc, &section)?.as_slice()),
         Err(fault) => parse_fault(alloc, fault),
     }
+}
+
+fn told_back(alloc: Global, text: &[u8]) -> Result<String, Memory> {
+    let is_longer = text.len() > BLIB.len();
+    let is_back = is_read_back(alloc, text)?;
+    Ok(format!(in alloc; "read back: {is_back}, longer than BLIB: {is_longer}")?)
+}
+
+fn shown(alloc: Global, core: &Core) -> Result<String, Memory> {
+    let section = ShownSection(core);
+    Ok(format!(in alloc; "{section}")?)
 }
 
 /// The section with its names resolved.
 pub fn resolved(alloc: Global, tokens: &[Token<'_>]) -> Result<String, Memory> {
     if tokens.len() > 60_000 {
-        return Ok(String::from_str(alloc, "too many tokens")?);
+        return said(alloc, "too many tokens");
     }
     let section = match parse(alloc, tokens) {
         Ok(section) => section,
         Err(fault) => return parse_fault(alloc, fault),
     };
     match resolve(alloc, &section) {
-        Ok(core) => {
-            let section = ShownSection(&core);
-            Ok(format!(in alloc; "{section}")?)
-        }
-        Err(_) => Ok(String::from_str(alloc, "refused")?),
+        Ok(core) => shown(alloc, &core),
+        Err(_) => said(alloc, "refused"),
     }
 }

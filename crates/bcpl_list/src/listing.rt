@@ -5,6 +5,7 @@ use bc_machine_image::Image;
 use bc_show::ShownItem;
 use bc_text_items::{Base, Function, Item, Segment};
 use bc_word::{Memory, Word};
+use bcpl_segments::library_name;
 use std::alloc::Global;
 
 /// What is said of the code that begins at an item.
@@ -75,6 +76,14 @@ fn word_at(image: &Image, address: usize) -> u16 {
     match image.words.as_slice().get(address) {
         Some(word) => word.get(),
         None => 0,
+    }
+}
+
+/// The library's name for a global, and the sign behind it; nothing where it has none.
+fn known_name(number: u16) -> (&'static str, &'static str) {
+    match library_name(number) {
+        Some(name) => (name, ", "),
+        None => ("", ""),
     }
 }
 
@@ -151,16 +160,22 @@ impl<'p> Listing<'p> {
         )?;
         let settings = self.settings()?;
         for setting in &settings {
-            let number = setting.number;
-            let label = setting.label;
-            let segment = setting.segment;
-            let name = self.name_of(segment);
-            let item = format!(in self.alloc; "G{number}L{label}")?;
-            let said = format!(in self.alloc; "of segment {segment}, {name}")?;
-            let cell = FIRST_CELL.saturating_add(usize::from(number));
-            self.add_word(cell, item.as_str(), said.as_str())?;
+            self.add_setting(*setting)?;
         }
         Ok(())
+    }
+
+    /// The cell of a global that is set, with the library's name for it, if it has one.
+    fn add_setting(&mut self, setting: Setting) -> Result<(), Memory> {
+        let number = setting.number;
+        let label = setting.label;
+        let segment = setting.segment;
+        let name = self.name_of(segment);
+        let (known, sign) = known_name(number);
+        let item = format!(in self.alloc; "G{number}L{label}")?;
+        let said = format!(in self.alloc; "{known}{sign}of segment {segment}, {name}")?;
+        let cell = FIRST_CELL.saturating_add(usize::from(number));
+        self.add_word(cell, item.as_str(), said.as_str())
     }
 
     /// What a segment is called.
@@ -260,17 +275,23 @@ impl<'p> Listing<'p> {
                 let way = if is_jump { "to" } else { "at" };
                 Ok(format!(in self.alloc; "{way} {address}")?)
             }
-            Base::G => {
-                let number = usize::from(number.get());
-                let cell = FIRST_CELL.saturating_add(number);
-                let begins = word_at(self.program.image, cell);
-                if number < GLOBALS && begins != 0 {
-                    return Ok(format!(in self.alloc; "global {number}, which begins as {begins}")?);
-                }
-                Ok(format!(in self.alloc; "global {number}")?)
-            }
+            Base::G => self.said_of_global(number.get()),
             Base::Number | Base::P => Ok(String::new(self.alloc)),
         }
+    }
+
+    /// A global, with the library's name for it, if it has one, and what it begins as, if it is set.
+    fn said_of_global(&self, number: u16) -> Result<String, Memory> {
+        let index = usize::from(number);
+        let begins = word_at(self.program.image, FIRST_CELL.saturating_add(index));
+        let mut said = format!(in self.alloc; "global {number}")?;
+        if let Some(name) = library_name(number) {
+            write!(said, ", {name}")?;
+        }
+        if index < GLOBALS && begins != 0 {
+            write!(said, ", which begins as {begins}")?;
+        }
+        Ok(said)
     }
 
     /// A word of data with the address of a label.
