@@ -186,13 +186,13 @@ fn built<F: Files>(
     }
 }
 
-/// The file of this path with these segments written to it, which still has to be finished; given up where that fails.
-fn written_segments<W: Write + Drop, F: Files<File = W>>(
+/// Writes the text of these segments to the file of this path, which has all of it or stays as it was.
+fn write_segments<F: Files>(
     rt: &F,
     alloc: Global,
     path: &str,
     segments: &[Segment],
-) -> Result<Written<W>, Failure> {
+) -> Result<(), Failure> {
     let mut written = Written::begin(rt, alloc, path)?;
     for segment in segments {
         if let Err(fault) = print(segment, written.out()) {
@@ -203,35 +203,19 @@ fn written_segments<W: Write + Drop, F: Files<File = W>>(
             });
         }
     }
-    handed_on(rt, alloc, path, written)
+    written.finish(rt, alloc, path)
 }
 
-/// The file of this path with all bytes handed on, so that only its name is missing; given up where that fails.
-fn handed_on<W: Write + Drop, F: Files<File = W>>(
-    rt: &F,
-    alloc: Global,
-    path: &str,
-    mut written: Written<W>,
-) -> Result<Written<W>, Failure> {
-    match written.hand_on(alloc, path) {
-        Ok(()) => Ok(written),
-        Err(failure) => {
-            written.abandon(rt);
-            Err(failure)
-        }
-    }
-}
-
-/// The file of this path with the certificate of a program written to it, which still has to be finished; given up where that fails.
-fn written_certificate<W: Write + Drop, F: Files<File = W>>(
+/// Writes the certificate of a program to the file of this path, which has all of it or stays as it was.
+fn write_certificate<F: Files>(
     rt: &F,
     alloc: Global,
     path: &str,
     built: &Built,
-) -> Result<Written<W>, Failure> {
+) -> Result<(), Failure> {
     let mut written = Written::begin(rt, alloc, path)?;
     match write_cert(alloc, built.entries.as_slice(), written.out()) {
-        Ok(()) => handed_on(rt, alloc, path, written),
+        Ok(()) => written.finish(rt, alloc, path),
         Err(fault) => {
             written.abandon(rt);
             Err(match fault {
@@ -282,36 +266,20 @@ pub fn spare<F: Files>(rt: &F, alloc: Global, path: &str, source: &str) -> Resul
     }
 }
 
-/// Writes the files that the words ask for: where the certificate can't be written, the text stays as it was, too.
+/// Writes the files that the words ask for: the text, which has its name from then on, and then the certificate.
 fn write_files<F: Files>(
     rt: &F,
     alloc: Global,
     order: &BuildOrder<'_>,
     built: &Built,
 ) -> Result<(), Failure> {
-    let text = written_segments(rt, alloc, order.out, built.segments.as_slice())?;
+    write_segments(rt, alloc, order.out, built.segments.as_slice())?;
     let Some(path) = order.certificate else {
-        return text.finish(rt, alloc, order.out);
+        return Ok(());
     };
-    let certificate = match written_certificate(rt, alloc, path, built) {
-        Ok(certificate) => certificate,
-        Err(failure) => {
-            text.abandon(rt);
-            return Err(failure);
-        }
-    };
-    let mut finished = text.finish(rt, alloc, order.out);
-    if finished.is_ok() {
-        // two names of a file that wasn't there before
-        finished = spare_text(rt, alloc, path, order.out);
-    }
-    match finished {
-        Ok(()) => certificate.finish(rt, alloc, path),
-        Err(failure) => {
-            certificate.abandon(rt);
-            Err(failure)
-        }
-    }
+    // these may be two names of a file that wasn't there before
+    spare_text(rt, alloc, path, order.out)?;
+    write_certificate(rt, alloc, path, built)
 }
 
 /// Tells of a program's size.

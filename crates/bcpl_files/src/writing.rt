@@ -106,18 +106,6 @@ impl<W: Write + Drop> Written<W> {
         &mut self.out
     }
 
-    /// Hands on what is still kept of its bytes, so that `finish` only has to give the file its name.
-    ///
-    /// # Errors
-    ///
-    /// A failure of the file of this path where it can't be written to.
-    pub fn hand_on(&mut self, alloc: Global, path: &str) -> Result<(), Failure> {
-        match self.out.flush() {
-            Ok(()) => Ok(()),
-            Err(error) => Err(Failure::io(alloc, &error, path)),
-        }
-    }
-
     /// Gives the file up: what was written beside it is removed.
     pub fn abandon<F: Files>(self, rt: &F) {
         if let Some(beside) = &self.beside {
