@@ -1,10 +1,12 @@
 //! The command `build`.
 
-ghost use Rattle.std.specs.Prelude.{◌<◌, All, IfOk};
+ghost use Rattle.std.specs.Prelude.{◌<◌, ◌≡◌, All, IfOk};
+ghost use Rattle.bcpl_faults.specs.declared.failure.Cause.TheVariants as causes;
 
 use crate::explaining::{Program, explained, warnings_of};
 use crate::ignored::ignored_gets;
-use bc_build::{Built, build};
+use crate::output::of_output;
+use bc_build::{BuildError, Built, build};
 use bc_cert::{CertFault, write_cert};
 use bc_lex::Source;
 use bc_library_ext::{EXTHDR, EXTLIB};
@@ -16,6 +18,7 @@ use bcpl_files::{Written, contents, is_one_file};
 use bcpl_messages::Named;
 use bcpl_words::{BuildOrder, Library, Sources};
 use std::alloc::Global;
+use std::io;
 use std::io::Write;
 use std::rt::Files;
 
@@ -145,6 +148,21 @@ pub fn paths_of<'a>(
     Ok(paths)
 }
 
+/// The failure of a build that was refused for this fault, with what is told of it and of the mains behind. `shows` says whether anything is.
+pub fn refused(alloc: Global, program: &Program<'_, '_>, fault: BuildError, shows: bool) -> Failure
+    ensures { result.cause ≡ causes.Build fault }
+{
+    let told = if shows {
+        explained(alloc, program, &fault).ok()
+    } else {
+        None
+    };
+    Failure {
+        cause: Cause::Build(fault),
+        told,
+    }
+}
+
 /// Builds the program of BLIB and the files, with what there is to warn of. `shows` says whether places and warnings are told.
 fn built<F: Files>(
     rt: &F,
@@ -174,15 +192,7 @@ fn built<F: Files>(
             }
             Ok((built, warnings))
         }
-        Err(fault) => {
-            let told = if shows {
-                explained(alloc, &program, &fault).ok()
-            } else {
-                None
-            };
-            let cause = Cause::Build(fault);
-            Err(Failure { cause, told })
-        }
+        Err(fault) => Err(refused(alloc, &program, fault, shows)),
     }
 }
 
@@ -196,11 +206,12 @@ fn write_segments<F: Files>(
     let mut written = Written::begin(rt, alloc, path)?;
     for segment in segments {
         if let Err(fault) = print(segment, written.out()) {
-            written.abandon(rt);
-            return Err(match fault {
-                TextError::Write => Failure::file(alloc, path),
+            let failure = match fault {
+                TextError::Write => written.failure(alloc, path),
                 fault => Failure::from(fault),
-            });
+            };
+            written.abandon(rt);
+            return Err(failure);
         }
     }
     written.finish(rt, alloc, path)
@@ -217,11 +228,12 @@ fn write_certificate<F: Files>(
     match write_cert(alloc, built.entries.as_slice(), written.out()) {
         Ok(()) => written.finish(rt, alloc, path),
         Err(fault) => {
-            written.abandon(rt);
-            Err(match fault {
-                CertFault::Write => Failure::file(alloc, path),
+            let failure = match fault {
+                CertFault::Write => written.failure(alloc, path),
                 CertFault::Memory => Failure::new(Cause::Certificate),
-            })
+            };
+            written.abandon(rt);
+            Err(failure)
         }
     }
 }
@@ -283,15 +295,12 @@ fn write_files<F: Files>(
 }
 
 /// Tells of a program's size.
-fn tell<O: Write + Drop>(alloc: Global, built: &Built, out: &mut O) -> Result<(), Failure> {
+fn tell<O: Write + Drop>(built: &Built, out: &mut O) -> io::Result<()> {
     let segments = built.segments.len();
     let entries = built.entries.len();
     let stack_base = built.image.stack_base.get();
-    if writeln!(out, "ok {segments} {entries} {stack_base}").is_ok() && out.flush().is_ok() {
-        Ok(())
-    } else {
-        Err(Failure::file(alloc, "SYSPRINT"))
-    }
+    writeln!(out, "ok {segments} {entries} {stack_base}")?;
+    out.flush()
 }
 
 /// Builds a program, writes its text and certificate, and tells of its size; gives what there is to warn of. `shows` says whether
@@ -306,6 +315,6 @@ pub fn compile<F: Files, O: Write + Drop>(
     spare_sources(rt, alloc, order)?;
     let (program, warnings) = built(rt, alloc, order, shows)?;
     write_files(rt, alloc, order, &program)?;
-    tell(alloc, &program, out)?;
+    of_output(alloc, tell(&program, out))?;
     Ok(warnings)
 }

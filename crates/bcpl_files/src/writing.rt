@@ -106,6 +106,15 @@ impl<W: Write + Drop> Written<W> {
         &mut self.out
     }
 
+    /// The failure of the file of this path, to which something could not be written: with the reason, where the system still gives one as
+    /// what is kept is handed on once more.
+    pub fn failure(&mut self, alloc: Global, path: &str) -> Failure {
+        match self.out.flush() {
+            Ok(()) => Failure::file(alloc, path),
+            Err(error) => Failure::io(alloc, &error, path),
+        }
+    }
+
     /// Gives the file up: what was written beside it is removed.
     pub fn abandon<F: Files>(self, rt: &F) {
         if let Some(beside) = &self.beside {
