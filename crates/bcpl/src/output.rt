@@ -10,14 +10,14 @@ use std::io;
 use std::io::{BufWriter, Write};
 
 /// What is told of a run that finished, where an output can't be written to its end.
-const UNFINISHED: &str =
+const NOT_TO_ITS_END: &str =
     "the run finished, and behind that an output could not be written to its end\n";
 
 /// The failure of such a run, with what is told of it.
 pub fn unfinished(alloc: Global, failure: Failure) -> Failure
     ensures { result.cause ≡ failure.cause }
 {
-    match String::from_str(alloc, UNFINISHED) {
+    match String::from_str(alloc, NOT_TO_ITS_END) {
         Ok(told) => failure.with(told),
         Err(_) => failure,
     }
