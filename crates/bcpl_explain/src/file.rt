@@ -1,12 +1,14 @@
 //! A file on the page: its lines with their code, its data, and its words by routine.
 
-use crate::html::Html;
+use crate::html::{Html, Part};
 use crate::items::{add_data, add_items};
+use crate::names::{GlobalName, Names, globals_of};
 use crate::placed::{Ground, Placed, Spot};
 use crate::root::add_root;
 use crate::runs::{Run, runs};
 use crate::totals::Totals;
 use bc_rules::code_of;
+use bc_rules_defs::Entry;
 use bc_text_items::Item;
 use bc_word::Memory;
 use bcpl_show::{
@@ -33,11 +35,9 @@ fn free_columns(text: &[u8]) -> u64 {
 /// Says so where other lines' code stands between what ends here, if anything does, and what begins there.
 fn add_gap(html: &mut Html, behind: Option<usize>, from: usize) -> Result<(), Memory> {
     match behind {
-        Some(behind) if behind != from => html.element(
-            "div",
-            "gap",
-            "behind the code of other lines:",
-        ),
+        Some(behind) if behind != from => {
+            html.mark("<div class=\"gap\">behind the code of other lines:</div>")
+        }
         _ => Ok(()),
     }
 }
@@ -50,6 +50,7 @@ pub struct File<'p, 's> {
     marks: Marks,
     /// The names of the places, by their labels from 1 on.
     names: Vec<&'s [u8]>,
+    globals: Vec<GlobalName<'s>>,
     /// The runs in the order of the code, and by their lines.
     runs: Vec<Run>,
     placed: Placed,
@@ -70,6 +71,7 @@ impl<'p, 's> File<'p, 's> {
             ground,
             marks,
             names,
+            globals: globals_of(alloc, program.section)?,
             runs,
             placed,
         })
@@ -102,8 +104,11 @@ impl<'p, 's> File<'p, 's> {
     fn add_plain(html: &mut Html, items: &[Item], what: &str) -> Result<(), Memory> {
         html.mark("<div class=\"own\">")?;
         add_items(html, items)?;
-        html.element("span", "", what)?;
-        html.mark("</div>\n")
+        html.all(&[
+            Part::Mark("<span>"),
+            Part::Tell(what),
+            Part::Mark("</span></div>\n"),
+        ])
     }
 
     /// Adds a root's items, and below them why it has these.
@@ -112,16 +117,35 @@ impl<'p, 's> File<'p, 's> {
         if !run.is_first {
             return File::add_plain(html, items, "the same, behind a VALOF");
         }
-        let Some(entry) = self.program.entries.get(index) else {
-            return Ok(());
-        };
-        let words = self.words_of(html.alloc(), index)?;
+        match self.program.entries.get(index) {
+            Some(entry) => {
+                let words = self.words_of(html.alloc(), index)?;
+                self.add_entry(html, entry, words, items)
+            }
+            None => Ok(()),
+        }
+    }
+
+    /// Adds the items of an entry's root, of so many words, and below them why it has these.
+    fn add_entry(
+        &self,
+        html: &mut Html,
+        entry: &Entry,
+        words: u64,
+        items: &[Item],
+    ) -> Result<(), Memory> {
         html.mark("<details class=\"root\"><summary>")?;
         add_items(html, items)?;
-        html.mark("<span class=\"words\">")?;
-        html.words(words)?;
-        html.mark("</span></summary>\n")?;
-        add_root(html, entry, words, self.names.as_slice())?;
+        html.all(&[
+            Part::Mark("<span class=\"words\">"),
+            Part::Words(words),
+            Part::Mark("</span></summary>\n"),
+        ])?;
+        let names = Names {
+            places: self.names.as_slice(),
+            globals: self.globals.as_slice(),
+        };
+        add_root(html, entry, words, names)?;
         html.mark("</details>\n")
     }
 
@@ -139,35 +163,44 @@ impl<'p, 's> File<'p, 's> {
 
     /// Begins a line of a source; its code follows.
     fn begin_line(&self, html: &mut Html, spot: Spot) -> Result<(), Memory> {
-        html.mark("<div class=\"line\"><pre class=\"source\"><span class=\"number\">")?;
-        if let Some(path) = self.ground.path_elsewhere(spot) {
-            html.tell(path)?;
-            html.mark(":")?;
-        }
-        html.number(spot.line as u64)?;
-        html.mark("</span><span style=\"--in:")?;
         let text = self.ground.line(spot);
-        html.number(free_columns(text))?;
-        html.mark("\">")?;
-        html.say(text)?;
-        html.mark("</span></pre><div class=\"code\">\n")
+        let (path, sign) = match self.ground.path_elsewhere(spot) {
+            Some(path) => (path, ":"),
+            None => ("", ""),
+        };
+        html.all(&[
+            Part::Mark("<div class=\"line\"><pre class=\"source\"><span class=\"number\">"),
+            Part::Tell(path),
+            Part::Mark(sign),
+            Part::Number(spot.line as u64),
+            Part::Mark("</span><span style=\"--in:"),
+            Part::Number(free_columns(text)),
+            Part::Mark("\">"),
+            Part::Say(text),
+            Part::Mark("</span></pre><div class=\"code\">\n"),
+        ])
     }
 
     /// Adds the lines of the file, each with its code.
     fn add_lines(&self, html: &mut Html) -> Result<(), Memory> {
         for (number, runs) in self.placed.at_lines.iter().enumerate() {
             if number > 0 {
-                self.begin_line(html, self.ground.spot_at(number))?;
-                let mut behind: Option<usize> = None;
-                for run in runs {
-                    add_gap(html, behind, run.from)?;
-                    self.add_run(html, *run)?;
-                    behind = Some(run.to);
-                }
-                html.mark("</div></div>\n")?;
+                self.add_line(html, number, runs.as_slice())?;
             }
         }
         Ok(())
+    }
+
+    /// Adds the line with this number, with its code.
+    fn add_line(&self, html: &mut Html, number: usize, runs: &[Run]) -> Result<(), Memory> {
+        self.begin_line(html, self.ground.spot_at(number))?;
+        let mut behind: Option<usize> = None;
+        for run in runs {
+            add_gap(html, behind, run.from)?;
+            self.add_run(html, *run)?;
+            behind = Some(run.to);
+        }
+        html.mark("</div></div>\n")
     }
 
     /// Adds the lines of other files that have code, in the order of the code.
@@ -198,11 +231,13 @@ impl<'p, 's> File<'p, 's> {
 
     /// Adds the file's report, with this number among the files. Memory is answered where a growth was refused.
     pub fn add(&self, html: &mut Html, number: usize) -> Result<(), Memory> {
-        html.mark("<h2 id=\"file")?;
-        html.number(number as u64)?;
-        html.mark("\">")?;
-        html.tell(self.program.files.path(self.program.main))?;
-        html.mark("</h2>\n")?;
+        html.all(&[
+            Part::Mark("<h2 id=\"file"),
+            Part::Number(number as u64),
+            Part::Mark("\">"),
+            Part::Tell(self.program.files.path(self.program.main)),
+            Part::Mark("</h2>\n"),
+        ])?;
         self.add_lines(html)?;
         self.add_others(html)?;
         self.add_own_data(html)
@@ -215,18 +250,25 @@ impl<'p, 's> File<'p, 's> {
                 if run.is_first {
                     totals.add_root(self.words_of(alloc, index)?);
                 }
+                return Ok(());
             }
-            Owner::Command(index) => {
-                if let Some(own) = self.marks.own.get(index) {
-                    if own.what == Purpose::Routine {
-                        totals.begin(self.ground.leaf(own.leaf))?;
-                    }
-                }
-                totals.add_own(words_of_items(alloc, self.items_of(run))?);
-            }
-            Owner::Section => totals.add_data(words_of_items(alloc, self.items_of(run))?),
+            Owner::Command(index) => self.begin_routine(index, totals)?,
+            Owner::Section => {}
+        }
+        let words = words_of_items(alloc, self.items_of(run))?;
+        match run.owner {
+            Owner::Section => totals.add_data(words),
+            _ => totals.add_own(words),
         }
         Ok(())
+    }
+
+    /// Begins the totals of a routine, where this of the commands' own begins one.
+    fn begin_routine(&self, index: usize, totals: &mut Totals<'s>) -> Result<(), Memory> {
+        match self.marks.own.get(index) {
+            Some(own) if own.what == Purpose::Routine => totals.begin(self.ground.leaf(own.leaf)),
+            _ => Ok(()),
+        }
     }
 
     /// The words of the file by routine, and how often each rule is used. Memory is answered where a growth was refused.

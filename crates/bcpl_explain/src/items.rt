@@ -1,6 +1,7 @@
 //! Items of INTCODE on the page.
 
-use crate::html::Html;
+use crate::html::{Html, Part};
+use crate::names::place_name;
 use bc_show::ShownItem;
 use bc_text_items::Item;
 use bc_word::Memory;
@@ -10,7 +11,7 @@ fn add_item(html: &mut Html, item: &Item) -> Result<(), Memory> {
     let shown = ShownItem(item);
     let text = format!(in html.alloc(); "{shown}")?;
     if let Item::Label(_) = item {
-        return html.element("b", "", text.as_str());
+        return html.element("b", text.as_str());
     }
     html.tell(text.as_str())
 }
@@ -41,15 +42,6 @@ fn label_begun(item: &Item) -> Option<u16> {
     }
 }
 
-/// The name of the place with this label; nothing where there is none.
-pub fn name_of<'s>(names: &[&'s [u8]], label: u16) -> &'s [u8] {
-    let index = usize::from(label).saturating_sub(1);
-    match names.get(index) {
-        Some(name) if label > 0 => name,
-        _ => b"",
-    }
-}
-
 /// What ends an item that another one follows: that begins a line of its own, or goes on.
 fn between(begins_line: bool) -> &'static str {
     if begins_line { "</code></div>\n" } else { " " }
@@ -57,9 +49,11 @@ fn between(begins_line: bool) -> &'static str {
 
 /// Begins a line of data, of the place with this name.
 fn begin_data(html: &mut Html, name: &[u8]) -> Result<(), Memory> {
-    html.mark("<div class=\"data\"><span class=\"name\">")?;
-    html.say(name)?;
-    html.mark("</span><code>")
+    html.all(&[
+        Part::Mark("<div class=\"data\"><span class=\"name\">"),
+        Part::Say(name),
+        Part::Mark("</span><code>"),
+    ])
 }
 
 /// Adds data, and globals that are set: a line for each place, with its name. `names` has those of the places, by their labels from 1 on.
@@ -72,7 +66,7 @@ pub fn add_data(html: &mut Html, items: &[Item], names: &[&[u8]]) -> Result<(), 
             html.mark(between(label.is_some()))?;
         }
         match label {
-            Some(label) => begin_data(html, name_of(names, label))?,
+            Some(label) => begin_data(html, place_name(names, label))?,
             None if is_first => begin_data(html, b"")?,
             None => {}
         }

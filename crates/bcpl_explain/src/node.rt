@@ -1,8 +1,8 @@
 //! A node of a root's tree on the page: its least words, all rules that apply with theirs, and the rules that the derivation has there.
 
 use crate::chosen::Chosen;
-use crate::html::Html;
-use crate::items::name_of;
+use crate::html::{Html, Part};
+use crate::names::{Names, global_name, place_name};
 use crate::parts::{ANY, At, PUSH};
 use crate::rules::{AIMS, add_name, add_told_name};
 use bc_candidates::{Beginning, Candidates};
@@ -17,25 +17,26 @@ pub struct Row<'e> {
     pub depth: u64,
 }
 
-/// What is known of a node: the rules that apply, those of the derivation, and the names of the places.
+/// What is known of a node: the rules that apply, those of the derivation, and the names of places and globals.
 #[derive(Clone, Copy)]
 pub struct Known<'k, 's> {
     pub candidates: &'k Candidates,
     pub chosen: Chosen,
-    pub names: &'k [&'s [u8]],
+    pub names: Names<'k, 's>,
 }
 
-/// Adds the name of a place.
-fn add_place(html: &mut Html, label: u16, names: &[&[u8]]) -> Result<(), Memory> {
-    html.mark(" <span class=\"name\">")?;
-    html.say(name_of(names, label))?;
-    html.mark("</span>")
+/// Adds the name of a place or a global.
+fn add_known_name(html: &mut Html, name: &[u8]) -> Result<(), Memory> {
+    html.all(&[
+        Part::Mark(" <span class=\"name\">"),
+        Part::Say(name),
+        Part::Mark("</span>"),
+    ])
 }
 
 /// Adds a letter and a number.
 fn add_address(html: &mut Html, letter: &str, number: u16) -> Result<(), Memory> {
-    html.mark(letter)?;
-    html.number(u64::from(number))
+    html.all(&[Part::Mark(letter), Part::Number(u64::from(number))])
 }
 
 /// Adds what stands at a node itself, without its parts.
@@ -55,14 +56,25 @@ fn add_sign(html: &mut Html, e: &CoreExp) -> Result<(), Memory> {
     }
 }
 
-/// Adds what stands at a node itself, with the name of a place.
-fn add_head(html: &mut Html, e: &CoreExp, names: &[&[u8]]) -> Result<(), Memory> {
+/// The name of a place or a global; nothing for another node.
+fn known_name<'s>(e: &CoreExp, names: Names<'_, 's>) -> &'s [u8] {
+    match e {
+        CoreExp::Place(label) => place_name(names.places, *label),
+        CoreExp::Glob(number) => global_name(names.globals, *number),
+        _ => b"",
+    }
+}
+
+/// Adds what stands at a node itself, with the name of a place or a global.
+fn add_head(html: &mut Html, e: &CoreExp, names: Names<'_, '_>) -> Result<(), Memory> {
     html.mark("<code>")?;
     add_sign(html, e)?;
     html.mark("</code>")?;
-    match e {
-        CoreExp::Place(label) => add_place(html, *label, names),
-        _ => Ok(()),
+    let name = known_name(e, names);
+    if name.is_empty() {
+        Ok(())
+    } else {
+        add_known_name(html, name)
     }
 }
 
@@ -104,22 +116,25 @@ fn add_beginning(
 ) -> Result<(), Memory> {
     html.mark(rule_tag(chosen == Some(beginning.rule)))?;
     add_name(html, beginning.rule)?;
-    html.mark("&nbsp;")?;
-    html.number(beginning.words)?;
-    html.mark("</span>")
+    html.all(&[
+        Part::Mark("&nbsp;"),
+        Part::Number(beginning.words),
+        Part::Mark("</span>"),
+    ])
+}
+
+/// Adds the least words; a dash where there is no code.
+fn add_least(html: &mut Html, words: Option<u64>) -> Result<(), Memory> {
+    match words {
+        Some(words) => html.all(&[Part::Mark("<b>"), Part::Number(words), Part::Mark("</b>")]),
+        None => html.mark("&ndash;"),
+    }
 }
 
 /// Adds the least words for an aim, and all rules that apply with theirs, the chosen one marked.
 fn add_cell(html: &mut Html, beginnings: &[Beginning], chosen: Option<Rule>) -> Result<(), Memory> {
     html.mark(cell_tag(chosen.is_some()))?;
-    match least(beginnings) {
-        Some(words) => {
-            html.mark("<b>")?;
-            html.number(words)?;
-            html.mark("</b>")?;
-        }
-        None => html.mark("&ndash;")?,
-    }
+    add_least(html, least(beginnings))?;
     for beginning in beginnings {
         add_beginning(html, beginning, chosen)?;
     }
@@ -146,13 +161,22 @@ fn add_chain(html: &mut Html, chosen: Chosen) -> Result<(), Memory> {
 
 /// Adds a node's row. Memory is answered where a growth was refused.
 pub fn add_row(html: &mut Html, row: Row<'_>, known: Known<'_, '_>) -> Result<(), Memory> {
-    html.mark("<tr><th style=\"--depth:")?;
-    html.number(row.depth.min(24))?;
-    html.mark("\">")?;
+    html.all(&[
+        Part::Mark("<tr><th style=\"--depth:"),
+        Part::Number(row.depth.min(24)),
+        Part::Mark("\">"),
+    ])?;
     add_head(html, row.at.e, known.names)?;
-    html.mark("</th><td>")?;
-    html.number(row.at.level)?;
-    html.mark("</td>")?;
+    html.all(&[
+        Part::Mark("</th><td>"),
+        Part::Number(row.at.level),
+        Part::Mark("</td>"),
+    ])?;
+    add_rules(html, known)
+}
+
+/// Adds what is known of a node's rules, up to the end of its row.
+fn add_rules(html: &mut Html, known: Known<'_, '_>) -> Result<(), Memory> {
     for aim in AIMS {
         add_cell(
             html,

@@ -1,5 +1,5 @@
 use crate::file::File;
-use crate::html::Html;
+use crate::html::{Html, Part};
 use crate::rules::add_table;
 use crate::style::STYLE;
 use bc_word::Memory;
@@ -43,7 +43,8 @@ const CODE: &str =
 /// How to read the trees.
 const TREES: &str =
     "<dt id=\"node\">Node</dt><dd>A part of the tree, below what it is a part of. A number stands for itself. P2 is the address of the cell at \
-    offset 2 of the frame, G14 that of global 14, L3 that of place 3, with its name: a routine, a static, a table or a string. ! is the content of \
+    offset 2 of the frame, G14 that of global 14, L3 that of place 3: a routine, a static, a table or a string. Beside globals and places stand \
+    their names. ! is the content of \
     the cell at an address, NEG the negative; the other signs are those of the source.</dd>\n\
     <dt id=\"level\">Level</dt><dd>The first offset of the frame above all that lives when the work on the node begins.</dd>\n\
     <dt id=\"least\">Least words, and those by each rule that applies</dt><dd>So many words the node takes at least in each of four uses: as a \
@@ -70,36 +71,44 @@ const NUMBERS: &str =
 
 /// Adds what is proved, and what was checked.
 fn add_claims(html: &mut Html, checked: Checked) -> Result<(), Memory> {
-    html.mark(THEOREM)?;
-    html.mark(
-        "<p>The certificate of this program, with the library's part, was checked for this page. It has ",
-    )?;
-    html.number(checked.entries)?;
-    html.mark(" expressions, tests and assignments, of ")?;
-    html.words(checked.words)?;
-    html.mark(" in all, and none of them has a derivation of fewer words.</p>\n")?;
-    html.mark(NUMBERS)
+    html.all(&[
+        Part::Mark(THEOREM),
+        Part::Mark(
+            "<p>The certificate of this program, with the library's part, was checked for this page. It has ",
+        ),
+        Part::Number(checked.entries),
+        Part::Mark(" expressions, tests and assignments, of "),
+        Part::Words(checked.words),
+        Part::Mark(" in all, and none of them has a derivation of fewer words.</p>\n"),
+        Part::Mark(NUMBERS),
+    ])
 }
 
 /// Adds the head of the page, whose title begins with a path.
 fn begin(html: &mut Html, path: &str) -> Result<(), Memory> {
-    html.mark("<!DOCTYPE html>\n<html lang=\"en\">\n<head>\n<meta charset=\"utf-8\">\n")?;
-    html.mark("<meta name=\"viewport\" content=\"width=device-width, initial-scale=1\">\n<title>")?;
-    html.tell(path)?;
-    html.mark(": why its code has no fewer words</title>\n<style>")?;
-    html.mark(STYLE)?;
-    html.mark("</style>\n</head>\n<body>\n<h1>Why this code has no fewer words</h1>\n")
+    html.all(&[
+        Part::Mark("<!DOCTYPE html>\n<html lang=\"en\">\n<head>\n<meta charset=\"utf-8\">\n"),
+        Part::Mark(
+            "<meta name=\"viewport\" content=\"width=device-width, initial-scale=1\">\n<title>",
+        ),
+        Part::Tell(path),
+        Part::Mark(": why its code has no fewer words</title>\n<style>"),
+        Part::Mark(STYLE),
+        Part::Mark("</style>\n</head>\n<body>\n<h1>Why this code has no fewer words</h1>\n"),
+    ])
 }
 
 /// Adds what leads to the parts of the page.
 fn add_ways(html: &mut Html, programs: &[Program<'_, '_>]) -> Result<(), Memory> {
     html.mark("<nav>")?;
     for (number, program) in programs.iter().enumerate() {
-        html.mark("<a href=\"#file")?;
-        html.number(number as u64)?;
-        html.mark("\">")?;
-        html.tell(program.files.path(program.main))?;
-        html.mark("</a> ")?;
+        html.all(&[
+            Part::Mark("<a href=\"#file"),
+            Part::Number(number as u64),
+            Part::Mark("\">"),
+            Part::Tell(program.files.path(program.main)),
+            Part::Mark("</a> "),
+        ])?;
     }
     html.mark("<a href=\"#rules\">The rules</a> <a href=\"#proved\">What is proved</a></nav>\n")
 }
@@ -121,23 +130,38 @@ pub fn explanation(
     checked: Checked,
 ) -> Result<Vec<u8>, Memory> {
     let mut html = Html::new(alloc);
-    begin(&mut html, path_of(programs))?;
-    add_ways(&mut html, programs)?;
-    html.mark(OPENING)?;
-    html.mark(CODE)?;
-    html.mark(TREES)?;
+    add_page(&mut html, programs, checked)?;
+    Ok(html.into_text())
+}
+
+/// Adds a file's report, with this number among the files; gives how often each rule is used.
+fn add_file(html: &mut Html, number: usize, program: Program<'_, '_>) -> Result<[u64; 34], Memory> {
+    let alloc = html.alloc();
+    let file = File::new(alloc, program)?;
+    file.add(html, number)?;
+    let totals = file.totals(alloc)?;
+    totals.add_routines(html)?;
+    Ok(totals.used)
+}
+
+/// Adds the reports of the files, and the rules.
+fn add_files(html: &mut Html, programs: &[Program<'_, '_>]) -> Result<(), Memory> {
     let mut used = [0u64; 34];
     for (number, program) in programs.iter().enumerate() {
-        let file = File::new(alloc, *program)?;
-        file.add(&mut html, number)?;
-        let totals = file.totals(alloc)?;
-        totals.add_routines(&mut html)?;
-        for (all, own) in used.iter_mut().zip(totals.used.iter()) {
+        let uses = add_file(html, number, *program)?;
+        for (all, own) in used.iter_mut().zip(uses.iter()) {
             *all = all.saturating_add(*own);
         }
     }
-    add_table(&mut html, &used)?;
-    add_claims(&mut html, checked)?;
-    html.mark("</body>\n</html>\n")?;
-    Ok(html.into_text())
+    add_table(html, &used)
+}
+
+/// Adds all of the page.
+fn add_page(html: &mut Html, programs: &[Program<'_, '_>], checked: Checked) -> Result<(), Memory> {
+    begin(html, path_of(programs))?;
+    add_ways(html, programs)?;
+    html.all(&[Part::Mark(OPENING), Part::Mark(CODE), Part::Mark(TREES)])?;
+    add_files(html, programs)?;
+    add_claims(html, checked)?;
+    html.mark("</body>\n</html>\n")
 }

@@ -1,7 +1,8 @@
 //! Why a root has the code that it has: its tree, with the rules of each node.
 
 use crate::chosen::{Chosen, chosen_rules, tops};
-use crate::html::Html;
+use crate::html::{Html, Part};
+use crate::names::Names;
 use crate::node::{Known, Row, add_row};
 use crate::parts::{At, parts};
 use crate::rules::{AIMS, add_name, aim_words};
@@ -10,12 +11,12 @@ use bc_core::Root;
 use bc_rules_defs::{Entry, Rule};
 use bc_word::Memory;
 
-/// What is known of the nodes of a root, in their order: the rules that apply, those of the derivation, and the names of the places.
+/// What is known of the nodes of a root, in their order: the rules that apply, those of the derivation, and the names of places and globals.
 #[derive(Clone, Copy)]
 struct Nodes<'k, 's> {
     candidates: &'k [Candidates],
     chosen: &'k [Chosen],
-    names: &'k [&'s [u8]],
+    names: Names<'k, 's>,
 }
 
 /// Puts trees on a stack, so that the first one is on top.
@@ -79,65 +80,92 @@ fn cell_words(offset: u64) -> u64 {
 fn add_assignment(html: &mut Html, rule: Rule, level: u64, words: u64) -> Result<(), Memory> {
     html.mark("<p><span class=\"chosen\">&#9670;&nbsp;")?;
     add_name(html, rule)?;
-    html.mark("&nbsp;")?;
-    html.number(words)?;
-    html.mark("</span> ")?;
+    html.all(&[
+        Part::Mark("&nbsp;"),
+        Part::Number(words),
+        Part::Mark("</span> "),
+    ])?;
     match rule {
-        Rule::A1 => html.mark(
-            "The address is an operand, so this rule alone applies: the value, and one instruction that stores it.",
-        )?,
-        Rule::A2 => {
-            let both = cell_words(level.saturating_add(1)).saturating_mul(2);
-            add_name(html, Rule::A3)?;
-            html.mark("&nbsp;")?;
-            html.number(words.saturating_add(both))?;
-            html.mark(
-                " Value and address may be worked out in either order, so that one of them waits in a cell. By A3, which applies too, both wait.",
-            )?;
-        }
-        _ => html.mark(
-            "The address is no operand, and the order of the work matters: so this rule alone applies, and both wait in cells.",
-        )?,
+        Rule::A2 => add_either(html, level, words)?,
+        _ => html.mark(why_alone(rule))?,
     }
     html.mark(" The trees are those of the value and of the address.</p>\n")
 }
 
-/// Adds the head of a tree's table, whose words lead to what is said of them.
+/// Why a rule of assignments alone applies.
+fn why_alone(rule: Rule) -> &'static str {
+    match rule {
+        Rule::A1 =>
+            "The address is an operand, so this rule alone applies: the value, and one instruction that stores it.",
+        _ =>
+            "The address is no operand, and the order of the work matters: so this rule alone applies, and both wait in cells.",
+    }
+}
+
+/// Adds why A2 was taken where A3 applies, too.
+fn add_either(html: &mut Html, level: u64, words: u64) -> Result<(), Memory> {
+    let both = cell_words(level.saturating_add(1)).saturating_mul(2);
+    add_name(html, Rule::A3)?;
+    html.all(&[
+        Part::Mark("&nbsp;"),
+        Part::Number(words.saturating_add(both)),
+        Part::Mark(
+            " Value and address may be worked out in either order, so that one of them waits in a cell. By A3, which applies too, both wait.",
+        ),
+    ])
+}
+
+/// The head of a tree's table, whose words lead to what is said of them.
+const HEAD: &str = "<div class=\"wide\"><table class=\"tree\">\n\
+    <thead><tr><th rowspan=\"2\"><a href=\"#node\">node</a></th>\
+    <th rowspan=\"2\"><a href=\"#level\">level</a></th>\
+    <th colspan=\"4\"><a href=\"#least\">least words, and those by each rule that applies</a></th>\
+    <th rowspan=\"2\"><a href=\"#chain\">rules of this code</a></th></tr>\n<tr>";
+
+/// Adds the head of a tree's table.
 fn add_heads(html: &mut Html) -> Result<(), Memory> {
-    html.mark("<thead><tr><th rowspan=\"2\"><a href=\"#node\">node</a></th>")?;
-    html.mark("<th rowspan=\"2\"><a href=\"#level\">level</a></th>")?;
-    html.mark(
-        "<th colspan=\"4\"><a href=\"#least\">least words, and those by each rule that applies</a></th>",
-    )?;
-    html.mark("<th rowspan=\"2\"><a href=\"#chain\">rules of this code</a></th></tr>\n<tr>")?;
+    html.mark(HEAD)?;
     for aim in AIMS {
-        html.element("th", "", aim_words(aim))?;
+        html.element("th", aim_words(aim))?;
     }
     html.mark("</tr></thead>\n<tbody>\n")
 }
 
+/// Adds what a root is, and of an assignment why it has its rule.
+fn add_kind(html: &mut Html, entry: &Entry, words: u64) -> Result<(), Memory> {
+    html.all(&[
+        Part::Mark("<p>"),
+        Part::Tell(kind_of(&entry.root)),
+        Part::Mark(", in "),
+        Part::Words(words),
+        Part::Mark(". No derivation has fewer.</p>\n"),
+    ])?;
+    match &entry.root {
+        Root::Assign { level, .. } => {
+            add_assignment(html, entry.derivation.rule, u64::from(*level), words)
+        }
+        _ => Ok(()),
+    }
+}
+
 /// Adds why a root has the code that it has, in so many words: its tree, a node a row, with the least words of each for the four aims, the
-/// rules that its derivation has there, and all that apply. `names` has those of the places, by their labels from 1 on. Memory is answered
-/// where a growth was refused.
-pub fn add_root(html: &mut Html, entry: &Entry, words: u64, names: &[&[u8]]) -> Result<(), Memory> {
+/// rules that its derivation has there, and all that apply. Memory is answered where a growth was refused.
+pub fn add_root(
+    html: &mut Html,
+    entry: &Entry,
+    words: u64,
+    names: Names<'_, '_>,
+) -> Result<(), Memory> {
     let alloc = html.alloc();
     let of_nodes = candidates(alloc, &entry.root)?;
     let chosen = chosen_rules(alloc, &entry.root, &entry.derivation)?;
-    html.mark("<p>")?;
-    html.tell(kind_of(&entry.root))?;
-    html.mark(", in ")?;
-    html.words(words)?;
-    html.mark(". No derivation has fewer.</p>\n")?;
-    if let Root::Assign { level, .. } = &entry.root {
-        add_assignment(html, entry.derivation.rule, u64::from(*level), words)?;
-    }
-    html.mark("<div class=\"wide\"><table class=\"tree\">\n")?;
-    add_heads(html)?;
+    add_kind(html, entry, words)?;
     let nodes = Nodes {
         candidates: of_nodes.as_slice(),
         chosen: chosen.as_slice(),
         names,
     };
+    add_heads(html)?;
     add_rows(html, &entry.root, nodes)?;
     html.mark("</tbody></table></div>\n")
 }

@@ -1,6 +1,6 @@
 //! The rule table in words.
 
-use crate::html::Html;
+use crate::html::{Html, Part};
 use bc_rules_defs::{Aim, Mode, Rule};
 use bc_word::Memory;
 
@@ -172,27 +172,63 @@ pub fn add_name(html: &mut Html, rule: Rule) -> Result<(), Memory> {
 
 /// Adds a rule's name as `add_name` does, with where it applies and its code, which a browser tells of it.
 pub fn add_told_name(html: &mut Html, rule: Rule) -> Result<(), Memory> {
-    let begin = format!(in html.alloc(); "<a href=\"#{rule:?}\" title=\"")?;
-    html.mark(begin.as_str())?;
-    html.tell(place_of(rule))?;
-    html.mark(": ")?;
-    html.tell(code_of(rule))?;
-    let end = format!(in html.alloc(); "\">{rule:?}</a>")?;
-    html.mark(end.as_str())
+    let name = format!(in html.alloc(); "{rule:?}")?;
+    add_told(html, name.as_str(), place_of(rule), code_of(rule))
+}
+
+/// Adds a name that leads to its line of the table, and of which a browser tells a place and a code.
+fn add_told<'t>(
+    html: &mut Html,
+    name: &'t str,
+    place: &'t str,
+    code: &'t str,
+) -> Result<(), Memory> {
+    html.all(&[
+        Part::Mark("<a href=\"#"),
+        Part::Mark(name),
+        Part::Mark("\" title=\""),
+        Part::Tell(place),
+        Part::Mark(": "),
+        Part::Tell(code),
+        Part::Mark("\">"),
+        Part::Mark(name),
+        Part::Mark("</a>"),
+    ])
 }
 
 /// Adds a rule's line, with how often it is used.
 fn add_line(html: &mut Html, rule: Rule, count: u64) -> Result<(), Memory> {
     let head = format!(in html.alloc(); "<tr id=\"{rule:?}\"><th>{rule:?}</th>")?;
-    html.mark(head.as_str())?;
-    html.element("td", "", aims_of(rule))?;
-    html.element("td", "", place_of(rule))?;
-    html.mark("<td>")?;
-    html.element("code", "", code_of(rule))?;
-    html.mark("</td><td>")?;
-    html.number(count)?;
-    html.mark("</td></tr>\n")
+    let head = head.as_str();
+    add_cells(html, head, aims_of(rule), place_of(rule), code_of(rule))?;
+    html.all(&[Part::Number(count), Part::Mark("</td></tr>\n")])
 }
+
+/// Adds the cells of a rule's line behind its head: what it is for, where it applies, its code, and the beginning of the last one.
+fn add_cells<'t>(
+    html: &mut Html,
+    head: &'t str,
+    aims: &'t str,
+    place: &'t str,
+    code: &'t str,
+) -> Result<(), Memory> {
+    html.all(&[
+        Part::Mark(head),
+        Part::Mark("<td>"),
+        Part::Tell(aims),
+        Part::Mark("</td><td>"),
+        Part::Tell(place),
+        Part::Mark("</td><td><code>"),
+        Part::Tell(code),
+        Part::Mark("</code></td><td>"),
+    ])
+}
+
+/// The head of the rule table.
+const HEAD: &str = "<h2 id=\"rules\">The rules</h2>\n\
+    <p>Each expression, test and assignment has code by these rules and no others.</p>\n\
+    <div class=\"wide\"><table class=\"rules\">\n<thead><tr><th>rule</th><th>for</th><th>where</th>\
+    <th>code</th><th>used here</th></tr></thead>\n<tbody>\n";
 
 /// What the words of the table mean.
 const MEANINGS: &str =
@@ -205,14 +241,7 @@ const MEANINGS: &str =
 
 /// Adds the rule table, with how often each rule is used. Memory is answered where a growth was refused.
 pub fn add_table(html: &mut Html, used: &[u64; 34]) -> Result<(), Memory> {
-    html.mark("<h2 id=\"rules\">The rules</h2>\n")?;
-    html.mark(
-        "<p>Each expression, test and assignment has code by these rules and no others.</p>\n",
-    )?;
-    html.mark(
-        "<div class=\"wide\"><table class=\"rules\">\n<thead><tr><th>rule</th><th>for</th><th>where</th>",
-    )?;
-    html.mark("<th>code</th><th>used here</th></tr></thead>\n<tbody>\n")?;
+    html.mark(HEAD)?;
     for (rule, count) in RULES.iter().zip(used.iter()) {
         add_line(html, *rule, *count)?;
     }

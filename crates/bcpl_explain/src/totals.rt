@@ -1,10 +1,14 @@
 //! What the roots of a file come to, by routine and by rule.
 
-use crate::html::Html;
+use crate::html::{Html, Part};
 use crate::rules::RULES;
 use bc_rules_defs::{Derivation, Rule};
 use bc_word::Memory;
 use std::alloc::Global;
+
+/// The head of the words by routine.
+const HEAD: &str = "<h3>Words by routine</h3>\n<div class=\"wide\"><table class=\"totals\">\n\
+    <tr><th>routine</th><th>expressions, tests, assignments</th><th>commands</th><th>all</th></tr>\n";
 
 /// The words of a routine: those of its roots, and those of its commands' own.
 #[derive(Clone, Copy)]
@@ -80,35 +84,38 @@ impl<'s> Totals<'s> {
 
     /// Adds a line of the table: what it is about, and the words of roots, of commands, and all.
     fn add_line(html: &mut Html, name: &[u8], roots: u64, commands: u64) -> Result<(), Memory> {
-        html.mark("<tr><th>")?;
-        html.say(name)?;
-        html.mark("</th>")?;
-        for number in [roots, commands, roots.saturating_add(commands)] {
-            html.mark("<td>")?;
-            html.number(number)?;
-            html.mark("</td>")?;
-        }
-        html.mark("</tr>\n")
+        html.all(&[
+            Part::Mark("<tr><th>"),
+            Part::Say(name),
+            Part::Mark("</th><td>"),
+            Part::Number(roots),
+            Part::Mark("</td><td>"),
+            Part::Number(commands),
+            Part::Mark("</td><td>"),
+            Part::Number(roots.saturating_add(commands)),
+            Part::Mark("</td></tr>\n"),
+        ])
     }
 
     /// Adds the lines of what has no words of roots: the data, and the whole segment.
     fn add_sums(&self, html: &mut Html, roots: u64, commands: u64) -> Result<(), Memory> {
-        html.mark("<tr><th>data</th><td></td><td></td><td>")?;
-        html.number(self.data)?;
-        html.mark("</td></tr>\n<tr class=\"sum\"><th>the segment</th><td>")?;
-        html.number(roots)?;
-        html.mark("</td><td>")?;
-        html.number(commands)?;
-        html.mark("</td><td>")?;
-        html.number(roots.saturating_add(commands).saturating_add(self.data))?;
-        html.mark("</td></tr>\n")
+        let all = roots.saturating_add(commands).saturating_add(self.data);
+        html.all(&[
+            Part::Mark("<tr><th>data</th><td></td><td></td><td>"),
+            Part::Number(self.data),
+            Part::Mark("</td></tr>\n<tr class=\"sum\"><th>the segment</th><td>"),
+            Part::Number(roots),
+            Part::Mark("</td><td>"),
+            Part::Number(commands),
+            Part::Mark("</td><td>"),
+            Part::Number(all),
+            Part::Mark("</td></tr>\n"),
+        ])
     }
 
     /// Adds the words by routine. Memory is answered where a growth was refused.
     pub fn add_routines(&self, html: &mut Html) -> Result<(), Memory> {
-        html.mark("<h3>Words by routine</h3>\n<div class=\"wide\"><table class=\"totals\">\n")?;
-        html.mark("<tr><th>routine</th><th>expressions, tests, assignments</th>")?;
-        html.mark("<th>commands</th><th>all</th></tr>\n")?;
+        html.mark(HEAD)?;
         let mut roots: u64 = 0;
         let mut commands: u64 = 0;
         for routine in &self.routines {

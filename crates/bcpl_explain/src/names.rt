@@ -1,0 +1,63 @@
+//! The names of places and globals.
+
+use bc_parse_tree::{Constant, Declaration, Exp, Section, Storage};
+use bc_word::Memory;
+use std::alloc::Global;
+
+/// A global with its name.
+#[derive(Clone, Copy)]
+pub struct GlobalName<'s> {
+    number: u16,
+    name: &'s [u8],
+}
+
+/// The names of the places, by their labels from 1 on, and those of the globals.
+#[derive(Clone, Copy)]
+pub struct Names<'k, 's> {
+    pub places: &'k [&'s [u8]],
+    pub globals: &'k [GlobalName<'s>],
+}
+
+/// The name of the place with this label; nothing where there is none.
+pub fn place_name<'s>(places: &[&'s [u8]], label: u16) -> &'s [u8] {
+    let index = usize::from(label).saturating_sub(1);
+    match places.get(index) {
+        Some(name) if label > 0 => name,
+        _ => b"",
+    }
+}
+
+/// The name of the global with this number; nothing where it has none.
+pub fn global_name<'s>(globals: &[GlobalName<'s>], number: u16) -> &'s [u8] {
+    for global in globals {
+        if global.number == number {
+            return global.name;
+        }
+    }
+    b""
+}
+
+/// The globals of a list, where their numbers are written as such.
+fn add_globals<'s>(globals: &mut Vec<GlobalName<'s>>, list: &[Constant<'s>]) -> Result<(), Memory> {
+    for constant in list {
+        if let Exp::Number(number) = &constant.value {
+            globals.push(GlobalName {
+                number: number.get(),
+                name: constant.name,
+            })?;
+        }
+    }
+    Ok(())
+}
+
+/// The globals that a section declares outside of its routines, where their numbers are written as such. Memory is answered where a growth
+/// was refused.
+pub fn globals_of<'s>(alloc: Global, section: &Section<'s>) -> Result<Vec<GlobalName<'s>>, Memory> {
+    let mut globals = Vec::new(alloc);
+    for declaration in &section.declarations {
+        if let Declaration::Constants(Storage::Global, list) = declaration {
+            add_globals(&mut globals, list)?;
+        }
+    }
+    Ok(globals)
+}
