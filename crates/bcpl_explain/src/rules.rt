@@ -199,18 +199,19 @@ fn add_told<'t>(
 /// Adds a rule's line, with how often it is used.
 fn add_line(html: &mut Html, rule: Rule, count: u64) -> Result<(), Memory> {
     let head = format!(in html.alloc(); "<tr id=\"{rule:?}\"><th>{rule:?}</th>")?;
-    let cells = [aims_of(rule), place_of(rule), code_of(rule)];
-    add_cells(html, head.as_str(), cells, count)
+    let head = head.as_str();
+    add_cells(html, head, aims_of(rule), place_of(rule), code_of(rule))?;
+    html.all(&[Part::Number(count), Part::Mark("</td></tr>\n")])
 }
 
-/// Adds the cells of a rule's line behind its head: what it is for, where it applies, its code, and how often it is used.
+/// Adds the cells of a rule's line behind its head: what it is for, where it applies, its code, and the beginning of the last one.
 fn add_cells<'t>(
     html: &mut Html,
     head: &'t str,
-    cells: [&'t str; 3],
-    count: u64,
+    aims: &'t str,
+    place: &'t str,
+    code: &'t str,
 ) -> Result<(), Memory> {
-    let [aims, place, code] = cells;
     html.all(&[
         Part::Mark(head),
         Part::Mark("<td>"),
@@ -220,8 +221,6 @@ fn add_cells<'t>(
         Part::Mark("</td><td><code>"),
         Part::Tell(code),
         Part::Mark("</code></td><td>"),
-        Part::Number(count),
-        Part::Mark("</td></tr>\n"),
     ])
 }
 
