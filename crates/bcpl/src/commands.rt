@@ -12,7 +12,7 @@ use crate::hinting::{Taken, line_on_words, with_hints};
 use crate::interpreting::{Standards, interpret_files};
 use crate::listing::list;
 use crate::loading::{LinkedProgram, all_contents, explained, linked, standard_text, texts_of};
-use crate::output::print_words;
+use crate::output::{of_output, print_words, unfinished};
 use crate::reporting::explain;
 use crate::showing::show;
 use crate::sparing::spare_files;
@@ -144,6 +144,24 @@ fn told_of_stop(alloc: Global, manner: &Manner<'_, '_>, stop: &Stop, failure: Fa
     explained(failure, lines)
 }
 
+/// The failure of a run that came to this end, with what is told of it.
+fn told_of_end(
+    alloc: Global,
+    manner: &Manner<'_, '_>,
+    machine: &Machine,
+    end: End,
+    failure: Failure,
+) -> Failure {
+    if !manner.shows {
+        return failure;
+    }
+    if end == End::Finished {
+        return unfinished(alloc, failure);
+    }
+    let stop = stop_of(machine, end, manner.steps);
+    told_of_stop(alloc, manner, &stop, failure)
+}
+
 /// Runs a program over these streams, which it closes.
 fn run_linked<R: Read, W: Write>(
     alloc: Global,
@@ -152,15 +170,10 @@ fn run_linked<R: Read, W: Write>(
 ) -> Result<(), Failure> {
     let mut machine = Machine::new(alloc, &manner.program.image)?;
     let end = machine.run(streams, manner.steps);
-    let is_finished = end == End::Finished;
-    let Err(failure) = closed(streams, end) else {
-        return Ok(())
-    };
-    if !manner.shows || is_finished {
-        return Err(failure);
+    match closed(streams, end) {
+        Ok(()) => Ok(()),
+        Err(failure) => Err(told_of_end(alloc, manner, &machine, end, failure)),
     }
-    let stop = stop_of(&machine, end, manner.steps);
-    Err(told_of_stop(alloc, manner, &stop, failure))
 }
 
 /// Runs a program as `run_linked`, and notes what it does.
@@ -186,21 +199,16 @@ fn watch_linked<F: Files, R: Read, W: Write>(
             &mut nowhere,
         ),
     };
-    let is_finished = end == End::Finished;
     let closed = closed(streams, end);
     let text = match order.profile {
         Some(_) => profile(alloc, &watch, &machine, image)?,
         None => String::new(alloc),
     };
     let noted = notes.finish(rt, alloc, order, watch.is_whole(), text.as_str());
-    let Err(failure) = closed else {
-        return noted;
-    };
-    if !manner.shows || is_finished {
-        return Err(failure);
+    match closed {
+        Ok(()) => noted,
+        Err(failure) => Err(told_of_end(alloc, manner, &machine, end, failure)),
     }
-    let stop = stop_of(&machine, end, manner.steps);
-    Err(told_of_stop(alloc, manner, &stop, failure))
 }
 
 /// What a run reads from and writes to at first, whether that is a terminal, and whether places are told.
@@ -325,10 +333,7 @@ fn assemble<F: Files, O: Write + Drop>(
     let contents = all_contents(rt, alloc, order.texts.as_slice())?;
     let texts = texts_of(alloc, order.texts.as_slice(), contents.as_slice())?;
     let program = linked(alloc, texts.as_slice(), shows)?;
-    match print_words(alloc, &program.image, out) {
-        Ok(()) => Ok(()),
-        Err(error) => Err(Failure::io(alloc, &error, "SYSPRINT")),
-    }
+    of_output(alloc, print_words(alloc, &program.image, out))
 }
 
 /// Tells a failure: its line, and where places are told the further ones.

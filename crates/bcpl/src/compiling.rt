@@ -1,10 +1,12 @@
 //! The command `build`.
 
-ghost use Rattle.std.specs.Prelude.{◌<◌, All, IfOk};
+ghost use Rattle.std.specs.Prelude.{◌<◌, ◌≡◌, All, IfOk};
+ghost use Rattle.bcpl_faults.specs.declared.failure.Cause.TheVariants as causes;
 
 use crate::explaining::{Program, explained, warnings_of};
 use crate::ignored::ignored_gets;
-use bc_build::{Built, build};
+use crate::output::of_output;
+use bc_build::{BuildError, Built, build};
 use bc_cert::{CertFault, write_cert};
 use bc_lex::Source;
 use bc_library_ext::{EXTHDR, EXTLIB};
@@ -16,6 +18,7 @@ use bcpl_files::{Written, contents, is_one_file};
 use bcpl_messages::Named;
 use bcpl_words::{BuildOrder, Library, Sources};
 use std::alloc::Global;
+use std::io;
 use std::io::Write;
 use std::rt::Files;
 
@@ -145,6 +148,21 @@ pub fn paths_of<'a>(
     Ok(paths)
 }
 
+/// The failure of a build that was refused for this fault, with what is told of it and of the mains behind. `shows` says whether anything is.
+pub fn refused(alloc: Global, program: &Program<'_, '_>, fault: BuildError, shows: bool) -> Failure
+    ensures { result.cause ≡ causes.Build fault }
+{
+    let told = if shows {
+        explained(alloc, program, &fault).ok()
+    } else {
+        None
+    };
+    Failure {
+        cause: Cause::Build(fault),
+        told,
+    }
+}
+
 /// Builds the program of BLIB and the files, with what there is to warn of. `shows` says whether places and warnings are told.
 fn built<F: Files>(
     rt: &F,
@@ -174,70 +192,48 @@ fn built<F: Files>(
             }
             Ok((built, warnings))
         }
-        Err(fault) => {
-            let told = if shows {
-                explained(alloc, &program, &fault).ok()
-            } else {
-                None
-            };
-            let cause = Cause::Build(fault);
-            Err(Failure { cause, told })
-        }
+        Err(fault) => Err(refused(alloc, &program, fault, shows)),
     }
 }
 
-/// The file of this path with these segments written to it, which still has to be finished; given up where that fails.
-fn written_segments<W: Write + Drop, F: Files<File = W>>(
+/// Writes the text of these segments to the file of this path, which has all of it or stays as it was.
+fn write_segments<F: Files>(
     rt: &F,
     alloc: Global,
     path: &str,
     segments: &[Segment],
-) -> Result<Written<W>, Failure> {
+) -> Result<(), Failure> {
     let mut written = Written::begin(rt, alloc, path)?;
     for segment in segments {
         if let Err(fault) = print(segment, written.out()) {
-            written.abandon(rt);
-            return Err(match fault {
-                TextError::Write => Failure::file(alloc, path),
+            let failure = match fault {
+                TextError::Write => written.failure(alloc, path),
                 fault => Failure::from(fault),
-            });
-        }
-    }
-    handed_on(rt, alloc, path, written)
-}
-
-/// The file of this path with all bytes handed on, so that only its name is missing; given up where that fails.
-fn handed_on<W: Write + Drop, F: Files<File = W>>(
-    rt: &F,
-    alloc: Global,
-    path: &str,
-    mut written: Written<W>,
-) -> Result<Written<W>, Failure> {
-    match written.hand_on(alloc, path) {
-        Ok(()) => Ok(written),
-        Err(failure) => {
+            };
             written.abandon(rt);
-            Err(failure)
+            return Err(failure);
         }
     }
+    written.finish(rt, alloc, path)
 }
 
-/// The file of this path with the certificate of a program written to it, which still has to be finished; given up where that fails.
-fn written_certificate<W: Write + Drop, F: Files<File = W>>(
+/// Writes the certificate of a program to the file of this path, which has all of it or stays as it was.
+fn write_certificate<F: Files>(
     rt: &F,
     alloc: Global,
     path: &str,
     built: &Built,
-) -> Result<Written<W>, Failure> {
+) -> Result<(), Failure> {
     let mut written = Written::begin(rt, alloc, path)?;
     match write_cert(alloc, built.entries.as_slice(), written.out()) {
-        Ok(()) => handed_on(rt, alloc, path, written),
+        Ok(()) => written.finish(rt, alloc, path),
         Err(fault) => {
-            written.abandon(rt);
-            Err(match fault {
-                CertFault::Write => Failure::file(alloc, path),
+            let failure = match fault {
+                CertFault::Write => written.failure(alloc, path),
                 CertFault::Memory => Failure::new(Cause::Certificate),
-            })
+            };
+            written.abandon(rt);
+            Err(failure)
         }
     }
 }
@@ -282,48 +278,29 @@ pub fn spare<F: Files>(rt: &F, alloc: Global, path: &str, source: &str) -> Resul
     }
 }
 
-/// Writes the files that the words ask for: where the certificate can't be written, the text stays as it was, too.
+/// Writes the files that the words ask for: the text, which has its name from then on, and then the certificate.
 fn write_files<F: Files>(
     rt: &F,
     alloc: Global,
     order: &BuildOrder<'_>,
     built: &Built,
 ) -> Result<(), Failure> {
-    let text = written_segments(rt, alloc, order.out, built.segments.as_slice())?;
+    write_segments(rt, alloc, order.out, built.segments.as_slice())?;
     let Some(path) = order.certificate else {
-        return text.finish(rt, alloc, order.out);
+        return Ok(());
     };
-    let certificate = match written_certificate(rt, alloc, path, built) {
-        Ok(certificate) => certificate,
-        Err(failure) => {
-            text.abandon(rt);
-            return Err(failure);
-        }
-    };
-    let mut finished = text.finish(rt, alloc, order.out);
-    if finished.is_ok() {
-        // two names of a file that wasn't there before
-        finished = spare_text(rt, alloc, path, order.out);
-    }
-    match finished {
-        Ok(()) => certificate.finish(rt, alloc, path),
-        Err(failure) => {
-            certificate.abandon(rt);
-            Err(failure)
-        }
-    }
+    // these may be two names of a file that wasn't there before
+    spare_text(rt, alloc, path, order.out)?;
+    write_certificate(rt, alloc, path, built)
 }
 
 /// Tells of a program's size.
-fn tell<O: Write + Drop>(alloc: Global, built: &Built, out: &mut O) -> Result<(), Failure> {
+fn tell<O: Write + Drop>(built: &Built, out: &mut O) -> io::Result<()> {
     let segments = built.segments.len();
     let entries = built.entries.len();
     let stack_base = built.image.stack_base.get();
-    if writeln!(out, "ok {segments} {entries} {stack_base}").is_ok() && out.flush().is_ok() {
-        Ok(())
-    } else {
-        Err(Failure::file(alloc, "SYSPRINT"))
-    }
+    writeln!(out, "ok {segments} {entries} {stack_base}")?;
+    out.flush()
 }
 
 /// Builds a program, writes its text and certificate, and tells of its size; gives what there is to warn of. `shows` says whether
@@ -338,6 +315,6 @@ pub fn compile<F: Files, O: Write + Drop>(
     spare_sources(rt, alloc, order)?;
     let (program, warnings) = built(rt, alloc, order, shows)?;
     write_files(rt, alloc, order, &program)?;
-    tell(alloc, &program, out)?;
+    of_output(alloc, tell(&program, out))?;
     Ok(warnings)
 }

@@ -61,20 +61,44 @@ fn is_of_two_setters(cause: &Cause) -> bool {
     )
 }
 
-/// What is told of a refusal of these files: what was told, and a line on each that looks like something else than is wanted.
-fn lines_on_files<F: Files>(
-    rt: &F,
-    alloc: Global,
-    told: &str,
-    taken: Taken<'_>,
-) -> Result<String, Memory> {
-    let mut lines = String::from_str(alloc, told)?;
+/// The lines on those of these files that look like something else than is wanted.
+fn looks_of<F: Files>(rt: &F, alloc: Global, taken: Taken<'_>) -> Result<String, Memory> {
+    let mut lines = String::new(alloc);
     for path in taken.paths {
         if let Some(said) = hint_of(rt, alloc, taken.wanted, path) {
             let said = said.as_str();
             writeln!(lines, "  help: {said}")?;
         }
     }
+    Ok(lines)
+}
+
+/// What was told, without the help at its end, which supposes that the file is of the kind that is wanted.
+fn without_help(told: &str) -> &str {
+    let whole = told.trim_end_matches('\n');
+    match whole.rsplit_once('\n') {
+        Some((front, last)) if last.starts_with("  help: ") => front,
+        _ => whole,
+    }
+}
+
+/// What is told of a refusal of these files: what was told, or where some look like something else than is wanted, that in the place of the
+/// help.
+fn lines_on_files<F: Files>(
+    rt: &F,
+    alloc: Global,
+    told: &str,
+    taken: Taken<'_>,
+) -> Result<String, Memory> {
+    let looks = looks_of(rt, alloc, taken)?;
+    if looks.is_empty() {
+        return Ok(String::from_str(alloc, told)?);
+    }
+    let mut lines = String::from_str(alloc, without_help(told))?;
+    if !lines.is_empty() {
+        lines.push_str("\n")?;
+    }
+    lines.push_str(looks.as_str())?;
     Ok(lines)
 }
 

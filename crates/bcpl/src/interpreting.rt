@@ -6,6 +6,7 @@ use crate::commands::{inputs, outputs};
 use crate::compiling::{given_to_compiler, library_sources, mains_of, paths_of, sources_of};
 use crate::devices::{Sink as Output, Source as Input};
 use crate::explaining::{Program, explained};
+use crate::output::unfinished;
 use crate::sparing::spare_files;
 use bc_build::{Built, build};
 use bc_interpret_sources::{
@@ -142,11 +143,16 @@ fn streams_of<F: Files, R: Read + Drop, O: Write + Drop>(
     Ok(FileStreams::new(alloc, inputs, outputs)?)
 }
 
+/// The failure of a run that finished, an output of which can't be written to its end.
+fn unclosed(alloc: Global) -> Failure {
+    unfinished(alloc, Failure::new(Cause::Ended(End::Device)))
+}
+
 /// What a run came to.
 fn came_to(alloc: Global, program: &Program<'_, '_>, run: &Interpretation) -> Result<(), Failure> {
     let (cause, message) = match run.interpreted.outcome {
         Outcome::Ended(Ending::Finished) if run.is_closed => return Ok(()),
-        Outcome::Ended(Ending::Finished) => return Err(Failure::new(Cause::Ended(End::Device))),
+        Outcome::Ended(Ending::Finished) => return Err(unclosed(alloc)),
         Outcome::Device => (
             Cause::Ended(End::Device),
             ended(alloc, program, run, "a stream failed here")?,

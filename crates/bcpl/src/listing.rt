@@ -2,6 +2,7 @@
 
 use crate::checking::verdict_of;
 use crate::loading::{all_contents, linked, segments_of, texts_of};
+use crate::output::{of_output, print_all};
 use bc_cert::{Judged, Verdict, check_against};
 use bc_core::Root;
 use bc_text_items::Segment;
@@ -100,9 +101,5 @@ pub fn list<F: Files, O: Write + Drop>(
     out: &mut O,
 ) -> Result<(), Failure> {
     let text = listed(rt, alloc, order, shows)?;
-    if out.write_all(text.as_bytes()).is_ok() && out.flush().is_ok() {
-        Ok(())
-    } else {
-        Err(Failure::file(alloc, "SYSPRINT"))
-    }
+    of_output(alloc, print_all(text.as_bytes(), out))
 }

@@ -32,22 +32,18 @@ pub fn all_contents<F: Files>(
 /// judged first.
 pub fn standard_text<R: Read + Drop>(alloc: Global, input: R) -> Result<Vec<u8>, Failure> {
     let mut bytes = Vec::new(alloc);
-    match &input.take(FILE_LIMIT + 1).read_to_end(&mut bytes) {
-        Ok(count) => {
-            if *count as u64 <= FILE_LIMIT {
-                return Ok(bytes);
-            }
+    let failure = match input.take(FILE_LIMIT + 1).read_to_end(&mut bytes) {
+        Ok(count) if count as u64 <= FILE_LIMIT => return Ok(bytes),
+        Ok(_) => Failure::file_since(alloc, "SYSIN", "the text has more than 16777216 bytes"),
+        Err(error) if error.kind() == ErrorKind::OutOfMemory => {
+            return Err(Failure::new(Cause::Memory));
         }
-        Err(error) => {
-            if error.kind() == ErrorKind::OutOfMemory {
-                return Err(Failure::new(Cause::Memory));
-            }
-        }
-    }
+        Err(error) => Failure::io(alloc, &error, "SYSIN"),
+    };
     bytes.truncate(FILE_LIMIT as usize);
     let mut reader = Reader::new(alloc);
     reader.feed(bytes.as_slice())?;
-    Err(Failure::file(alloc, "SYSIN"))
+    Err(failure)
 }
 
 /// The texts with these bytes, under these paths.

@@ -1,7 +1,10 @@
 //! The command `explain`.
 
-use crate::compiling::{given_to_compiler, library_sources, mains_of, paths_of, sources_of, spare};
-use crate::explaining::{Program, explained};
+use crate::compiling::{
+    given_to_compiler, library_sources, mains_of, paths_of, refused, sources_of, spare,
+};
+use crate::explaining::Program;
+use crate::output::{of_output, print_all};
 use bc_build::{Built, build};
 use bc_cert::{check_sums, write_cert};
 use bc_lex::{Source, Token, lex};
@@ -155,13 +158,7 @@ fn reported<F: Access>(
                 },
                 mains: mains.as_slice(),
             };
-            let told = if shows {
-                explained(alloc, &program, &fault).ok()
-            } else {
-                None
-            };
-            let cause = Cause::Build(fault);
-            Err(Failure { cause, told })
+            Err(refused(alloc, &program, fault, shows))
         }
     }
 }
@@ -174,11 +171,12 @@ fn write_report<F: Access>(
     report: &[u8],
 ) -> Result<(), Failure> {
     let mut written = Written::begin(rt, alloc, path)?;
-    if written.out().write_all(report).is_ok() {
-        written.finish(rt, alloc, path)
-    } else {
-        written.abandon(rt);
-        Err(Failure::file(alloc, path))
+    match written.out().write_all(report) {
+        Ok(()) => written.finish(rt, alloc, path),
+        Err(error) => {
+            written.abandon(rt);
+            Err(Failure::io(alloc, &error, path))
+        }
     }
 }
 
@@ -212,12 +210,6 @@ pub fn explain<F: Access, O: Write + Drop>(
     let report = reported(rt, alloc, order, shows)?;
     match order.out {
         Some(path) => write_report(rt, alloc, path, report.as_slice()),
-        None => {
-            if out.write_all(report.as_slice()).is_ok() && out.flush().is_ok() {
-                Ok(())
-            } else {
-                Err(Failure::file(alloc, "SYSPRINT"))
-            }
-        }
+        None => of_output(alloc, print_all(report.as_slice(), out)),
     }
 }

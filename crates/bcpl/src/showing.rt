@@ -3,8 +3,11 @@
 ghost use Rattle.std.specs.Prelude.{◌≤◌, length, IfOk};
 ghost use Rattle.bc_lex_tokens.specs.Token.{lexemes_of};
 
-use crate::compiling::{given_to_compiler, library_sources, mains_of, paths_of, sources_of};
-use crate::explaining::{Program, explained};
+use crate::compiling::{
+    given_to_compiler, library_sources, mains_of, paths_of, refused, sources_of,
+};
+use crate::explaining::Program;
+use crate::output::{of_output, print_all};
 use crate::reporting::entries_of;
 use bc_build::{BuildError, Built, build};
 use bc_lex::{Source, Token, lex};
@@ -44,15 +47,7 @@ impl<'a, 's> Shown<'a, 's> {
             },
             mains,
         };
-        let told = if self.shows {
-            explained(alloc, &program, &fault)
-        } else {
-            Ok(String::new(alloc))
-        };
-        match told {
-            Ok(told) => Failure::new(Cause::Build(fault)).with(told),
-            Err(_) => Failure::new(Cause::Memory),
-        }
+        refused(alloc, &program, fault, self.shows)
     }
 
     /// The tokens of the source, at most 60,000.
@@ -282,9 +277,5 @@ pub fn show<F: Access, O: Write + Drop>(
     out: &mut O,
 ) -> Result<(), Failure> {
     let text = listing_of(rt, alloc, &order.sources, order.listing, shows)?;
-    if out.write_all(text.as_slice()).is_ok() && out.flush().is_ok() {
-        Ok(())
-    } else {
-        Err(Failure::file(alloc, "SYSPRINT"))
-    }
+    of_output(alloc, print_all(text.as_slice(), out))
 }

@@ -74,15 +74,16 @@ fn begun<W: Write + Drop, F: Files<File = W>>(
 fn end_trace<W: Write + Drop, F: Files<File = W>>(
     rt: &F,
     alloc: Global,
-    written: Written<W>,
+    mut written: Written<W>,
     path: &str,
     is_whole: bool,
 ) -> Result<(), Failure> {
     if is_whole {
         written.finish(rt, alloc, path)
     } else {
+        let failure = written.failure(alloc, path);
         written.abandon(rt);
-        Err(Failure::file(alloc, path))
+        Err(failure)
     }
 }
 

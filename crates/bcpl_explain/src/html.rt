@@ -100,7 +100,7 @@ impl Html {
     }
 
     /// Adds text between the tags of an element.
-    pub fn element(&mut self, tag: &str, text: &str) -> Result<(), Memory> {
+    pub fn element<'t>(&mut self, tag: &'t str, text: &'t str) -> Result<(), Memory> {
         self.all(&[
             Part::Mark("<"),
             Part::Mark(tag),

@@ -173,15 +173,25 @@ pub fn add_name(html: &mut Html, rule: Rule) -> Result<(), Memory> {
 /// Adds a rule's name as `add_name` does, with where it applies and its code, which a browser tells of it.
 pub fn add_told_name(html: &mut Html, rule: Rule) -> Result<(), Memory> {
     let name = format!(in html.alloc(); "{rule:?}")?;
+    add_told(html, name.as_str(), place_of(rule), code_of(rule))
+}
+
+/// Adds a name that leads to its line of the table, and of which a browser tells a place and a code.
+fn add_told<'t>(
+    html: &mut Html,
+    name: &'t str,
+    place: &'t str,
+    code: &'t str,
+) -> Result<(), Memory> {
     html.all(&[
         Part::Mark("<a href=\"#"),
-        Part::Mark(name.as_str()),
+        Part::Mark(name),
         Part::Mark("\" title=\""),
-        Part::Tell(place_of(rule)),
+        Part::Tell(place),
         Part::Mark(": "),
-        Part::Tell(code_of(rule)),
+        Part::Tell(code),
         Part::Mark("\">"),
-        Part::Mark(name.as_str()),
+        Part::Mark(name),
         Part::Mark("</a>"),
     ])
 }
@@ -189,14 +199,26 @@ pub fn add_told_name(html: &mut Html, rule: Rule) -> Result<(), Memory> {
 /// Adds a rule's line, with how often it is used.
 fn add_line(html: &mut Html, rule: Rule, count: u64) -> Result<(), Memory> {
     let head = format!(in html.alloc(); "<tr id=\"{rule:?}\"><th>{rule:?}</th>")?;
+    let cells = [aims_of(rule), place_of(rule), code_of(rule)];
+    add_cells(html, head.as_str(), cells, count)
+}
+
+/// Adds the cells of a rule's line behind its head: what it is for, where it applies, its code, and how often it is used.
+fn add_cells<'t>(
+    html: &mut Html,
+    head: &'t str,
+    cells: [&'t str; 3],
+    count: u64,
+) -> Result<(), Memory> {
+    let [aims, place, code] = cells;
     html.all(&[
-        Part::Mark(head.as_str()),
+        Part::Mark(head),
         Part::Mark("<td>"),
-        Part::Tell(aims_of(rule)),
+        Part::Tell(aims),
         Part::Mark("</td><td>"),
-        Part::Tell(place_of(rule)),
+        Part::Tell(place),
         Part::Mark("</td><td><code>"),
-        Part::Tell(code_of(rule)),
+        Part::Tell(code),
         Part::Mark("</code></td><td>"),
         Part::Number(count),
         Part::Mark("</td></tr>\n"),

@@ -42,6 +42,9 @@ pub fn hint(
         (Some(Kind::Wide), _) => Some(format!(in alloc;
             "{path} is in UTF-16, by the byte order mark that it begins with: save it as plain text, in ASCII or UTF-8"
         )?),
+        (Some(Kind::Returns), Wanted::Source) => Some(format!(in alloc;
+            "{path} has carriage returns and no line feed, so it is one line here: save it with line feeds"
+        )?),
         (Some(Kind::Source), Wanted::Text | Wanted::Command) => Some(format!(in alloc;
             "{path} looks like BCPL source: `bcpl build {path} -o {bare}.int` makes the text that run takes, `bcpl interpret {path}` runs it at once"
         )?),
@@ -62,6 +65,7 @@ pub fn hint(
         (Some(Kind::Source), Wanted::Source)
         | (Some(Kind::Text), Wanted::Text)
         | (Some(Kind::Certificate), Wanted::Certificate)
+        | (Some(Kind::Returns), _)
         | (None, _) => None,
     })
 }

@@ -11,6 +11,8 @@ pub enum Kind {
     Certificate,
     /// Text in UTF-16, with a byte order mark.
     Wide,
+    /// Text whose lines end by carriage returns alone.
+    Returns,
 }
 
 /// The words that begin a source, in capitals.
@@ -33,6 +35,8 @@ pub fn kind_of(bytes: &[u8]) -> Option<Kind> {
         Some(Kind::Wide)
     } else if bytes.starts_with(b"BCPLCERT ") {
         Some(Kind::Certificate)
+    } else if has_returns_alone(bytes) {
+        Some(Kind::Returns)
     } else if begins_source(bytes) {
         Some(Kind::Source)
     } else if begins_text(bytes) {
@@ -40,6 +44,11 @@ pub fn kind_of(bytes: &[u8]) -> Option<Kind> {
     } else {
         None
     }
+}
+
+/// Whether these bytes have carriage returns, and no line feed.
+fn has_returns_alone(bytes: &[u8]) -> bool {
+    bytes.contains(&b'\r') && !bytes.contains(&b'\n')
 }
 
 /// What stands behind the first place of these bytes in a text; nothing where they stand nowhere.

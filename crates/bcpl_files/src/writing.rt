@@ -106,15 +106,12 @@ impl<W: Write + Drop> Written<W> {
         &mut self.out
     }
 
-    /// Hands on what is still kept of its bytes, so that `finish` only has to give the file its name.
-    ///
-    /// # Errors
-    ///
-    /// A failure of the file of this path where it can't be written to.
-    pub fn hand_on(&mut self, alloc: Global, path: &str) -> Result<(), Failure> {
+    /// The failure of the file of this path, to which something could not be written: with the reason, where the system still gives one as
+    /// what is kept is handed on once more.
+    pub fn failure(&mut self, alloc: Global, path: &str) -> Failure {
         match self.out.flush() {
-            Ok(()) => Ok(()),
-            Err(error) => Err(Failure::io(alloc, &error, path)),
+            Ok(()) => Failure::file(alloc, path),
+            Err(error) => Failure::io(alloc, &error, path),
         }
     }
 

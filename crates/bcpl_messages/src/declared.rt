@@ -175,6 +175,32 @@ pub fn declaration_of(
     Ok(first)
 }
 
+/// Where a name is likely declared that has a meaning at the token with this index: the nearest declaration in front of it that its
+/// block has, or else the first behind it. Memory is answered where a growth was refused.
+pub fn meaning_of(
+    alloc: Global,
+    tokens: &[Token<'_>],
+    used: usize,
+    name: &[u8],
+) -> Result<Option<Declared>, Memory> {
+    let mut listed = Listed::Nothing;
+    let mut nearest: Option<Declared> = None;
+    for (place, token) in tokens.iter().enumerate() {
+        if is_named(token, name) && (place < used || nearest.is_none()) {
+            if let Some(kind) = kind_at(tokens, place, listed) {
+                if encloses(alloc, tokens, place, used, kind)? {
+                    nearest = Some(Declared {
+                        index: place,
+                        sentence: sentence_on(kind, true, place > used),
+                    });
+                }
+            }
+        }
+        listed = behind(listed, token);
+    }
+    Ok(nearest)
+}
+
 /// Whether a token is this name.
 fn is_named(token: &Token<'_>, name: &[u8]) -> bool {
     match token.kind {

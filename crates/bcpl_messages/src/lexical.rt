@@ -6,7 +6,7 @@ use bcpl_places::{Span, gets_of};
 use std::alloc::Global;
 
 /// What is said of a byte that begins no token.
-const BYTES: [(u8, &str); 11] = [
+const BYTES: [(u8, &str); 12] = [
     (
         b'{',
         "a block is opened by $( and closed by $); bcpl convert brings old sources across",
@@ -41,6 +41,10 @@ const BYTES: [(u8, &str); 11] = [
         "there is no sign for any value; write a number. A choice of two values is B -> X, Y",
     ),
     (b'^', "exclusive or is written NEQV"),
+    (
+        b'$',
+        "a block is opened by $( and closed by $), without a blank between the two signs",
+    ),
     (
         b'.',
         "a name begins with a letter, and there are no numbers with a point",

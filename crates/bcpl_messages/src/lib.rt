@@ -3,6 +3,7 @@
 #![tactic(auto)]
 
 mod brackets;
+mod constants;
 mod declared;
 mod lexical;
 mod likeness;

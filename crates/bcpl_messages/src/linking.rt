@@ -245,22 +245,40 @@ fn most_labels(alloc: Global, tokens: &[Token<'_>]) -> Result<Option<(usize, usi
     Ok(best)
 }
 
+/// What is said of a main whose code has too many labels, whatever its routines are.
+const TOO_MANY_LABELS: &str = "the code of this file has more than 20000 labels";
+
+/// The place of the routine of a main that has the most words and signs that make labels, and their number.
+fn busiest(
+    alloc: Global,
+    sources: &[Source<'_>],
+    main: usize,
+) -> Result<Option<(Span, usize)>, Memory> {
+    let Some(tokens) = tokens_of(alloc, sources, main) else {
+        return Ok(None)
+    };
+    let tokens = tokens.as_slice();
+    Ok(match most_labels(alloc, tokens)? {
+        Some((index, count)) => Some((span_of(tokens, sources, main, index), count)),
+        None => None,
+    })
+}
+
 /// What is said of a main whose code has too many labels.
 pub fn labels_message(
     alloc: Global,
     sources: &[Source<'_>],
     main: usize,
 ) -> Result<Option<Message>, Memory> {
-    let sentence = "the code of this file has more than 20000 labels";
+    let message = match busiest(alloc, sources, main)? {
+        Some((place, count)) => {
+            let sentence = format!(in alloc;
+                "{TOO_MANY_LABELS}; this routine has the most of what makes labels, {count} times"
+            )?;
+            Message::new(alloc, main, Some(place), sentence.as_str())?
+        }
+        None => Message::new(alloc, main, None, TOO_MANY_LABELS)?,
+    };
     let help = "cut it into several files, which share routines by GLOBAL";
-    let message = Message::new(alloc, main, None, sentence)?.helped(alloc, Some(help))?;
-    let Some(tokens) = tokens_of(alloc, sources, main) else {
-        return Ok(Some(message))
-    };
-    let Some((index, count)) = most_labels(alloc, tokens.as_slice())? else {
-        return Ok(Some(message))
-    };
-    let note = format!(in alloc; "this routine has the most of what makes labels, {count} times")?;
-    let place = span_of(tokens.as_slice(), sources, main, index);
-    Ok(Some(message.noted(alloc, place, note.as_str())?))
+    Ok(Some(message.helped(alloc, Some(help))?))
 }

@@ -200,10 +200,29 @@ fn help_for_pair(before: &[u8], at: &[u8]) -> Option<&'static str> {
     }
 }
 
+/// In how many tokens in front of a place a VEC without its size is looked for.
+const LOOK_BACK: usize = 12;
+
+/// Whether VEC ends a line shortly in front of a place, so that what begins the next line was read as the vector's size.
+fn is_behind_open_vector(tokens: &[Token<'_>], index: usize) -> bool {
+    let begin = index.saturating_sub(LOOK_BACK);
+    let mut is_vector = false;
+    for token in tokens.get(begin..index).unwrap_or(&[]) {
+        if is_vector && token.line_before {
+            return true;
+        }
+        is_vector = is_symbol(token, Symbol::Vector);
+    }
+    false
+}
+
 /// What is said of the tokens around a place that are known mistakes.
 pub fn help_for_neighbours(tokens: &[Token<'_>], index: usize) -> Option<&'static str> {
     let at = tokens.get(index);
     let before = back(tokens, index, 1);
+    if is_behind_open_vector(tokens, index) {
+        return Some("the size of a vector stands behind VEC, on its line, as in LET V = VEC 10");
+    }
     if is_octal(before, at) {
         return Some(
             "octal digits, which stand behind #, go from 0 to 7; a decimal number has no #",

@@ -1,4 +1,5 @@
-use crate::declared::declaration_of;
+use crate::constants::{Reason, reason_of};
+use crate::declared::{Declared, declaration_of};
 use crate::likeness::{is_of_further_library, is_of_library, nearest};
 use crate::message::Message;
 use crate::syntax::span_of;
@@ -89,19 +90,48 @@ const MISPLACED: [(Symbol, &str, &str); 8] = [
     ),
 ];
 
-/// What is said where a word or a label may not stand.
-fn misplaced<'a>(token: Option<&Token<'_>>) -> Said<'a> {
-    if let Some(token) = token {
-        for (symbol, sentence, help) in &MISPLACED {
-            if is_symbol(token, *symbol) {
-                return Said::plain(*sentence, *help);
-            }
+/// What is said of a declaration that may not stand outside routines.
+const OUTSIDE: &str = "variables and vectors can't be declared outside routines";
+
+/// What to do about one.
+const INSTEAD: &str =
+    "LET declares routines alone there; STATIC $( N = 0 $) declares a cell for the whole run, which can hold the address of a vector, too";
+
+/// What is said of a name that may not stand behind a word: the word, the sentence and the help.
+const MISNAMED: [(Symbol, &str, &str); 3] = [
+    (
+        Symbol::Goto,
+        "this is no label that GOTO can go to here",
+        "a GOTO goes to a label of a list around it, in the same routine and not out of a VALOF",
+    ),
+    (Symbol::Let, OUTSIDE, INSTEAD),
+    (Symbol::And, OUTSIDE, INSTEAD),
+];
+
+/// What these rows say of a token, if they do.
+fn said_in_rows<'a>(
+    rows: &[(Symbol, &'static str, &'static str)],
+    token: Option<&Token<'_>>,
+) -> Option<Said<'a>> {
+    let token = token?;
+    for (symbol, sentence, help) in rows {
+        if is_symbol(token, *symbol) {
+            return Some(Said::plain(*sentence, *help));
         }
     }
-    Said::plain(
-        "this can't stand here",
-        "outside routines LET declares routines alone, and a label is no value; STATIC $( N = 0 $) declares a cell for the whole run",
-    )
+    None
+}
+
+/// What is said where the token of this index, a word or a name, may not stand.
+fn misplaced<'a>(tokens: &[Token<'_>], index: usize) -> Said<'a> {
+    let of_word = said_in_rows(&MISPLACED, tokens.get(index));
+    match of_word.or(said_in_rows(&MISNAMED, back(tokens, index, 1))) {
+        Some(said) => said,
+        None => Said::plain(
+            "a label is no value, and has no address",
+            "GOTO alone takes a label; what is called is a routine",
+        ),
+    }
 }
 
 /// What is said of a fault with a name.
@@ -133,8 +163,8 @@ fn said_of_name(fault: &ScopeFault) -> Option<Said<'_>> {
     })
 }
 
-/// What is said of a fault without a name.
-fn said_of<'a>(fault: &ScopeFault, token: Option<&Token<'_>>) -> Option<Said<'a>> {
+/// What is said of a fault without a name, which stands at the token of this index.
+fn said_of<'a>(fault: &ScopeFault, tokens: &[Token<'_>], index: usize) -> Option<Said<'a>> {
     let (sentence, help) = match fault {
         ScopeFault::NotConstant => (
             "this is no constant",
@@ -156,7 +186,7 @@ fn said_of<'a>(fault: &ScopeFault, token: Option<&Token<'_>>) -> Option<Said<'a>
             "the file has more than 8000 routines, statics, tables and strings",
             "cut it into several files, which share routines by GLOBAL",
         ),
-        ScopeFault::Misplaced => return Some(misplaced(token)),
+        ScopeFault::Misplaced => return Some(misplaced(tokens, index)),
         _ => return None,
     };
     Some(Said::plain(sentence, help))
@@ -266,6 +296,21 @@ const KNOWN: &str =
 /// The most names that are compared with one that means nothing.
 const MOST_LIKE: usize = 4;
 
+/// Adds the place of a declaration, with what is said of the name there.
+fn add_found(
+    alloc: Global,
+    message: &mut Message,
+    read: Read<'_, '_>,
+    name: &[u8],
+    found: Declared,
+) -> Result<(), Memory> {
+    let mut sentence = shown(alloc, name)?;
+    sentence.push_str(" ")?;
+    sentence.push_str(found.sentence)?;
+    let span = span_of(read.tokens, read.sources, read.main, found.index);
+    message.add_note(alloc, span, sentence.as_str())
+}
+
 /// Adds where a name is declared; whether it is anywhere.
 fn add_declared(
     alloc: Global,
@@ -277,11 +322,7 @@ fn add_declared(
     let Some(found) = declaration_of(alloc, read.tokens, place, name)? else {
         return Ok(false)
     };
-    let mut sentence = shown(alloc, name)?;
-    sentence.push_str(" ")?;
-    sentence.push_str(found.sentence)?;
-    let span = span_of(read.tokens, read.sources, read.main, found.index);
-    message.add_note(alloc, span, sentence.as_str())?;
+    add_found(alloc, message, read, name, found)?;
     message.set_help(alloc, KNOWN)?;
     Ok(true)
 }
@@ -353,6 +394,38 @@ fn stands_behind_vector(tokens: &[Token<'_>], index: usize) -> bool {
     }
 }
 
+/// Adds why an expression is no constant, where that is seen, and what to do.
+fn add_reason(
+    alloc: Global,
+    message: &mut Message,
+    read: Read<'_, '_>,
+    at: TokenSpan,
+) -> Result<(), Memory> {
+    if stands_behind_vector(read.tokens, at.first) {
+        message.set_help(
+            alloc,
+            "the size of a vector is a constant: take the largest that is needed, perhaps by MANIFEST",
+        )?;
+    }
+    match reason_of(alloc, read.tokens, at.first, at.last)? {
+        Some(Reason::Name(used, declared)) => {
+            let name = match read.tokens.get(used) {
+                Some(token) => token.text,
+                None => b"",
+            };
+            if declared.index > used {
+                message.set_help(alloc, KNOWN)?;
+            }
+            add_found(alloc, message, read, name, declared)
+        }
+        Some(Reason::Division) => message.set_help(
+            alloc,
+            "a division or a remainder by 0 has no value",
+        ),
+        None => Ok(()),
+    }
+}
+
 /// Adds what is said of a fault at a place beside its sentence.
 fn add_more(
     alloc: Global,
@@ -371,10 +444,7 @@ fn add_more(
             place,
             name.as_slice(),
         ),
-        ScopeFault::NotConstant if stands_behind_vector(read.tokens, place) => message.set_help(
-            alloc,
-            "the size of a vector is a constant: take the largest that is needed, perhaps by MANIFEST",
-        ),
+        ScopeFault::NotConstant => add_reason(alloc, message, read, found.at),
         _ => Ok(()),
     }
 }
@@ -386,11 +456,11 @@ fn message_on(
     fault: &ScopeFault,
 ) -> Result<Option<Message>, Memory> {
     let found = first_fault(alloc, read.tokens)?;
-    let token = match found {
-        Some(found) => read.tokens.get(found.at.first),
-        None => None,
+    let index = match found {
+        Some(found) => found.at.first,
+        None => read.tokens.len(),
     };
-    let Some(said) = said_of_name(fault).or(said_of(fault, token)) else {
+    let Some(said) = said_of_name(fault).or(said_of(fault, read.tokens, index)) else {
         return Ok(None)
     };
     let place = match found {

@@ -261,8 +261,13 @@ fn help_for_place(
     Ok(None)
 }
 
-/// The word of the list of names that is open in front of a place: MANIFEST, STATIC or GLOBAL, if there is one.
-fn list_word(alloc: Global, tokens: &[Token<'_>], index: usize) -> Result<Option<Symbol>, Memory> {
+/// The word of the list of names that is open in front of a place: MANIFEST, STATIC or GLOBAL, if there is one. Memory is answered where
+/// a growth was refused.
+pub fn list_word(
+    alloc: Global,
+    tokens: &[Token<'_>],
+    index: usize,
+) -> Result<Option<Symbol>, Memory> {
     let open = open_before(alloc, tokens, index)?;
     let Some(bracket) = open.last() else {
         return Ok(None)
@@ -331,12 +336,20 @@ fn help_for_word(
     }
 }
 
+/// Whether what is said of the token at a place by itself comes before all guesses.
+fn says_all(tokens: &[Token<'_>], index: usize) -> bool {
+    is_site(tokens, index, Site::At(Symbol::Else)) || is_site(tokens, index, Site::At(Symbol::And))
+}
+
 /// What may have been meant, where that is always said in the same words.
 fn help_in_words(
     alloc: Global,
     tokens: &[Token<'_>],
     index: usize,
 ) -> Result<Option<&'static str>, Memory> {
+    if says_all(tokens, index) {
+        return Ok(help_for_token(tokens.get(index)));
+    }
     if let Some(help) = remedied(alloc, tokens, index)? {
         return Ok(Some(help));
     }
@@ -401,6 +414,24 @@ fn expected(
     Ok(Message { help, ..message })
 }
 
+/// The sentence on a section bracket that is not closed, of so many that are open: the bracket is told with its tag.
+fn unclosed_sentence(
+    alloc: Global,
+    bracket: Option<&Token<'_>>,
+    count: usize,
+) -> Result<String, Memory> {
+    let bracket = match bracket {
+        Some(token) => shown(alloc, token.text)?,
+        None => String::from_str(alloc, "$(")?,
+    };
+    let others = count.saturating_sub(1);
+    Ok(match others {
+        0 => format!(in alloc; "this {bracket} is not closed")?,
+        1 => format!(in alloc; "this {bracket} is not closed, nor is another one around it")?,
+        _ => format!(in alloc; "this {bracket} is not closed, nor are {others} others around it")?,
+    })
+}
+
 /// What is said of sections that are open at the end.
 fn unclosed(
     alloc: Global,
@@ -409,19 +440,10 @@ fn unclosed(
     tokens: &[Token<'_>],
 ) -> Result<Message, Memory> {
     let open = open_before(alloc, tokens, tokens.len())?;
-    let place = match open.last() {
-        Some(index) => span_of(tokens, sources, main, *index),
-        None => span_of(tokens, sources, main, tokens.len()),
-    };
+    let innermost = open.last().copied().unwrap_or(tokens.len());
+    let place = span_of(tokens, sources, main, innermost);
     let count = open.len();
-    let sentence = if count > 1 {
-        format!(in alloc;
-            "this $( is not closed, nor are {} others around it",
-            count - 1
-        )?
-    } else {
-        String::from_str(alloc, "this $( is not closed")?
-    };
+    let sentence = unclosed_sentence(alloc, tokens.get(innermost), count)?;
     let message = Message::new(alloc, main, Some(place), sentence.as_str())?;
     let message = match open.first() {
         Some(outermost) if count > 1 => {

@@ -166,6 +166,16 @@ pub fn read_with(
     read_up_to(alloc, changed.as_slice(), index, change.added())
 }
 
+/// Whether the tokens in front of a place are read by themselves, so that the end could stand there. Memory is answered where a growth
+/// was refused.
+pub fn is_whole(alloc: Global, tokens: &[Token<'_>], index: usize) -> Result<bool, Memory> {
+    match parse(alloc, tokens.get(..index).unwrap_or(&[])) {
+        Ok(_) => Ok(true),
+        Err(ParseError::Memory) => Err(Memory),
+        Err(_) => Ok(false),
+    }
+}
+
 /// How far tokens are read of which so many are added at a place.
 fn read_up_to(
     alloc: Global,

@@ -1,4 +1,4 @@
-use crate::trial::{Change, read_with};
+use crate::trial::{Change, is_whole, read_with};
 use bc_lex_tokens::{Symbol, Token, TokenKind};
 use bc_word::Memory;
 use std::alloc::Global;
@@ -119,6 +119,9 @@ fn things(alloc: Global, tokens: &[Token<'_>], index: usize) -> Result<Vec<&'sta
     let mut things = with_symbols(alloc, things, tokens, index, begun)?;
     if begun.operator {
         things.push("an operator")?;
+    }
+    if index > 0 && is_whole(alloc, tokens, index)? {
+        things.push("the end of the file")?;
     }
     Ok(things)
 }

@@ -6,11 +6,11 @@ use crate::fields::{code_text, field_of, piece_text};
 use crate::least::least_of;
 use crate::placed::{Placed, Stretch, Text, add_help, add_place};
 use bc_cert_defs::CheckFault;
-use bc_cert_lines::{NodeLine, code_line, end_line, node_line, root_line};
+use bc_cert_lines::{NodeLine, RootLine, code_line, end_line, node_line, root_line};
 use bc_cert_node::LeastWords;
 use bc_cert_trees::Rooted;
 use bc_rules::{code_of, next_label, words};
-use bc_rules_defs::{Piece, Table};
+use bc_rules_defs::{Piece, Rule, Table};
 use bc_word::Memory;
 use std::alloc::Global;
 
@@ -134,14 +134,6 @@ fn node_index(node: u64) -> usize {
     }
 }
 
-/// A number of words as a line has it.
-fn number(alloc: Global, words: Option<u128>) -> Result<String, Memory> {
-    Ok(match words {
-        Some(words) => format!(in alloc; "{words}")?,
-        None => String::from_str(alloc, "-")?,
-    })
-}
-
 /// What the numbers of a node line are of, in their order.
 const NUMBERS: [&str; 4] = [
     "of the value",
@@ -188,6 +180,23 @@ fn wrong_number(least: &LeastWords, line: &NodeLine) -> Option<WrongNumber> {
     None
 }
 
+/// The sentence on a number of a node that is not the least.
+fn cost_sentence(alloc: Global, wrong: WrongNumber) -> Result<String, Memory> {
+    let what = wrong.what;
+    Ok(match (wrong.right, wrong.written) {
+        (Some(right), Some(written)) => format!(in alloc;
+            "the least words {what} are {right} by the parts, and {written} stands here"
+        )?,
+        (Some(right), None) => format!(in alloc;
+            "the least words {what} are {right} by the parts, and - stands here"
+        )?,
+        (None, Some(written)) => format!(in alloc;
+            "by the parts there is no code {what}, for which - is written, and {written} stands here"
+        )?,
+        (None, None) => String::new(alloc),
+    })
+}
+
 /// The lines on a number of a node that is not the least.
 fn wrong_cost(
     alloc: Global,
@@ -206,12 +215,7 @@ fn wrong_cost(
         return Ok(report)
     };
     if let Some(wrong) = wrong_number(&least, line) {
-        let right = number(alloc, wrong.right)?;
-        let written = number(alloc, wrong.written)?;
-        let what = wrong.what;
-        let sentence = format!(in alloc;
-            "the least words {what} are {right} by the parts, and {written} stands here"
-        )?;
+        let sentence = cost_sentence(alloc, wrong)?;
         let index = entry.index.saturating_add(1).saturating_add(node);
         let place = lined.field(index, wrong.field);
         add_place(alloc, &mut report, place, sentence.as_str())?;
@@ -295,21 +299,118 @@ fn listed(alloc: Global, names: &[String]) -> Result<String, Memory> {
     Ok(list)
 }
 
-/// The lines on rules of a node that make no derivation, or on a root that its tree shows no rules for.
+/// The root lines of which one may do where another one doesn't.
+fn roots_like(root: RootLine) -> [RootLine; 3] {
+    match root {
+        RootLine::Value | RootLine::Test(_) => [
+            RootLine::Value,
+            RootLine::Test(false),
+            RootLine::Test(true),
+        ],
+        RootLine::Assign(_, level) => [
+            RootLine::Assign(Rule::A1, level),
+            RootLine::Assign(Rule::A2, level),
+            RootLine::Assign(Rule::A3, level),
+        ],
+    }
+}
+
+/// A root line as a certificate has it.
+fn root_text(alloc: Global, root: RootLine) -> Result<String, Memory> {
+    Ok(match root {
+        RootLine::Value => String::from_str(alloc, "R V")?,
+        RootLine::Test(false) => String::from_str(alloc, "R F")?,
+        RootLine::Test(true) => String::from_str(alloc, "R T")?,
+        RootLine::Assign(Rule::A1, level) => format!(in alloc; "R A1 {level}")?,
+        RootLine::Assign(Rule::A2, level) => format!(in alloc; "R A2 {level}")?,
+        RootLine::Assign(_, level) => format!(in alloc; "R A3 {level}")?,
+    })
+}
+
+/// What is wrong with a root line that its trees show no rules for.
+fn root_sentence(root: RootLine) -> &'static str {
+    match root {
+        RootLine::Value => "the rules of the tree in front of it are not those of a value",
+        RootLine::Test(false) => {
+            "the rules of the tree in front of it are not those of a test that jumps on false"
+        }
+        RootLine::Test(true) => {
+            "the rules of the tree in front of it are not those of a test that jumps on true"
+        }
+        RootLine::Assign(..) => {
+            "this rule of an assignment doesn't go with the trees in front of it, or has more words than another one"
+        }
+    }
+}
+
+/// The root lines that the checker would take behind these nodes, in the place of this one.
+fn right_roots(
+    alloc: Global,
+    table: Table,
+    nodes: &[NodeLine],
+    root: RootLine,
+) -> Result<Vec<String>, Memory> {
+    let mut right = Vec::new(alloc);
+    for candidate in roots_like(root) {
+        match rooted_of(alloc, table, nodes, candidate) {
+            Ok(_) => right.push(root_text(alloc, candidate)?)?,
+            Err(CheckFault::Memory) => return Err(Memory),
+            Err(_) => {}
+        }
+    }
+    Ok(right)
+}
+
+/// Adds which of these would do, by what the lines in front show.
+fn add_right(alloc: Global, report: &mut String, right: &[String]) -> Result<(), Memory> {
+    let list = listed(alloc, right)?;
+    let list = list.as_str();
+    let does = if right.len() == 1 {
+        "this does"
+    } else {
+        "these do"
+    };
+    writeln!(
+        report,
+        "  help: by what the lines of its parts show, {does}: {list}"
+    )?;
+    Ok(())
+}
+
+/// The lines on a root that its trees show no rules for.
+fn wrong_root(
+    alloc: Global,
+    lined: Lined<'_>,
+    entry: &EntryText,
+    root: RootLine,
+) -> Result<String, Memory> {
+    let mut report = String::new(alloc);
+    let nodes = entry.nodes.as_slice();
+    let index = entry.index.saturating_add(1).saturating_add(nodes.len());
+    add_place(alloc, &mut report, lined.place(index), root_sentence(root))?;
+    let table = table_of(lined.text.bytes, lined.lines);
+    let right = right_roots(alloc, table, nodes, root)?;
+    if !right.is_empty() {
+        add_right(alloc, &mut report, right.as_slice())?;
+    }
+    Ok(report)
+}
+
+/// The lines on rules of a node that make no derivation, or on a root that its trees show no rules for.
 fn wrong_rule(
     alloc: Global,
     lined: Lined<'_>,
     entry: &EntryText,
     node: usize,
 ) -> Result<String, Memory> {
+    if node >= entry.nodes.len() {
+        return match entry.root {
+            Some(root) => wrong_root(alloc, lined, entry, root),
+            None => Ok(String::new(alloc)),
+        };
+    }
     let mut report = String::new(alloc);
     let index = entry.index.saturating_add(1).saturating_add(node);
-    if node >= entry.nodes.len() {
-        let sentence =
-            "the tree in front of it shows no rules for such a root, or the rule of the assignment doesn't apply or has more words than another";
-        add_place(alloc, &mut report, lined.place(index), sentence)?;
-        return Ok(report);
-    }
     let sentence = "these rules make no derivation of this node in so many words";
     add_place(alloc, &mut report, lined.field(index, 6), sentence)?;
     let right = right_rules(alloc, lined, entry, node)?;
@@ -319,12 +420,7 @@ fn wrong_rule(
             "no rules do, by what the lines of its parts show",
         )?;
     } else {
-        let list = listed(alloc, right.as_slice())?;
-        let list = list.as_str();
-        writeln!(
-            report,
-            "  help: by what the lines of its parts show, these do: {list}"
-        )?;
+        add_right(alloc, &mut report, right.as_slice())?;
     }
     Ok(report)
 }

@@ -55,7 +55,22 @@ pub fn number_twice<'s>(
     Some((wanted, earlier.name))
 }
 
-/// Where the token with this index assigns to a routine of the library, whose sources are the first `library` ones.
+/// Whether a name alone stands at this index as the last of its command: a routine that is meant to stand in another one's place, or the
+/// variable that keeps one.
+fn is_name_alone(tokens: &[Token<'_>], index: usize) -> bool {
+    let behind = index.saturating_add(1);
+    let is_last = match tokens.get(behind) {
+        Some(token) => token.line_before,
+        None => true,
+    };
+    name_at(tokens, index).is_some()
+        && (is_last
+            || is_at(tokens, behind, Symbol::Semicolon)
+            || is_at(tokens, behind, Symbol::CloseSection))
+}
+
+/// Where the token with this index assigns to a routine of the library, whose sources are the first `library` ones, something else than
+/// what a name stands for.
 pub fn is_library_assigned(
     tokens: &[Token<'_>],
     declarations: &Declarations<'_>,
@@ -67,6 +82,9 @@ pub fn is_library_assigned(
     };
     let is_element = index > 0 && is_at(tokens, index - 1, Symbol::Indirection);
     if !is_at(tokens, index.saturating_add(1), Symbol::Assign) || is_element {
+        return false;
+    }
+    if is_name_alone(tokens, index.saturating_add(2)) {
         return false;
     }
     let Some((declared, _)) = declarations.global(name) else {

@@ -167,6 +167,9 @@ pub fn help(met: &Met<'_>, known: Known<'_>) -> Option<&'static str> {
         Cause::FrameTooLarge(_) => Some(
             "all calls within one another share the store with their vectors: does the recursion end?",
         ),
-        Cause::NotRoutine(_) | Cause::Malformed => None,
+        Cause::NotRoutine(_) => Some(
+            "what is called is a routine's name, or a cell that holds the value of one",
+        ),
+        Cause::Malformed => None,
     }
 }

@@ -14,6 +14,6 @@ returns-clause-runs g c = λ known.
     let image = c.args.program.now.image.now in
     let before = g.S.Streams.content c.args.streams.now in
     let after = g.S.Streams.content c.interpret.new.streams in
-    runs_to b.sections image before after c.args.turns c.in_ok-interpreted.interpreted.outcome b.runs (g.met.S.Streams.holds_bytes c.args.streams.now known)
+    runs_to b.sections image before after c.args.turns c.in_ok-interpreted.interpreted.outcome b.runs (g.S.Streams.holds_bytes c.args.streams.now known)
     (means c.sections_keep_their_meaning.ensures b.sections (map section c.as_slice.result.now) image before after c.args.turns c.in_ok-interpreted.interpreted.outcome
     (c.in_ok-cores.ensures b.sections b.accepted ∙ ap (map section) (sym c.as_slice.ensures.value)) (c.in_ok-interpreted.ensures.means known))

@@ -1,0 +1,88 @@
+//! Why an expression is no constant.
+
+use crate::declared::{Declared, meaning_of};
+use crate::syntax::list_word;
+use crate::words::is_symbol;
+use bc_lex_tokens::{Symbol, Token, TokenKind};
+use bc_word::Memory;
+use std::alloc::Global;
+
+/// Why an expression is none.
+#[derive(Clone, Copy)]
+pub enum Reason {
+    /// The name at the token with this index has no value that is known there, by its declaration.
+    Name(usize, Declared),
+    /// It has a division or a remainder, and no such name.
+    Division,
+}
+
+/// What is said of a name that a list with this word, or something else, declares, and that is no constant.
+fn sentence_on(word: Option<Symbol>) -> &'static str {
+    match word {
+        Some(Symbol::Static) => "is declared here by STATIC, and is no constant",
+        Some(Symbol::Global) => "is declared here by GLOBAL, and is no constant",
+        _ => "is declared here, and is no constant",
+    }
+}
+
+/// Why a name that is declared so is no constant at another place; none where it may be one.
+fn judged(
+    alloc: Global,
+    tokens: &[Token<'_>],
+    used: usize,
+    declared: Declared,
+) -> Result<Option<Declared>, Memory> {
+    let word = list_word(alloc, tokens, declared.index)?;
+    let is_manifest = matches!(word, Some(Symbol::Manifest));
+    Ok(if is_manifest && declared.index > used {
+        Some(declared)
+    } else if is_manifest {
+        None
+    } else {
+        Some(Declared {
+            index: declared.index,
+            sentence: sentence_on(word),
+        })
+    })
+}
+
+/// Why the name at the token with this index is no constant; none where that isn't seen, or where no name stands there.
+fn reason_at(
+    alloc: Global,
+    tokens: &[Token<'_>],
+    index: usize,
+) -> Result<Option<Declared>, Memory> {
+    let Some(token) = tokens.get(index) else {
+        return Ok(None)
+    };
+    let TokenKind::Name(name) = token.kind else {
+        return Ok(None)
+    };
+    match meaning_of(alloc, tokens, index, name)? {
+        Some(declared) => judged(alloc, tokens, index, declared),
+        None => Ok(None),
+    }
+}
+
+/// Whether a token is a division or a remainder.
+fn divides(token: &Token<'_>) -> bool {
+    is_symbol(token, Symbol::Divide) || is_symbol(token, Symbol::Remainder)
+}
+
+/// Why the expression of the tokens from `first` to `last` is no constant; none where that isn't seen. Memory is answered where a growth
+/// was refused.
+pub fn reason_of(
+    alloc: Global,
+    tokens: &[Token<'_>],
+    first: usize,
+    last: usize,
+) -> Result<Option<Reason>, Memory> {
+    let behind = last.saturating_add(1);
+    for index in first..behind {
+        if let Some(declared) = reason_at(alloc, tokens, index)? {
+            return Ok(Some(Reason::Name(index, declared)));
+        }
+    }
+    let expression = tokens.get(first..behind).unwrap_or(&[]);
+    Ok(expression.iter().any(divides).then_some(Reason::Division))
+}
