@@ -45,17 +45,19 @@ pub fn hint(
         (Some(Kind::Returns), Wanted::Source) => Some(format!(in alloc;
             "{path} has carriage returns and no line feed, so it is one line here: save it with line feeds"
         )?),
-        (Some(Kind::Source), Wanted::Text | Wanted::Command) => Some(format!(in alloc;
-            "{path} looks like BCPL source: `bcpl build {path} -o {bare}.int` makes the text that run takes, `bcpl interpret {path}` runs it at once"
-        )?),
-        (Some(Kind::Source), Wanted::Certificate) => Some(format!(in alloc;
+        (Some(Kind::Source | Kind::Returns), Wanted::Text | Wanted::Command) => Some(
+            format!(in alloc;
+                "{path} looks like BCPL source: `bcpl build {path} -o {bare}.int` makes the text that run takes, `bcpl interpret {path}` runs it at once"
+            )?,
+        ),
+        (Some(Kind::Source | Kind::Returns), Wanted::Certificate) => Some(format!(in alloc;
             "{path} looks like BCPL source: `bcpl build {path} -o {bare}.int --cert {bare}.cert` makes a certificate of it"
         )?),
         (Some(Kind::Text), Wanted::Source | Wanted::Command) => Some(format!(in alloc;
             "{path} looks like INTCODE text: `bcpl run --steps 1000000 {path}` runs it"
         )?),
         (Some(Kind::Text), Wanted::Certificate) => Some(format!(in alloc;
-            "{path} looks like INTCODE text: the certificate stands in front of it, as in `bcpl check {bare}.cert {path}`"
+            "{path} looks like INTCODE text: the certificate stands in front of it, as in `bcpl check CERT {path}`"
         )?),
         (Some(Kind::Certificate), Wanted::Source | Wanted::Text | Wanted::Command) => {
             Some(format!(in alloc;
@@ -65,7 +67,6 @@ pub fn hint(
         (Some(Kind::Source), Wanted::Source)
         | (Some(Kind::Text), Wanted::Text)
         | (Some(Kind::Certificate), Wanted::Certificate)
-        | (Some(Kind::Returns), _)
         | (None, _) => None,
     })
 }

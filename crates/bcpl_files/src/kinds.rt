@@ -1,4 +1,4 @@
-//! What a file looks like, by its first bytes.
+//! What a file looks like: by its first bytes, and by its line ends.
 
 /// What a file is likely to be.
 #[derive(Clone, Copy)]
@@ -11,7 +11,7 @@ pub enum Kind {
     Certificate,
     /// Text in UTF-16, with a byte order mark.
     Wide,
-    /// Text whose lines end by carriage returns alone.
+    /// A source whose lines end by carriage returns alone.
     Returns,
 }
 
@@ -35,14 +35,16 @@ pub fn kind_of(bytes: &[u8]) -> Option<Kind> {
         Some(Kind::Wide)
     } else if bytes.starts_with(b"BCPLCERT ") {
         Some(Kind::Certificate)
-    } else if has_returns_alone(bytes) {
-        Some(Kind::Returns)
     } else if begins_source(bytes) {
-        Some(Kind::Source)
+        Some(if has_returns_alone(bytes) {
+            Kind::Returns
+        } else {
+            Kind::Source
+        })
     } else if begins_text(bytes) {
         Some(Kind::Text)
     } else {
-        None
+        has_returns_alone(bytes).then_some(Kind::Returns)
     }
 }
 

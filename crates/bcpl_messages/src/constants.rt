@@ -12,7 +12,7 @@ use std::alloc::Global;
 pub enum Reason {
     /// The name at the token with this index has no value that is known there, by its declaration.
     Name(usize, Declared),
-    /// It has a division or a remainder, and no such name.
+    /// It has a division or a remainder, and nothing else that could keep it from being one.
     Division,
 }
 
@@ -69,6 +69,43 @@ fn divides(token: &Token<'_>) -> bool {
     is_symbol(token, Symbol::Divide) || is_symbol(token, Symbol::Remainder)
 }
 
+/// The signs and words that a constant is mostly made of.
+const OF_CONSTANTS: [Symbol; 9] = [
+    Symbol::Plus,
+    Symbol::Minus,
+    Symbol::Multiply,
+    Symbol::Divide,
+    Symbol::Remainder,
+    Symbol::OpenBracket,
+    Symbol::CloseBracket,
+    Symbol::True,
+    Symbol::False,
+];
+
+/// Whether a token can stand in the constant of a name: a number, a character, another name, or one of these signs and words.
+fn is_of_constant(token: &Token<'_>, own: &[u8]) -> bool {
+    match token.kind {
+        TokenKind::Number(_) | TokenKind::Character(_) => true,
+        TokenKind::Symbol(_) => OF_CONSTANTS.iter().any(|known| is_symbol(token, *known)),
+        TokenKind::Name(name) => name != own,
+        TokenKind::String(_) => false,
+    }
+}
+
+/// Whether these tokens, which begin at this index, can be no constant for no other reason than a division by 0.
+fn divides_by_zero(all: &[Token<'_>], first: usize, tokens: &[Token<'_>]) -> bool {
+    let own = match all.get(first.wrapping_sub(2)) {
+        Some(token) => token.text,
+        None => b"",
+    };
+    for token in tokens {
+        if !is_of_constant(token, own) {
+            return false;
+        }
+    }
+    tokens.iter().any(divides)
+}
+
 /// Why the expression of the tokens from `first` to `last` is no constant; none where that isn't seen. Memory is answered where a growth
 /// was refused.
 pub fn reason_of(
@@ -84,5 +121,5 @@ pub fn reason_of(
         }
     }
     let expression = tokens.get(first..behind).unwrap_or(&[]);
-    Ok(expression.iter().any(divides).then_some(Reason::Division))
+    Ok(divides_by_zero(tokens, first, expression).then_some(Reason::Division))
 }

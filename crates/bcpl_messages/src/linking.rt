@@ -246,7 +246,7 @@ fn most_labels(alloc: Global, tokens: &[Token<'_>]) -> Result<Option<(usize, usi
 }
 
 /// What is said of a main whose code has too many labels, whatever its routines are.
-const TOO_MANY_LABELS: &str = "the code of this file has more than 20000 labels";
+const TOO_MANY_LABELS: &str = "the code of the file, with what it gets, has more than 20000 labels";
 
 /// The place of the routine of a main that has the most words and signs that make labels, and their number.
 fn busiest(
@@ -273,7 +273,7 @@ pub fn labels_message(
     let message = match busiest(alloc, sources, main)? {
         Some((place, count)) => {
             let sentence = format!(in alloc;
-                "{TOO_MANY_LABELS}; this routine has the most of what makes labels, {count} times"
+                "{TOO_MANY_LABELS}; of its routines this one has the most words and signs that make labels, {count}"
             )?;
             Message::new(alloc, main, Some(place), sentence.as_str())?
         }

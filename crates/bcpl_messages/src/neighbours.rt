@@ -203,17 +203,19 @@ fn help_for_pair(before: &[u8], at: &[u8]) -> Option<&'static str> {
 /// In how many tokens in front of a place a VEC without its size is looked for.
 const LOOK_BACK: usize = 12;
 
-/// Whether VEC ends a line shortly in front of a place, so that what begins the next line was read as the vector's size.
+/// Whether VEC ends the line in front of that of a place, so that the name which begins this line was read as the vector's size.
 fn is_behind_open_vector(tokens: &[Token<'_>], index: usize) -> bool {
     let begin = index.saturating_sub(LOOK_BACK);
+    let behind = index.saturating_add(1);
     let mut is_vector = false;
-    for token in tokens.get(begin..index).unwrap_or(&[]) {
-        if is_vector && token.line_before {
-            return true;
+    let mut is_open = false;
+    for token in tokens.get(begin..behind).unwrap_or(&[]) {
+        if token.line_before {
+            is_open = is_vector && matches!(token.kind, TokenKind::Name(_));
         }
         is_vector = is_symbol(token, Symbol::Vector);
     }
-    false
+    is_open
 }
 
 /// What is said of the tokens around a place that are known mistakes.
@@ -221,7 +223,7 @@ pub fn help_for_neighbours(tokens: &[Token<'_>], index: usize) -> Option<&'stati
     let at = tokens.get(index);
     let before = back(tokens, index, 1);
     if is_behind_open_vector(tokens, index) {
-        return Some("the size of a vector stands behind VEC, on its line, as in LET V = VEC 10");
+        return Some("perhaps VEC lacks its size, and this line was read as that: LET V = VEC 10");
     }
     if is_octal(before, at) {
         return Some(

@@ -293,6 +293,10 @@ fn add_second(
 const KNOWN: &str =
     "a name is known in the block, routine or FOR that declares it, from its declaration on";
 
+/// From where on a name of a MANIFEST has a value.
+const BEHIND_ITS_ENTRY: &str =
+    "a name of a MANIFEST is a constant behind its own entry: put that in front of its use";
+
 /// The most names that are compared with one that means nothing.
 const MOST_LIKE: usize = 4;
 
@@ -414,7 +418,7 @@ fn add_reason(
                 None => b"",
             };
             if declared.index > used {
-                message.set_help(alloc, KNOWN)?;
+                message.set_help(alloc, BEHIND_ITS_ENTRY)?;
             }
             add_found(alloc, message, read, name, declared)
         }

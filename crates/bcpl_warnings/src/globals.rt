@@ -55,6 +55,17 @@ pub fn number_twice<'s>(
     Some((wanted, earlier.name))
 }
 
+/// The words and signs behind which a command, or what is assigned to the first of several, has ended.
+const ENDS: [Symbol; 7] = [
+    Symbol::Semicolon,
+    Symbol::CloseSection,
+    Symbol::Comma,
+    Symbol::Else,
+    Symbol::Repeat,
+    Symbol::RepeatUntil,
+    Symbol::RepeatWhile,
+];
+
 /// Whether a name alone stands at this index as the last of its command: a routine that is meant to stand in another one's place, or the
 /// variable that keeps one.
 fn is_name_alone(tokens: &[Token<'_>], index: usize) -> bool {
@@ -64,9 +75,7 @@ fn is_name_alone(tokens: &[Token<'_>], index: usize) -> bool {
         None => true,
     };
     name_at(tokens, index).is_some()
-        && (is_last
-            || is_at(tokens, behind, Symbol::Semicolon)
-            || is_at(tokens, behind, Symbol::CloseSection))
+        && (is_last || ENDS.iter().any(|end| is_at(tokens, behind, *end)))
 }
 
 /// Where the token with this index assigns to a routine of the library, whose sources are the first `library` ones, something else than
