@@ -1,6 +1,7 @@
 //! The command `check`.
 
 use crate::loading::{all_contents, explained, segments_of, texts_of};
+use crate::output::of_output;
 use bc_cert::{CheckFault, Verdict, check, check_against, check_sums};
 use bcpl_faults::{Cause, Failure};
 use bcpl_files::contents;
@@ -8,6 +9,7 @@ use bcpl_reports::{Text, against_lines, check_lines};
 use bcpl_words::CheckOrder;
 use std::alloc::Global;
 use std::fs;
+use std::io;
 use std::io::{BufReader, Read, Write};
 use std::rt::Files;
 
@@ -151,6 +153,12 @@ fn compare<F: Files>(
     }
 }
 
+/// Tells how many entries a certificate has, and their words in all.
+fn tell<O: Write + Drop>(entries: u64, words: u64, out: &mut O) -> io::Result<()> {
+    writeln!(out, "ok {entries} {words}")?;
+    out.flush()
+}
+
 /// Checks a certificate, and where texts are named, that they have its code. `shows` says whether the place of a refusal is told.
 pub fn check_certificate<F: Files, O: Write + Drop>(
     rt: &F,
@@ -164,9 +172,5 @@ pub fn check_certificate<F: Files, O: Write + Drop>(
     } else {
         sums_against(rt, alloc, order, shows)?
     };
-    if writeln!(out, "ok {entries} {words}").is_ok() && out.flush().is_ok() {
-        Ok(())
-    } else {
-        Err(Failure::file(alloc, "SYSPRINT"))
-    }
+    of_output(alloc, tell(entries, words, out))
 }
