@@ -8,10 +8,9 @@ use bcpl_files::contents;
 use bcpl_reports::{Text, against_lines, check_lines};
 use bcpl_words::CheckOrder;
 use std::alloc::Global;
-use std::fs;
-use std::io;
 use std::io::{BufReader, Read, Write};
 use std::rt::Files;
+use std::{fs, io};
 
 /// The failure of a certificate, with what is told of its place; the certificate is read once more for that.
 fn told_of_certificate<F: Files>(

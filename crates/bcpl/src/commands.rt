@@ -144,22 +144,13 @@ fn told_of_stop(alloc: Global, manner: &Manner<'_, '_>, stop: &Stop, failure: Fa
     explained(failure, lines)
 }
 
-/// The failure of a run that came to this end, with what is told of it.
-fn told_of_end(
-    alloc: Global,
-    manner: &Manner<'_, '_>,
-    machine: &Machine,
-    end: End,
-    failure: Failure,
-) -> Failure {
-    if !manner.shows {
-        return failure;
+/// The failure of a run that finished, whose outputs can't be written to their ends, with what is told of it.
+fn told_of_outputs(alloc: Global, manner: &Manner<'_, '_>, failure: Failure) -> Failure {
+    if manner.shows {
+        unfinished(alloc, failure)
+    } else {
+        failure
     }
-    if end == End::Finished {
-        return unfinished(alloc, failure);
-    }
-    let stop = stop_of(machine, end, manner.steps);
-    told_of_stop(alloc, manner, &stop, failure)
 }
 
 /// Runs a program over these streams, which it closes.
@@ -170,10 +161,15 @@ fn run_linked<R: Read, W: Write>(
 ) -> Result<(), Failure> {
     let mut machine = Machine::new(alloc, &manner.program.image)?;
     let end = machine.run(streams, manner.steps);
-    match closed(streams, end) {
-        Ok(()) => Ok(()),
-        Err(failure) => Err(told_of_end(alloc, manner, &machine, end, failure)),
+    let is_finished = end == End::Finished;
+    let Err(failure) = closed(streams, end) else {
+        return Ok(())
+    };
+    if !manner.shows || is_finished {
+        return Err(told_of_outputs(alloc, manner, failure));
     }
+    let stop = stop_of(&machine, end, manner.steps);
+    Err(told_of_stop(alloc, manner, &stop, failure))
 }
 
 /// Runs a program as `run_linked`, and notes what it does.
@@ -199,16 +195,21 @@ fn watch_linked<F: Files, R: Read, W: Write>(
             &mut nowhere,
         ),
     };
+    let is_finished = end == End::Finished;
     let closed = closed(streams, end);
     let text = match order.profile {
         Some(_) => profile(alloc, &watch, &machine, image)?,
         None => String::new(alloc),
     };
     let noted = notes.finish(rt, alloc, order, watch.is_whole(), text.as_str());
-    match closed {
-        Ok(()) => noted,
-        Err(failure) => Err(told_of_end(alloc, manner, &machine, end, failure)),
+    let Err(failure) = closed else {
+        return noted;
+    };
+    if !manner.shows || is_finished {
+        return Err(told_of_outputs(alloc, manner, failure));
     }
+    let stop = stop_of(&machine, end, manner.steps);
+    Err(told_of_stop(alloc, manner, &stop, failure))
 }
 
 /// What a run reads from and writes to at first, whether that is a terminal, and whether places are told.
