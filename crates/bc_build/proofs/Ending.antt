@@ -1,6 +1,6 @@
 -- A run that ended is one that the sections mean.
-use Rattle.std.proofs.Common.{◌≡◌, ◌∙◌, ◌≢◌, ◌⊎◌, inl, inr, ℕ, zero, suc, ◌+◌, ◌≤◌, List, All, Option, Some, None, refl, sym, ap, subst, arith}
-use Rattle.bc_machine_defs.specs.Streams.{Content}
+use Rattle.std.proofs.Common.{◌≡◌, ◌∙◌, ◌≢◌, ◌⊎◌, inl, inr, ℕ, zero, suc, ◌+◌, ◌≤◌, List, Option, Some, None, refl, sym, ap, subst, arith}
+use Rattle.bc_machine_defs.specs.Streams.{Content, HoldBytes}
 use Rattle.bc_machine_defs.specs.StreamCalls.{output_of}
 use Rattle.bc_machine_defs.specs.State.{State}
 use Rattle.bc_machine_defs.specs.Step.{step}
@@ -13,7 +13,6 @@ use Rattle.bc_parse_tree.specs.Tree.{Declarations}
 use Rattle.bc_core.specs.Outcome.{Ending, Finished, ZeroDivide}
 use Rattle.bc_core.specs.Meaning.{Result, Ended, Going, Wild}
 use Rattle.bc_core.specs.Same.{Same, end_of}
-use Rattle.bc_right_steps.specs.Leads.{HoldsBytes}
 use Rattle.bc_build.specs.Runs.{meant, started, RunsAsMeant}
 use Rattle.bc_build.specs.Text.{IsRunFrom}
 use Rattle.bc_build.specs.Ended.{IsEnding, EndsAsMeant}
@@ -72,7 +71,7 @@ no_instruction (Ended output ZeroDivide) t code a = absurd (let e : ends.BadInst
 no_instruction (Going output) t code a = absurd a
 no_instruction Wild t code a = refl
 
-module _ (sections : List Declarations) (image : Image) (runs_so : RunsAsMeant sections image) (streams : Content) (bytes : All HoldsBytes streams.inputs) (n : ℕ) (t : State) where
+module _ (sections : List Declarations) (image : Image) (runs_so : RunsAsMeant sections image) (streams : Content) (bytes : HoldBytes streams.inputs) (n : ℕ) (t : State) where
   abbrev meaning_is : Result
   meaning_is = meant sections image streams (suc n)
 
@@ -88,7 +87,7 @@ module _ (sections : List Declarations) (image : Image) (runs_so : RunsAsMeant s
 
 -- over streams whose content is known
 pub run_ends_as_meant : (sections : List Declarations) (image : Image) (steps : ℕ) (told tells : Type 0) (old new : Content) (before failed : ℕ) (end : End)
-    → RunsAsMeant sections image → told → All HoldsBytes old.inputs → IsRunFrom image steps told tells old new before failed end → EndsAsMeant sections image old steps new end
+    → RunsAsMeant sections image → told → HoldBytes old.inputs → IsRunFrom image steps told tells old new before failed end → EndsAsMeant sections image old steps new end
 run_ends_as_meant sections image steps told tells old new before failed end runs_so known bytes run =
     subst (λ c. EndsAsMeant sections image old steps c end) run.1
     (ends_as_meant sections image runs_so old bytes steps run.0 end (λ stops. run.2.exact known stops))

@@ -1,7 +1,7 @@
 -- What the items that `generate` gives do, whichever Cores it is given.
 use Rattle.std.specs.Prelude.{ℕ, ◌≡◌, ◌<◌, true, List, map, All, None, slice_index}
 use Rattle.bc_text_items.specs.declared.item.Item.{Item}
-use Rattle.bc_machine_defs.specs.Streams.{Content}
+use Rattle.bc_machine_defs.specs.Streams.{Content, HoldBytes}
 use Rattle.bc_link.specs.Refusals.{refusal_of}
 use Rattle.bc_link.specs.Linked.{image_of}
 use Rattle.bc_run.specs.Runs.{behind}
@@ -11,7 +11,6 @@ use Rattle.bc_core.specs.Meaning.{meaning}
 use Rattle.bc_core.specs.Same.{Same}
 use Rattle.bc_gen_defs.specs.Section.{section_items}
 use Rattle.bc_gen.specs.Chosen.{coding}
-use Rattle.bc_right_steps.specs.Leads.{HoldsBytes}
 use Rattle.bc_build.specs.Runs.{addresses, started}
 
 -- the items that `generate` gives for each of these sections
@@ -26,4 +25,4 @@ GeneratedRuns =
     → (let segments = behind (generated cores) in
     let image = image_of segments in
     refusal_of segments ≡ None → ((i : ℕ) → slice_index image.words i < 65536)
-    → (streams : Content) → All HoldsBytes streams.inputs → (n : ℕ) → Same (meaning cores (addresses image) streams n) n (started image streams))
+    → (streams : Content) → HoldBytes streams.inputs → (n : ℕ) → Same (meaning cores (addresses image) streams n) n (started image streams))

@@ -1,6 +1,6 @@
 -- What a program means, and what its image does.
-use Rattle.std.specs.Prelude.{ℕ, List, map, drop, All}
-use Rattle.bc_machine_defs.specs.Streams.{Content}
+use Rattle.std.specs.Prelude.{ℕ, List, map, drop}
+use Rattle.bc_machine_defs.specs.Streams.{Content, HoldBytes}
 use Rattle.bc_machine_defs.specs.State.{State, start}
 use Rattle.bc_machine_image.specs.declared.image.Image.{Image}
 use Rattle.bc_machine_image.specs.declared.image.SegmentPlace.{SegmentPlace}
@@ -11,7 +11,6 @@ use Rattle.bc_core.specs.Meaning.{Result}
 use Rattle.bc_core.specs.Same.{Same}
 use Rattle.bc_scope_defs.specs.Translation.{core_of}
 use Rattle.bc_scope_defs.specs.Sections.{meaning_of_sections}
-use Rattle.bc_right_steps.specs.Leads.{HoldsBytes}
 
 -- where an image has the places of its sections, which stand behind the primitives, and where its stack begins
 abbrev pub addresses : Image → Map
@@ -30,4 +29,4 @@ started image streams = start image.words image.stack_base streams
 -- is wild.
 pub record RunsAsMeant (sections : List Declarations) (image : Image) : Type 0 where
   pub is_map : IsMap (map core_of sections) (addresses image)
-  pub same : (streams : Content) → All HoldsBytes streams.inputs → (n : ℕ) → Same (meant sections image streams n) n (started image streams)
+  pub same : (streams : Content) → HoldBytes streams.inputs → (n : ℕ) → Same (meant sections image streams n) n (started image streams)

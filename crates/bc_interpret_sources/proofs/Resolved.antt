@@ -1,8 +1,8 @@
 -- The translations of mains, and what they mean.
 use Rattle.std.proofs.Common.{◌≡◌, ◌∙◌, ℕ, ◌+◌, ◌<◌, ◌≤◌, List, [], ◌∷◌, ◌++◌, map, length, drop, get_or, add-one, drop-cons, refl, sym, ap, subst}
-use Rattle.std.specs.Prelude.{None, Result, Ok, All}
+use Rattle.std.specs.Prelude.{None, Result, Ok}
 use Rattle.std.proofs.lemmas.List.{map-append, append_assoc, append-nil, drop_all}
-use Rattle.bc_machine_defs.specs.Streams.{Content}
+use Rattle.bc_machine_defs.specs.Streams.{Content, HoldBytes}
 use Rattle.bc_machine_image.specs.declared.image.Image.{Image}
 use Rattle.bc_lex_tokens.specs.Token.{Lexeme}
 use Rattle.bc_lex.specs.Files.{File}
@@ -16,7 +16,6 @@ use Rattle.bc_core.specs.Same.{Same}
 use Rattle.bc_scope_defs.specs.Translation.{core_of}
 use Rattle.bc_scope_defs.specs.Sections.{meaning_of_sections}
 use Rattle.bc_scope_laws.specs.Laws.{SectionsKeepTheirMeaning}
-use Rattle.bc_right_steps.specs.Leads.{HoldsBytes}
 use Rattle.bc_build.specs.Compiled.{IsAccepted, AreAccepted}
 use Rattle.bc_build.specs.Built.{IsBuilt}
 use Rattle.bc_build.specs.declared.building.Built.{Built}
@@ -73,7 +72,7 @@ means law sections cores image before after turns o e h =
     (law sections (addresses image) before turns ∙ ap (λ cs. meaning cs (addresses image) before turns) e) h
 
 -- and the image comes to the same
-pub runs_to : (sections : List Declarations) (image : Image) (before after : Content) (turns : ℕ) (o : Outcome) → RunsAsMeant sections image → All HoldsBytes before.inputs
+pub runs_to : (sections : List Declarations) (image : Image) (before after : Content) (turns : ℕ) (o : Outcome) → RunsAsMeant sections image → HoldBytes before.inputs
     → IsResult (meant sections image before turns) o after → RunsTo image turns before o after
 runs_to sections image before after turns (outs.Ended e) r bytes h = subst (λ x. Same x turns (started image before)) h (r.same before bytes turns)
 runs_to sections image before after turns outs.Going r bytes h = subst (λ x. Same x turns (started image before)) h (r.same before bytes turns)

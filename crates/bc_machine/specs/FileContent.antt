@@ -1,8 +1,7 @@
 -- What streams over readers and writers hold, where the readers tell what is left of them and the writers what they
 -- were given.
 use Rattle.std.specs.Prelude.{ℕ, List, [], ◌∷◌, map, cond, false, Option, Some, None}
-use Rattle.bc_machine_defs.specs.Streams.{Input, Output, Content}
-use Rattle.bc_machine.specs.Bytes.{HoldBytes}
+use Rattle.bc_machine_defs.specs.Streams.{Input, Output, Content, HoldBytes}
 use Rattle.bc_machine.specs.Known.{AllKnown}
 use Rattle.bc_machine_defs.specs.StreamStart.{fresh_input}
 use Rattle.bc_machine.specs.declared.names.Named.{Named}

@@ -1,4 +1,3 @@
-pub mod Bytes
 pub mod Devices
 pub mod Ends
 pub mod Examples

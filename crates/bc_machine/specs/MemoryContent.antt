@@ -1,7 +1,6 @@
 -- What streams in memory hold.
 use Rattle.std.specs.Prelude.{ℕ, ◌+◌, ◌≡◌, ◌≤◌, ◌==◌, List, [], ◌∷◌, map, filter, drop, length, ◌++◌, Option, Some, None, Bool, true, false, cond}
-use Rattle.bc_machine_defs.specs.Streams.{Input, Output, Content, numbered}
-use Rattle.bc_machine.specs.Bytes.{HoldBytes}
+use Rattle.bc_machine_defs.specs.Streams.{Input, Output, Content, numbered, HoldBytes}
 use Rattle.bc_machine.specs.declared.memory.MemoryInput.{MemoryInput}
 use Rattle.bc_machine.specs.declared.names.NamedOutput.{NamedOutput}
 use Rattle.bc_machine.specs.declared.memory.MemoryStreams.{MemoryStreams}

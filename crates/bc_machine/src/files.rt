@@ -166,7 +166,7 @@ impl<R: Read, W: Write> FileStreams<R, W> {
     ghost use Rattle.bc_machine.specs.declared.faults.StreamsError.TheVariants as faults;
     ghost use Rattle.bc_machine.specs.Names.{given_names};
     ghost use Rattle.bc_machine.specs.FileContent.{file_content, file_writers, file_failures, fresh_inputs, fresh_outputs, devices, AllTell, AllTold, IsKnown};
-    ghost use Rattle.bc_machine.specs.Bytes.{HoldBytes};
+    ghost use Rattle.bc_machine_defs.specs.Streams.{HoldBytes};
 
     /// The streams over these named readers and writers, with input 1 and output 1 selected.
     ///

@@ -46,7 +46,7 @@ impl MemoryInput {
 impl MemoryInput {
     ghost use Rattle.std.specs.Prelude.{◌≡◌, IfOk, map};
     ghost use Rattle.bc_machine_defs.specs.StreamStart.{fresh_input};
-    ghost use Rattle.bc_machine.specs.Bytes.{AreBytes, HoldBytes};
+    ghost use Rattle.bc_machine_defs.specs.Streams.{AreBytes, HoldBytes};
     ghost use Rattle.bc_machine.specs.MemoryContent.{memory_input};
     ghost use Rattle.bc_machine.specs.Names.{named_bytes};
 

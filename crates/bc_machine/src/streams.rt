@@ -1,7 +1,6 @@
 ghost use Rattle.std.specs.Prelude.{◌≡◌, ◌≤◌, ℕ, OnOk, OnErr, IfOk};
-ghost use Rattle.bc_machine_defs.specs.Streams.{Content};
 ghost use Rattle.bc_machine_defs.specs.StreamCalls.{find_stream, select_stream, read_byte, after_read, after_write, end_stream};
-ghost use Rattle.bc_machine.specs.Bytes.{HoldBytes};
+ghost use Rattle.bc_machine_defs.specs.Streams.{Content, HoldBytes};
 ghost use Rattle.bc_machine.specs.Rose.{Rose};
 
 use crate::faults::DeviceFault;

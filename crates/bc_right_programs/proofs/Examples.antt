@@ -5,7 +5,7 @@ use Rattle.std.proofs.lemmas.Bool.{cases_lt}
 use Rattle.std.proofs.lemmas.Bool.Decides.{nat_tests}
 use Rattle.std.proofs.lemmas.List.{get_or-replicate, length-replicate}
 use Rattle.std.proofs.Math.ListN.{get_or-eq_default}
-use Rattle.bc_machine_defs.specs.Streams.{Content}
+use Rattle.bc_machine_defs.specs.Streams.{Content, HoldBytes}
 use Rattle.bc_machine_defs.specs.State.{start}
 use Rattle.bc_core.specs.Commands.{block, no_item, command, Does, Core, Code}
 use Rattle.bc_core.specs.Commands as c
@@ -18,7 +18,6 @@ use Rattle.bc_gen_defs.specs.Bodies.{coding_of}
 use Rattle.bc_link.specs.Layout.{stack_base_of}
 use Rattle.bc_link.specs.Refusals.{refusal_of}
 use Rattle.bc_link.specs.Store.{boot, globals_of, words_from, store_of}
-use Rattle.bc_right_steps.specs.Leads.{HoldsBytes}
 use Rattle.bc_right_rules.specs.Right.{Choice}
 use Rattle.bc_right_programs.specs.Linked.{segments_of, linked_map}
 use Rattle.bc_right_programs.proofs.Program.{programs_run}
@@ -68,7 +67,7 @@ module _ (T : Table) (choice : Choice T) where
   pub finishing_is_map : IsMap (finishing ∷ []) (linked_map (coding_of choice) (finishing ∷ []))
   finishing_is_map = linked_map_is_map T choice (finishing ∷ []) accepted
 
-  pub finishing_runs : (streams : Content) → All HoldsBytes streams.inputs → (n : ℕ)
+  pub finishing_runs : (streams : Content) → HoldBytes streams.inputs → (n : ℕ)
       → (let segments = segments_of (coding_of choice) (finishing ∷ []) in
       Same (meaning (finishing ∷ []) (linked_map (coding_of choice) (finishing ∷ [])) streams n) n (start (store_of segments) (stack_base_of segments) streams))
   finishing_runs streams bytes n = programs_run T choice (finishing ∷ []) fits accepted store_small streams bytes n

@@ -8,7 +8,7 @@ use Rattle.bc_text_items.specs.declared.item.Item.{Item}
 use Rattle.bc_text_items.specs.Sizes.{size_of_all}
 use Rattle.bc_text_items.specs.Assembled.{assembled, label_places, global_settings}
 use Rattle.bc_text_items.proofs.Parts as items
-use Rattle.bc_machine_defs.specs.Streams.{Content}
+use Rattle.bc_machine_defs.specs.Streams.{Content, HoldBytes}
 use Rattle.bc_machine_defs.specs.State.{start}
 use Rattle.bc_core.specs.Commands as commands
 use Rattle.bc_core.specs.Commands.{Place, Core}
@@ -31,7 +31,6 @@ use Rattle.std.specs.List.{flat_map}
 use Rattle.std.specs.Option.{option_map}
 use Rattle.bc_link.specs.Store.{boot, words_from, globals_of, store_of}
 use Rattle.bc_link.proofs.Lengths.{length-assembled}
-use Rattle.bc_right_steps.specs.Leads.{HoldsBytes}
 use Rattle.bc_right_steps.specs.CodeAt.{HasWords, HasItems, words}
 use Rattle.bc_right_steps.specs.Landing.{Moment, Stands}
 use Rattle.bc_right_rules.specs.Right.{Choice}
@@ -388,7 +387,7 @@ module _ (T : Table) (choice : Choice T) (cores : List Core) (accepted : refusal
     spans = cells_length all_standing;
   }
 
-  pub program_runs : AllFit T choice linked_store cores → ((i : ℕ) → slice_index linked_store i < 65536) → (streams : Content) → All HoldsBytes streams.inputs → (n : ℕ) → Same (meaning cores (linked_map (coding_of choice) cores) streams n) n (start linked_store base streams)
+  pub program_runs : AllFit T choice linked_store cores → ((i : ℕ) → slice_index linked_store i < 65536) → (streams : Content) → HoldBytes streams.inputs → (n : ℕ) → Same (meaning cores (linked_map (coding_of choice) cores) streams n) n (start linked_store base streams)
   unfolding moment_of_start all_standing
   program_runs fit store_words streams bytes n =
       let top_fits : base + 2 < 65536 = let f = fits in omega arith in

@@ -6,7 +6,7 @@ use Rattle.bc_text_items.specs.declared.item.Item.{Item}
 use Rattle.bc_text_items.specs.declared.item.Item.TheVariants.{Label, Operation, Global}
 use Rattle.bc_text_items.specs.declared.item.Base.TheVariants as bases
 use Rattle.bc_text_items.specs.declared.item.Function.TheVariants as functions
-use Rattle.bc_machine_defs.specs.Streams.{Content}
+use Rattle.bc_machine_defs.specs.Streams.{Content, HoldBytes}
 use Rattle.bc_machine_defs.specs.State.{start}
 use Rattle.bc_core.specs.Commands.{Core}
 use Rattle.bc_core.specs.WellFormed.{is_core}
@@ -20,7 +20,6 @@ use Rattle.bc_link.specs.Labels.{label_address}
 use Rattle.bc_link.specs.Layout.{stack_base_of}
 use Rattle.bc_link.specs.Refusals.{refusal_of}
 use Rattle.bc_link.specs.Store.{store_of}
-use Rattle.bc_right_steps.specs.Leads.{HoldsBytes}
 use Rattle.bc_right_rules.specs.Right.{Choice}
 
 -- `LIP2`, `L0` and `Xn`
@@ -84,5 +83,5 @@ ProgramsRun =
     (T : Table) (choice : Choice T) (cores : List Core) → All (λ core. is_core core ≡ true) cores
     → (let segments = segments_of (coding_of choice) cores in
     refusal_of segments ≡ None → ((i : ℕ) → slice_index (store_of segments) i < 65536)
-    → (streams : Content) → All HoldsBytes streams.inputs → (n : ℕ)
+    → (streams : Content) → HoldBytes streams.inputs → (n : ℕ)
     → Same (meaning cores (linked_map (coding_of choice) cores) streams n) n (start (store_of segments) (stack_base_of segments) streams))

@@ -1,6 +1,6 @@
 -- From sections as they are parsed to the run of the machine.
 use Rattle.std.specs.Prelude.{ℕ, ◌≡◌, ◌≤◌, ◌<◌, List, map, All, None, slice_index}
-use Rattle.bc_machine_defs.specs.Streams.{Content}
+use Rattle.bc_machine_defs.specs.Streams.{Content, HoldBytes}
 use Rattle.bc_machine_defs.specs.State.{start}
 use Rattle.bc_parse_tree.specs.Tree.{Declarations}
 use Rattle.bc_parse_tree.specs.Size.{declarations_size}
@@ -13,7 +13,6 @@ use Rattle.bc_gen_defs.specs.Bodies.{coding_of}
 use Rattle.bc_link.specs.Layout.{stack_base_of}
 use Rattle.bc_link.specs.Refusals.{refusal_of}
 use Rattle.bc_link.specs.Store.{store_of}
-use Rattle.bc_right_steps.specs.Leads.{HoldsBytes}
 use Rattle.bc_right_rules.specs.Right.{Choice}
 use Rattle.bc_right_programs.specs.Linked.{segments_of, linked_map}
 
@@ -30,5 +29,5 @@ SectionsRun =
     let cores = map core_of sections in
     let segments = segments_of coding cores in
     refusal_of segments ≡ None → ((i : ℕ) → slice_index (store_of segments) i < 65536)
-    → (streams : Content) → All HoldsBytes streams.inputs → (n : ℕ)
+    → (streams : Content) → HoldBytes streams.inputs → (n : ℕ)
     → Same (meaning_of_sections sections (linked_map coding cores) streams n) n (start (store_of segments) (stack_base_of segments) streams))

@@ -1,9 +1,8 @@
 -- The machine keeps words in its registers and its store: each function, each operation, each operator does.
 use Rattle.std.proofs.Common.{◌≡◌, ◌⊎◌, inl, inr, ⊎_elim, ℕ, zero, suc, ◌+◌, ◌-◌, ◌*◌, ◌/◌, ◌%◌, ◌<◌, ◌≤◌, ◌==◌, List, [], ◌∷◌, Bool, true, false, Option, Some, None, length, refl, sym, ap, ◌∙◌, subst, arith}
-use Rattle.std.specs.Prelude.{slice_index, slice_set, cond, nat_le, ◌^◌, ℤ, pos, negsuc, All, slice_get}
+use Rattle.std.specs.Prelude.{slice_index, slice_set, cond, nat_le, ◌^◌, ℤ, pos, negsuc}
 use Rattle.std.specs.List.{position_from}
 use Rattle.std.specs.Str.{bytes_eq}
-use Rattle.std.proofs.lemmas.List.Elements.{All-set}
 use Rattle.std.specs.Int.Bits.{and_lt}
 use Rattle.std.proofs.lemmas.Nat.{or_lt, xor_lt}
 use Rattle.std.proofs.lemmas.Bool.{cases_lt}
@@ -19,8 +18,8 @@ use Rattle.bc_machine_defs.specs.declared.operation.Operation.{Operation}
 use Rattle.bc_machine_defs.specs.declared.operation.Operation.TheVariants.{Indirect, Negate, Complement, Return, Operate, Finish, Switch, Select, Read, Write, Find, EndStream, Bad}
 use Rattle.bc_machine_defs.specs.declared.streams.Side.{Side}
 use Rattle.bc_machine_defs.specs.declared.streams.Side.TheVariants as sides
-use Rattle.bc_machine_defs.specs.Streams.{Content, Input, Output, numbered}
-use Rattle.bc_machine_defs.specs.StreamCalls.{names_of, find_stream, number_or_none, select_stream, read_byte, after_read, after_write, end_stream, next_byte, behind_byte, byte_of_input, with_input_read, with_output_written, with_input_ended, with_output_ended}
+use Rattle.bc_machine_defs.specs.Streams.{Content, Input, Output, numbered, AreBytes, HoldBytes}
+use Rattle.bc_machine_defs.specs.StreamCalls.{names_of, find_stream, number_or_none, select_stream, read_byte, after_read, after_write, end_stream, next_byte, byte_of_input}
 use Rattle.bc_machine_defs.specs.State.{State, state}
 use Rattle.bc_machine_defs.specs.Effect.{Effect}
 use Rattle.bc_machine_defs.specs.Instruction as steps
@@ -32,7 +31,8 @@ use Rattle.bc_machine_defs.specs.Step.{step, perform}
 use Rattle.bc_machine_defs.specs.Run.{runs, ended}
 use Rattle.bc_machine_defs.specs.Operand.{next, based, address_of, operand_of, behind}
 use Rattle.bc_machine_defs.specs.Switch.{case_of, switch_of}
-use Rattle.bc_right_steps.specs.Leads.{HoldsBytes, AreWords}
+use Rattle.bc_machine_laws.proofs.Bytes.{numbered_at, read_keeps, write_keeps, end_keeps}
+use Rattle.bc_right_steps.specs.Leads.{AreWords}
 use Rattle.bc_right_steps.specs.Keeping.{WordsAreKept}
 
 wrapped_small : (z : ℤ) → wrapped z < 65536
@@ -105,7 +105,7 @@ record SmallRegisters (r : Registers) : Type 0 where
   c : r.c < 65536
   p : r.p < 65536
 
-made : (r : Registers) (store : List ℕ) (streams : Content) → SmallRegisters r → Small store → All HoldsBytes streams.inputs → AreWords (state r store streams)
+made : (r : Registers) (store : List ℕ) (streams : Content) → SmallRegisters r → Small store → HoldBytes streams.inputs → AreWords (state r store streams)
 made r store streams h m i = record { a = h.a; b = h.b; c = h.c; p = h.p; store = m; inputs = i }
 
 by_test_small : (t : Bool) (v w : ℕ) → v < 65536 → w < 65536 → (elim t [ true ↦ v | false ↦ w ]) < 65536
@@ -126,55 +126,18 @@ number_small (Some n) = by_test (nat_le n 65535) refl where
   by_test false e = omega arith
 
 -- the streams
-all_at : (inputs : List Input) (k : ℕ) (i : Input) → All HoldsBytes inputs → slice_get inputs k ≡ Some i → HoldsBytes i
-all_at [] k i h e = absurd (let f : None ≡ Some i = e in cc)
-all_at (x ∷ xs) zero i h e = let same : x ≡ i = cc in let first : 0 < suc (length xs) = omega arith in subst HoldsBytes same (h 0 x first)
-all_at (x ∷ xs) (suc k) i h e = all_at xs k i (λ n d lt. h (suc n) d (omega arith)) e
-
-numbered_at : (inputs : List Input) (n : ℕ) (i : Input) → All HoldsBytes inputs → numbered inputs n ≡ Some i → HoldsBytes i
-numbered_at inputs zero i h e = absurd (let f : None ≡ Some i = e in cc)
-numbered_at inputs (suc n) i h e = all_at inputs n i h e
-
-next_small : (ended : Bool) (rest : List ℕ) → All (λ byte. byte < 256) rest → byte_or_end (next_byte ended rest) < 65536
+next_small : (ended : Bool) (rest : List ℕ) → AreBytes rest → byte_or_end (next_byte ended rest) < 65536
 next_small true rest h = omega arith
 next_small false [] h = omega arith
 next_small false (byte ∷ rest) h = let first : 0 < suc (length rest) = omega arith in let small : byte < 256 = h 0 byte first in omega arith
 
-behind_small : (ended : Bool) (rest : List ℕ) → All (λ byte. byte < 256) rest → All (λ byte. byte < 256) (behind_byte ended rest)
-behind_small true rest h = h
-behind_small false [] h = h
-behind_small false (byte ∷ rest) h = λ n d lt. h (suc n) d (omega arith)
-
-read_small : (c : Content) → All HoldsBytes c.inputs → byte_or_end (read_byte c) < 65536
+read_small : (c : Content) → HoldBytes c.inputs → byte_or_end (read_byte c) < 65536
 read_small c h = by_input (numbered c.inputs c.input) refl where
   by_input : (i : Option Input) → numbered c.inputs c.input ≡ i → byte_or_end (byte_of_input i) < 65536
   by_input None e = omega arith
   by_input (Some i) e = next_small i.ended i.rest (numbered_at c.inputs c.input i h e)
 
-read_keeps : (c : Content) → All HoldsBytes c.inputs → All HoldsBytes (after_read c).inputs
-read_keeps c h = by_input (numbered c.inputs c.input) refl where
-  by_input : (i : Option Input) → numbered c.inputs c.input ≡ i → All HoldsBytes (with_input_read i c).inputs
-  by_input None e = h
-  by_input (Some i) e =
-      All-set HoldsBytes c.inputs (c.input - 1) (record i { rest = behind_byte i.ended i.rest }) (behind_small i.ended i.rest (numbered_at c.inputs c.input i h e)) h
-
-write_keeps : (byte : ℕ) (c : Content) → All HoldsBytes c.inputs → All HoldsBytes (after_write byte c).inputs
-write_keeps byte c h = by_output (numbered c.outputs c.output) where
-  by_output : (o : Option Output) → All HoldsBytes (with_output_written o byte c).inputs
-  by_output None = h
-  by_output (Some o) = h
-
-end_keeps : (side : Side) (c : Content) → All HoldsBytes c.inputs → All HoldsBytes (end_stream side c).inputs
-end_keeps sides.Input c h = by_input (numbered c.inputs c.input) refl where
-  by_input : (i : Option Input) → numbered c.inputs c.input ≡ i → All HoldsBytes (with_input_ended i c).inputs
-  by_input None e = h
-  by_input (Some i) e = All-set HoldsBytes c.inputs (c.input - 1) (record i { ended = true }) (numbered_at c.inputs c.input i h e) h
-end_keeps sides.Output c h = by_output (numbered c.outputs c.output) where
-  by_output : (o : Option Output) → All HoldsBytes (with_output_ended o c).inputs
-  by_output None = h
-  by_output (Some o) = h
-
-select_keeps : (side : Side) (n : ℕ) (c : Content) → All HoldsBytes c.inputs → All HoldsBytes (select_stream side n c).inputs
+select_keeps : (side : Side) (n : ℕ) (c : Content) → HoldBytes c.inputs → HoldBytes (select_stream side n c).inputs
 select_keeps sides.Input n c h = h
 select_keeps sides.Output n c h = h
 

@@ -1,7 +1,7 @@
 -- The machine leads from one state to another, while the source takes turns.
-use Rattle.std.specs.Prelude.{ℕ, ◌≡◌, ◌+◌, ◌≤◌, ◌<◌, List, All, slice_index}
+use Rattle.std.specs.Prelude.{ℕ, ◌≡◌, ◌+◌, ◌≤◌, ◌<◌, List, slice_index}
 use Rattle.bc_machine_defs.specs.declared.state.End.{End}
-use Rattle.bc_machine_defs.specs.Streams.{Content, Input}
+use Rattle.bc_machine_defs.specs.Streams.{Content, HoldBytes}
 use Rattle.bc_machine_defs.specs.State.{State, state}
 use Rattle.bc_machine_defs.specs.Run.{runs}
 
@@ -19,10 +19,6 @@ pub record StopsAt (x : State) (j : ℕ) (end : End) (streams : Content) : Type 
   pub end_is : (runs j x).1 ≡ end
   pub streams_are : (runs j x).0.streams ≡ streams
 
--- the bytes that an input holds
-abbrev pub HoldsBytes : Input → Type 0
-HoldsBytes i = All (λ byte. byte < 256) i.rest
-
 -- registers and store hold words, and inputs bytes
 pub record AreWords (x : State) : Type 0 where
   pub a : x.registers.a < 65536
@@ -30,4 +26,4 @@ pub record AreWords (x : State) : Type 0 where
   pub c : x.registers.c < 65536
   pub p : x.registers.p < 65536
   pub store : (i : ℕ) → slice_index x.store i < 65536
-  pub inputs : All HoldsBytes x.streams.inputs
+  pub inputs : HoldBytes x.streams.inputs

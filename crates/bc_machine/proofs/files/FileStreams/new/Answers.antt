@@ -1,5 +1,5 @@
 use Rattle.std.proofs.Common.{Some, None, map, sym, ap, ◌∙◌, subst}
-use Rattle.bc_machine.specs.Bytes.{HoldBytes}
+use Rattle.bc_machine_defs.specs.Streams.{HoldBytes}
 use Rattle.bc_machine.specs.Known.{AllKnown}
 use Rattle.bc_machine.specs.Names.{given_names}
 use Rattle.bc_machine.specs.Refusal.{refusal_in}

@@ -4,7 +4,8 @@ use Rattle.bc_machine.specs.FileContent.{file_content, file_input, file_outputs}
 use Rattle.bc_machine.proofs.Tables.{content, reads, reads_on}
 use Rattle.bc_machine.proofs.FileOutputs.{known_at, known_after}
 use Rattle.bc_machine.proofs.FileSteps.{same_told}
-use Rattle.bc_machine.proofs.Held.{held, read_keeps}
+use Rattle.bc_machine.proofs.Held.{held}
+use Rattle.bc_machine_laws.proofs.Bytes.{read_keeps}
 use Rattle.bc_machine.proofs.files.FileStreamsStreams.read.Goals as goal
 
 pub returns-in-Ok-clause-byte : goal.returns-in-Ok-clause-byte

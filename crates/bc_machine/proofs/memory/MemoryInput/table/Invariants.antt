@@ -1,6 +1,6 @@
 use Rattle.std.proofs.Common.{◌≡◌, map}
 use Rattle.bc_machine_defs.specs.StreamStart.{fresh_input}
-use Rattle.bc_machine.specs.Bytes.{HoldBytes}
+use Rattle.bc_machine_defs.specs.Streams.{HoldBytes}
 use Rattle.bc_machine.specs.MemoryContent.{memory_input}
 use Rattle.bc_machine.specs.Names.{named_bytes}
 use Rattle.bc_machine.proofs.memory.MemoryInput.table.Given as goal

@@ -3,7 +3,8 @@ use Rattle.bc_machine_defs.specs.StreamCalls.{end_stream}
 use Rattle.bc_machine.specs.MemoryContent.{memory_content, memory_input, memory_outputs}
 use Rattle.bc_machine.proofs.Tables.{content, ends_input, end_output-at}
 use Rattle.bc_machine.proofs.MemoryOutputs.{numbered_output, memory_outputs-ended, output_at}
-use Rattle.bc_machine.proofs.Held.{held, end_keeps}
+use Rattle.bc_machine.proofs.Held.{held}
+use Rattle.bc_machine_laws.proofs.Bytes.{end_keeps}
 use Rattle.bc_machine.proofs.memory.MemoryStreamsStreams.end.Goals as goal
 
 pub returns-then-self-gt0-clause-content : goal.returns-then-self-gt0-clause-content
