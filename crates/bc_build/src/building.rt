@@ -119,7 +119,7 @@ pub fn build(alloc: Global, sources: &[Source<'_>], mains: &[usize]) -> Result<B
     ensures refused { IfErr result (IsRefused (files_of sources.now) mains.now) }
 {
     bc_gen_labels::laws::labels_stand_once();
-    bc_gen_labels::laws::sections_keep_rules();
+    bc_scope_laws::laws::sections_fit();
     bc_right_sections::laws::sections_run();
     bc_right_programs::laws::linked_map_is_map();
     let mut segments = Vec::new(alloc);

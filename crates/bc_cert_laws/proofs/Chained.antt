@@ -13,7 +13,7 @@ use Rattle.bc_rules_defs.specs.Free as free
 use Rattle.bc_rules_defs.specs.Rules.{Derives, v0, v1, v2, v3, v4, v6, v7, v8, v9, v10, v11, j6, Tree, by, one, shape}
 use Rattle.bc_rules_defs.specs.Code.{cost}
 use Rattle.bc_select_defs.specs.Least.{rule_number, first_rule}
-use Rattle.bc_cert_node.specs.declared.costs.Costs.{Costs}
+use Rattle.bc_cert_defs.specs.declared.costs.Costs.{Costs}
 use Rattle.bc_cert_node.specs.declared.facts.Facts.{Facts}
 use Rattle.bc_cert_node.specs.declared.form.Form.{Form}
 use Rattle.bc_cert_node.specs.declared.recipe.Recipe.{Recipe}

@@ -25,7 +25,8 @@ letter_of A3 = 65
 letter_of _ = 86
 
 abbrev pub all_rules : List Rule
-all_rules = V0 ∷ V1 ∷ V2 ∷ V3 ∷ V4 ∷ V6 ∷ V7 ∷ V8 ∷ V9 ∷ V10 ∷ V11 ∷ V12 ∷ V13 ∷ V14 ∷ V15 ∷ V16 ∷ V17 ∷ V18 ∷ V19 ∷ V20 ∷ V21 ∷ V22 ∷ J1 ∷ J2 ∷ J3 ∷ J4 ∷ J5 ∷ J6 ∷ J7 ∷ J8 ∷ J9 ∷ A1 ∷ A2 ∷ A3 ∷ []
+all_rules = V0 ∷ V1 ∷ V2 ∷ V3 ∷ V4 ∷ V6 ∷ V7 ∷ V8 ∷ V9 ∷ V10 ∷ V11 ∷ V12 ∷ V13 ∷ V14 ∷ V15 ∷ V16 ∷ V17 ∷ V18 ∷ V19 ∷ V20 ∷ V21 ∷ V22 ∷ J1 ∷ J2 ∷ J3 ∷ J4
+    ∷ J5 ∷ J6 ∷ J7 ∷ J8 ∷ J9 ∷ A1 ∷ A2 ∷ A3 ∷ []
 
 abbrev pub found : ℕ → ℕ → List Rule → Option Rule
 found letter n [] = None

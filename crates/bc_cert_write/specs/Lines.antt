@@ -13,7 +13,7 @@ use Rattle.bc_rules_defs.specs.declared.piece.Piece.{Piece}
 use Rattle.bc_rules_defs.specs.declared.piece.Piece.TheVariants.{Item, Body}
 use Rattle.bc_rules_defs.specs.Rules.{RootDerives, value, test, a1, a2, a3}
 use Rattle.bc_select_defs.specs.Least.{rule_number}
-use Rattle.bc_select_defs.specs.Choices.{choices, words_for}
+use Rattle.bc_select_defs.specs.LeastOf.{least_words_of}
 use Rattle.bc_text.specs.Printed.{printed}
 use Rattle.bc_cert_write.specs.Shown.{Shown}
 
@@ -73,10 +73,9 @@ abbrev pub words_field : Option ℕ → List ℕ
 words_field None = 45 ∷ []
 words_field (Some n) = decimal n
 
--- The least words of a node's derivations for an aim. That no derivation has fewer, and that one has as many, is the
--- law `choices_are_least` of bc_select_defs.
+-- the least words of a node's derivations for an aim
 abbrev pub least_words : Table → Aim → Shown → Option ℕ
-least_words T aim n = words_for aim (choices T n.expression n.level)
+least_words T aim n = least_words_of T n.expression aim n.level
 
 -- `level form any push false true rules`
 abbrev pub node_line : Table → Shown → List ℕ

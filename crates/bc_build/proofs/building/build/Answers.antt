@@ -79,4 +79,4 @@ returns-clause-refused c =
     let mains = c.args.mains.now in
     let n = c.loop-number.number in
     let a = subst (λ left. AreCoded files mains n left c.loop-number.segments.items c.loop-number.entries.items) (no_main mains n c.loop-number-test.false) c.loop-number.invariant in
-    IfErr-weaker c.linked.result _ _ (λ e l. link_refused c.labels_stand_once.ensures c.sections_keep_rules.ensures files mains n c.loop-number.segments.items c.loop-number.entries.items e a l) c.linked.ensures.refused
+    IfErr-weaker c.linked.result _ _ (λ e l. link_refused c.labels_stand_once.ensures c.sections_fit.ensures files mains n c.loop-number.segments.items c.loop-number.entries.items e a l) c.linked.ensures.refused
