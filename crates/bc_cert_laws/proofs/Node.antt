@@ -21,7 +21,7 @@ use Rattle.bc_cert_lines.specs.declared.chain.Chain.{Chain}
 use Rattle.bc_cert_lines.specs.declared.chain.Rules.{Rules}
 use Rattle.bc_cert_lines.specs.declared.chain.Rules.TheVariants.{Taken, Named}
 use Rattle.bc_cert_lines.specs.declared.lines.NodeLine.{NodeLine}
-use Rattle.bc_cert_lines.specs.Chains.{rule_named}
+use Rattle.bc_rules_defs.specs.Names.{rule_named}
 use Rattle.bc_cert_trees.specs.declared.mark.Mark.{Mark}
 use Rattle.bc_cert_trees.specs.declared.mark.Shown as marks
 use Rattle.bc_cert_trees.specs.declared.place.Place.{Place}

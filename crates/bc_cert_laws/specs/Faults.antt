@@ -13,13 +13,14 @@ use Rattle.bc_rules_defs.specs.declared.rule.Rule.{Rule}
 use Rattle.bc_rules_defs.specs.declared.rule.Rule.TheVariants.{A1, A2, A3}
 use Rattle.bc_rules_defs.specs.Rules.{Derives, RootDerives}
 use Rattle.bc_rules_defs.specs.Code.{cost, root_code, root_labels, root_cost}
-use Rattle.bc_select_defs.specs.Least.{rule_number, AreLeastWords}
+use Rattle.bc_select_defs.specs.Least.{AreLeastWords}
+use Rattle.bc_rules_defs.specs.Names.{rule_number, rule_letter}
 use Rattle.bc_cert_defs.specs.declared.check_fault.CheckFault.{CheckFault}
 use Rattle.bc_cert_defs.specs.declared.check_fault.CheckFault.TheVariants.{Header, Line, Truncated, WrongCost, WrongRule, WrongCode, WrongWords, TooDeep}
 use Rattle.bc_cert_defs.specs.Text.{header_line, end_line}
 use Rattle.bc_cert_defs.specs.Verdict.{Judged}
 use Rattle.bc_cert_write.specs.Shown.{Shown, shown, root_shown}
-use Rattle.bc_cert_write.specs.Lines.{line, rule_letter, rule_name, form_field, words_field, sense_field, entry_line, node_line as line_of_node, root_line as line_of_root}
+use Rattle.bc_cert_write.specs.Lines.{line, rule_name, form_field, words_field, sense_field, entry_line, node_line as line_of_node, root_line as line_of_root}
 use Rattle.bc_cert_defs.specs.declared.costs.Costs.{Costs}
 use Rattle.bc_cert_defs.specs.declared.head.Head.{Head}
 use Rattle.bc_cert_laws.specs.Entries.{IsNumber, IsSmall, IsLevel, HasSmallNumber, nested, NodeHasRoom, PieceHasRoom, pieces_line, SamePiece}

@@ -9,7 +9,6 @@ mod form;
 pub mod laws;
 mod lines;
 mod mark;
-mod rule_names;
 mod slot;
 mod text;
 mod trees;

@@ -13,7 +13,8 @@ use Rattle.bc_rules_defs.specs.Code.{cost}
 use Rattle.bc_select_defs.specs.declared.choice.Choice.{Choice}
 use Rattle.bc_select_defs.specs.declared.choice.Choices.{Choices}
 use Rattle.bc_select_defs.specs.Readings.{tree_for, tree_of, read_line, leaf_parts, part_parts, not_parts, pair_parts, cond_parts, call_parts, readings, readings_of_all}
-use Rattle.bc_select_defs.specs.Least.{rule_number, top, first_rule, IsLeastRule}
+use Rattle.bc_select_defs.specs.Least.{top, first_rule, IsLeastRule}
+use Rattle.bc_rules_defs.specs.Names.{rule_number}
 use Rattle.bc_select_defs.specs.Options.{words_of, rule_of}
 use Rattle.bc_select_defs.specs.Choices.{choice_for, zero_number, choices}
 use Rattle.bc_select_defs.specs.Folds.{AtMost}

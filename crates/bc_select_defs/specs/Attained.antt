@@ -25,7 +25,8 @@ use Rattle.bc_rules_defs.specs.Piece.{w, operand_words}
 use Rattle.bc_select_defs.specs.declared.choice.Choice.{Choice}
 use Rattle.bc_select_defs.specs.declared.choice.Choices.{Choices}
 use Rattle.bc_select_defs.specs.declared.choice.Candidate.{Candidate}
-use Rattle.bc_select_defs.specs.Least.{rule_number, top, first_rule, IsLeast, HasLeastParts, HaveLeastParts}
+use Rattle.bc_select_defs.specs.Least.{top, first_rule, IsLeast, HasLeastParts, HaveLeastParts}
+use Rattle.bc_rules_defs.specs.Names.{rule_number}
 use Rattle.bc_select_defs.specs.Options.{plus, more, sum, only, operand_cost, words_of, candidate, least_from}
 use Rattle.bc_select_defs.specs.Choices.{choice_for, words_for, line, by_value, number_cost, zero_number, without, mixed, worked, number_tests, not_tests, pair_tests, has_tests_of_zero, node, choices, words_of_all}
 use Rattle.bc_select_defs.specs.Folds.{AtMost}

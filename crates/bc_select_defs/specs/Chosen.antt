@@ -19,7 +19,8 @@ use Rattle.bc_rules_defs.specs.Rules.{Derives, v0, v1, v2, v3, v4, v17, v20, v22
 use Rattle.bc_rules_defs.specs.Code.{cost, root_cost}
 use Rattle.bc_select_defs.specs.declared.choice.Choice.{Choice}
 use Rattle.bc_select_defs.specs.declared.choice.Node.{Node}
-use Rattle.bc_select_defs.specs.Least.{rule_number, top, first_rule, RootIsLeast, RootHasLeastParts, AreLeastWords}
+use Rattle.bc_select_defs.specs.Least.{top, first_rule, RootIsLeast, RootHasLeastParts, AreLeastWords}
+use Rattle.bc_rules_defs.specs.Names.{rule_number}
 use Rattle.bc_select_defs.specs.Options.{plus, sum, given, words_of, candidate, least_from}
 use Rattle.bc_select_defs.specs.Choices.{choice_for, words_for, free, choices, node_of}
 use Rattle.bc_select_defs.specs.Folds.{Chooses, AtMost, by_rule, words}

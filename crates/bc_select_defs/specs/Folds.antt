@@ -5,7 +5,7 @@ use Rattle.std.proofs.lemmas.Bool.{cond_both, ltb-true, ltb-false, leb-true, eqb
 use Rattle.bc_rules_defs.specs.declared.rule.Rule.{Rule}
 use Rattle.bc_select_defs.specs.declared.choice.Choice.{Choice}
 use Rattle.bc_select_defs.specs.declared.choice.Candidate.{Candidate}
-use Rattle.bc_select_defs.specs.Least.{rule_number}
+use Rattle.bc_rules_defs.specs.Names.{rule_number}
 use Rattle.bc_select_defs.specs.Options.{words_of, choice, better, least_from}
 
 -- there are words, and at most k
