@@ -475,4 +475,4 @@ mutual
       let he = exp_fit A E at e s so (first (Stands A) (found E at e s) of_items h) in
       let hs = items_stand A true faults.none_met (faults.in_a_switch W) (fitting.labels_of items ++ L) E1 k at1 is s (omega arith) (sound_in_list E1 k at1 is s E so) (second (Stands A) (found E at e s) of_items h) (none_right _ _ n) in
       λ i. root_fit A (forms E at e).content s (exp_size e) (small E at e).1 (omega arith) he.1 i && distinct E1 k at1 is s i
-          && entered (faults.in_a_switch W) E1 k at1 is s (none_right _ _ n) i && hs i
+      && entered (faults.in_a_switch W) E1 k at1 is s (none_right _ _ n) i && hs i
