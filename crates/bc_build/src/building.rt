@@ -55,6 +55,9 @@ fn compiled(alloc: Global, sources: &[Source<'_>], main: usize) -> Result<Genera
         Ok(core) => core,
         Err(fault) => return Err(scope_refusal(alloc, main, fault)),
     };
+    // What the generator takes lies where these lay.
+    drop(section);
+    drop(tokens);
     match generate(alloc, &core) {
         Ok(generated) => Ok(generated),
         Err(fault) => Err(BuildError::Gen(main, fault)),
@@ -66,6 +69,7 @@ fn add_entries(all: &mut Vec<Entry>, segment: u64, entries: Vec<Entry>) -> Resul
     ensures added { OnOk result (map entry_view all.new.items ≡ map entry_view all.old.items ++ map (in_segment segment) (map entry_view entries.items)) }
     ensures refused { IfErr result (λ e. e ≡ BuildError.Memory) }
 {
+    all.reserve(entries.len())?;
     for entry in entries {
         all.push(Entry { segment, ..entry })?;
     }

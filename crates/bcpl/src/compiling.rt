@@ -17,9 +17,10 @@ use bcpl_faults::{Cause, Failure};
 use bcpl_files::{Written, contents, is_one_file};
 use bcpl_messages::Named;
 use bcpl_words::{BuildOrder, Library, Sources};
-use std::alloc::Global;
+use std::alloc::{AllocError, Global};
 use std::io;
 use std::io::Write;
+use std::mem::forget;
 use std::rt::Files;
 
 /// How many sources stand in front of those of the command line: LIBHDR and BLIB, of which the second becomes a segment.
@@ -303,6 +304,15 @@ fn tell<O: Write + Drop>(built: &Built, out: &mut O) -> io::Result<()> {
     out.flush()
 }
 
+/// How much is asked for at once by `make_room`: more than any vector of a build takes, and not so much that the C library passes it over.
+const ROOM: usize = 24 << 20;
+
+/// Asks for much memory and gives it back untouched. From then on the C library keeps what large vectors give back: so what reading the
+/// source took is there for its code, and the system is asked for fewer pages.
+fn make_room(alloc: Global) {
+    let _room: Result<Vec<u8>, AllocError> = Vec::with_capacity(alloc, ROOM);
+}
+
 /// Builds a program, writes its text and certificate, and tells of its size; gives what there is to warn of. `shows` says whether
 /// the place of a refusal, and warnings, are told.
 pub fn compile<F: Files, O: Write + Drop>(
@@ -312,9 +322,12 @@ pub fn compile<F: Files, O: Write + Drop>(
     shows: bool,
     out: &mut O,
 ) -> Result<String, Failure> {
+    make_room(alloc);
     spare_sources(rt, alloc, order)?;
     let (program, warnings) = built(rt, alloc, order, shows)?;
     write_files(rt, alloc, order, &program)?;
     of_output(alloc, tell(&program, out))?;
+    // The process is about to end, and the system takes all memory back at once.
+    forget(program);
     Ok(warnings)
 }
