@@ -1,13 +1,16 @@
 //! The command `build`.
 
-ghost use Rattle.std.specs.Prelude.{◌<◌, ◌≡◌, All, IfOk};
+ghost use Rattle.std.specs.Prelude.{◌<◌, ◌≡◌, All, IfOk, map};
+ghost use Rattle.std.specs.List.{AllZip};
+ghost use Rattle.bc_rules_defs.specs.View.{entry as entry_view};
+ghost use Rattle.bc_cert_write.specs.Workings.{WorkedOut};
 ghost use Rattle.bcpl_faults.specs.declared.failure.Cause.TheVariants as causes;
 
 use crate::explaining::{Program, explained, warnings_of};
 use crate::ignored::ignored_gets;
 use crate::output::of_output;
 use bc_build::{BuildError, Built, build};
-use bc_cert::{CertFault, write_cert};
+use bc_cert::{CertFault, write_worked};
 use bc_lex::Source;
 use bc_library_ext::{EXTHDR, EXTLIB};
 use bc_run::{BLIB, LIBHDR};
@@ -170,7 +173,9 @@ fn built<F: Files>(
     alloc: Global,
     order: &BuildOrder<'_>,
     shows: bool,
-) -> Result<(Built, String), Failure> {
+) -> Result<(Built, String), Failure>
+    ensures { IfOk result (λ found. AllZip WorkedOut (map entry_view found.0.entries.items) found.0.workings.items) }
+{
     let given = &order.sources;
     let files = sources_of(rt, alloc, given)?;
     let library = library_sources(given.library);
@@ -224,9 +229,12 @@ fn write_certificate<F: Files>(
     alloc: Global,
     path: &str,
     built: &Built,
-) -> Result<(), Failure> {
+) -> Result<(), Failure>
+    requires { AllZip WorkedOut (map entry_view built.now.entries.items) built.now.workings.items }
+{
     let mut written = Written::begin(rt, alloc, path)?;
-    match write_cert(alloc, built.entries.as_slice(), written.out()) {
+    let entries = built.entries.as_slice();
+    match write_worked(alloc, entries, built.workings.as_slice(), written.out()) {
         Ok(()) => written.finish(rt, alloc, path),
         Err(fault) => {
             let failure = match fault {
@@ -285,7 +293,9 @@ fn write_files<F: Files>(
     alloc: Global,
     order: &BuildOrder<'_>,
     built: &Built,
-) -> Result<(), Failure> {
+) -> Result<(), Failure>
+    requires { AllZip WorkedOut (map entry_view built.now.entries.items) built.now.workings.items }
+{
     write_segments(rt, alloc, order.out, built.segments.as_slice())?;
     let Some(path) = order.certificate else {
         return Ok(());
