@@ -186,14 +186,19 @@ fn sides(
     lay(address_side, level, address(tree), marks)
 }
 
-/// The nodes of a root, with the rules of its tree.
+/// The nodes of a root, with the rules of its tree. There is room for so many from the start.
 ///
 /// `Memory` comes where an allocation was refused.
-pub fn marks_of(alloc: Global, root: &Root, tree: &Derivation) -> Result<Vec<Mark>, Memory>
+pub fn marks_of(
+    alloc: Global,
+    root: &Root,
+    tree: &Derivation,
+    room: usize,
+) -> Result<Vec<Mark>, Memory>
     requires { root_nodes (root_of root.now) ≤ 2 ^ 32 }
     ensures { IfOk result (λ marks. marks.items ≡ root_with mark (root_of root.now) (derivation tree.now)) }
 {
-    let mut marks = Vec::new(alloc);
+    let mut marks = Vec::with_capacity(alloc, room)?;
     match root {
         Root::Value { level, expression } => {
             lay(expression, u64::from(*level), Some(tree), &mut marks)?

@@ -9,10 +9,12 @@ ghost use Rattle.bc_gen.specs.Surroundings.{one_piece, roots_in, bodies_of, valo
 ghost use Rattle.bc_gen.specs.Writing.{Writes};
 
 use crate::around::Around;
-use crate::choice::{chosen, label_behind, pieces_of};
+use crate::choice::{Choice, chosen, label_behind, pieces_of};
 use crate::gen_error::GenError;
-use crate::parts::{Mark, Part, count_items};
+use crate::mark::Mark;
+use crate::parts::{Part, count_items};
 use crate::writer::Writer;
+use bc_cert_write::Workings;
 use bc_core::{CoreExp, Root, copy_expression};
 use bc_rules_defs::Piece;
 use bc_text_items::Item;
@@ -82,22 +84,23 @@ impl Writer {
     ) -> Result<(), GenError>
         ensures { Writes result self.old self.new (roots_in around.now (root_view root) target self.old.next) }
     {
-        let derivation = chosen(self.alloc, &root)?;
+        let Choice { derivation, rows } = chosen(self.alloc, &root)?;
         let first = self.next;
         self.take_to(label_behind(&root, &derivation, first))?;
-        let pieces = pieces_of(self.alloc, &root, &derivation, target, first)?;
+        let code = pieces_of(self.alloc, &root, &derivation, target, first)?;
         let mut filled = Writer {
             alloc: self.alloc,
-            parts: Vec::new(self.alloc),
+            parts: Vec::with_capacity(self.alloc, code.len())?,
             next: self.next,
         };
-        let bodies = filled.fill(around, &pieces)?;
+        let bodies = filled.fill(around, &code)?;
         let mark = Mark {
             target,
             first,
             root,
             derivation,
             bodies,
+            workings: Workings { rows, code },
         };
         self.parts.push(Part::Begins(Box::new(self.alloc, mark)?))?;
         self.next = filled.next;
