@@ -123,7 +123,8 @@ pub fn build(alloc: Global, sources: &[Source<'_>], mains: &[usize]) -> Result<B
 
     // For all inputs and every number of turns, a run from the image has the output and the ending that the sections
     // mean, or is as far as they are; or their meaning is wild.
-    ensures runs { IfOk result (λ built. (sections : List Declarations) → AreAccepted (files_of sources.now) mains.now sections → RunsAsMeant sections built.image) }
+    ensures runs { IfOk result (λ built. (sections : List Declarations) → AreAccepted (files_of sources.now) mains.now sections
+        → RunsAsMeant sections built.image) }
 
     // Each entry is code of a derivation from the rule table that no derivation beats in words, and fits the segments.
     ensures least { IfOk result (λ built. AreLeast built.segments.items (map entry_view built.entries.items)) }
@@ -131,7 +132,8 @@ pub fn build(alloc: Global, sources: &[Source<'_>], mains: &[usize]) -> Result<B
     ensures certified { IfOk result (λ built. IsCertified (map entry_view built.entries.items)) }
     // The workings are those of the entries, which the certificate is written from.
     ensures worked { IfOk result (λ built. AllZip WorkedOut (map entry_view built.entries.items) built.workings.items) }
-    ensures size { IfOk result (λ built. (sections : List Declarations) → AreAccepted (files_of sources.now) mains.now sections → HasSize sections built.image) }
+    ensures size { IfOk result (λ built. (sections : List Declarations) → AreAccepted (files_of sources.now) mains.now sections
+        → HasSize sections built.image) }
 
     // What is read of the text of the segments is the segments, and gives this image.
     ensures text { IfOk result (λ built. ReadsAs built.segments.items built.image) }

@@ -44,9 +44,12 @@ pub fn write_worked<W: Write>(
     out: &mut W,
 ) -> Result<(), CertFault>
     requires { AllZip WorkedOut (map entry_seen entries.now) workings.now }
-    ensures written { (ds : List Derived) → map entry_seen entries.now ≡ map entry_of ds → OnOk result (Appends (W.contents out.old) (W.contents out.new) (certificate ds)) }
-    ensures front { (ds : List Derived) → map entry_seen entries.now ≡ map entry_of ds → AppendsFront (W.contents out.old) (W.contents out.new) (certificate ds) }
-    ensures accepted { (ds : List Derived) → map entry_seen entries.now ≡ map entry_of ds → AllByRecursion HasFewest ds → AllByRecursion HasRoom ds → Says (certificate ds) (verdict_of ds) }
+    ensures written { (ds : List Derived) → map entry_seen entries.now ≡ map entry_of ds
+        → OnOk result (Appends (W.contents out.old) (W.contents out.new) (certificate ds)) }
+    ensures front { (ds : List Derived) → map entry_seen entries.now ≡ map entry_of ds → AppendsFront (W.contents out.old) (W.contents out.new)
+        (certificate ds) }
+    ensures accepted { (ds : List Derived) → map entry_seen entries.now ≡ map entry_of ds → AllByRecursion HasFewest ds → AllByRecursion HasRoom ds
+        → Says (certificate ds) (verdict_of ds) }
 {
     bc_cert_write::write_worked(alloc, entries, workings, out)
 }

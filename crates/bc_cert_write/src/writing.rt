@@ -29,8 +29,10 @@ use std::io::Write;
 /// refused, where an offset or a label in the code of an entry would be over 65,535, and where a root has more than 2^32
 /// nodes. After either the writer has taken a front of the text.
 pub fn write_cert<W: Write>(alloc: Global, entries: &[Entry], out: &mut W) -> Result<(), CertFault>
-    ensures written { (ds : List Derived) → map entry_seen entries.now ≡ map entry_of ds → OnOk result (Appends (W.contents out.old) (W.contents out.new) (certificate ds)) }
-    ensures front { (ds : List Derived) → map entry_seen entries.now ≡ map entry_of ds → AppendsFront (W.contents out.old) (W.contents out.new) (certificate ds) }
+    ensures written { (ds : List Derived) → map entry_seen entries.now ≡ map entry_of ds
+        → OnOk result (Appends (W.contents out.old) (W.contents out.new) (certificate ds)) }
+    ensures front { (ds : List Derived) → map entry_seen entries.now ≡ map entry_of ds → AppendsFront (W.contents out.old) (W.contents out.new)
+        (certificate ds) }
 {
     begin(out)?;
     let mut text = Text::new(alloc);
@@ -52,8 +54,10 @@ pub fn write_worked<W: Write>(
     out: &mut W,
 ) -> Result<(), CertFault>
     requires { AllZip WorkedOut (map entry_seen entries.now) workings.now }
-    ensures written { (ds : List Derived) → map entry_seen entries.now ≡ map entry_of ds → OnOk result (Appends (W.contents out.old) (W.contents out.new) (certificate ds)) }
-    ensures front { (ds : List Derived) → map entry_seen entries.now ≡ map entry_of ds → AppendsFront (W.contents out.old) (W.contents out.new) (certificate ds) }
+    ensures written { (ds : List Derived) → map entry_seen entries.now ≡ map entry_of ds
+        → OnOk result (Appends (W.contents out.old) (W.contents out.new) (certificate ds)) }
+    ensures front { (ds : List Derived) → map entry_seen entries.now ≡ map entry_of ds → AppendsFront (W.contents out.old) (W.contents out.new)
+        (certificate ds) }
 {
     begin(out)?;
     let mut text = Text::new(alloc);

@@ -92,7 +92,8 @@ impl Writer {
 
     fn routine(&mut self, around: &Around<'_>, routine: &Routine) -> Result<(), GenError>
         requires { exits_of around.now ≡ body_exits 0 }
-        ensures { Writes result self.old self.new (emit_body Plain (roots_in around.now) (body_of routine.now.body) (level_behind_parameters routine.now.parameters) self.old.next) }
+        ensures { Writes result self.old self.new
+            (emit_body Plain (roots_in around.now) (body_of routine.now.body) (level_behind_parameters routine.now.parameters) self.old.next) }
     {
         let level = behind(2, routine.parameters)?;
         match &routine.body {

@@ -110,8 +110,11 @@ impl Writer {
     /// The pieces of a root with the bodies of its VALOFs filled in; the result is how many items each body has.
     #[cycle(commands)]
     fn fill(&mut self, around: &Around<'_>, pieces: &[Piece]) -> Result<Vec<u64>, GenError>
-        ensures written { let x = fill_of Plain (level_of (valofs_in around.now.valofs.now)) (bodies_of (valofs_in around.now.valofs.now) around.now.least) pieces.now self.old.next in Writes result self.old self.new (x.0, x.1) }
-        ensures counts { let x = fill_of Plain (level_of (valofs_in around.now.valofs.now)) (bodies_of (valofs_in around.now.valofs.now) around.now.least) pieces.now self.old.next in IfOk result (λ bodies. bodies.items ≡ map count_of x.2) }
+        ensures written { let x = fill_of Plain (level_of (valofs_in around.now.valofs.now))
+            (bodies_of (valofs_in around.now.valofs.now) around.now.least) pieces.now self.old.next in Writes result self.old self.new (x.0, x.1) }
+        ensures counts { let x = fill_of Plain (level_of (valofs_in around.now.valofs.now))
+            (bodies_of (valofs_in around.now.valofs.now) around.now.least) pieces.now self.old.next in
+            IfOk result (λ bodies. bodies.items ≡ map count_of x.2) }
     {
         let mut bodies = Vec::new(self.alloc);
         for i in 0..pieces.len() {
@@ -130,8 +133,11 @@ impl Writer {
         label: u16,
         bodies: &mut Vec<u64>,
     ) -> Result<(), GenError>
-        ensures written { let vs = valofs_in around.now.valofs.now in let x = one_piece (level_of vs) (bodies_of vs around.now.least) piece label self.old.next in Writes result self.old self.new (x.0, x.1) }
-        ensures counts { let vs = valofs_in around.now.valofs.now in let x = one_piece (level_of vs) (bodies_of vs around.now.least) piece label self.old.next in IfOk result (λ _. bodies.new.items ≡ bodies.old.items ++ map count_of x.2) }
+        ensures written { let vs = valofs_in around.now.valofs.now in
+            let x = one_piece (level_of vs) (bodies_of vs around.now.least) piece label self.old.next in Writes result self.old self.new (x.0, x.1) }
+        ensures counts { let vs = valofs_in around.now.valofs.now in
+            let x = one_piece (level_of vs) (bodies_of vs around.now.least) piece label self.old.next in
+            IfOk result (λ _. bodies.new.items ≡ bodies.old.items ++ map count_of x.2) }
     {
         match piece {
             Piece::Item(item) => self.put(item),
@@ -145,8 +151,10 @@ impl Writer {
     /// The body of a VALOF; the result is how many items it has.
     #[cycle(commands)]
     fn body(&mut self, around: &Around<'_>, number: u64, label: u16) -> Result<u64, GenError>
-        ensures written { Writes result self.old self.new (let vs = valofs_in around.now.valofs.now in bodies_of vs around.now.least number (level_of vs number) label self.old.next) }
-        ensures count { IfOk result (λ found. let vs = valofs_in around.now.valofs.now in found ≡ count_of (bodies_of vs around.now.least number (level_of vs number) label self.old.next).0) }
+        ensures written { Writes result self.old self.new (let vs = valofs_in around.now.valofs.now in
+            bodies_of vs around.now.least number (level_of vs number) label self.old.next) }
+        ensures count { IfOk result (λ found. let vs = valofs_in around.now.valofs.now in
+            found ≡ count_of (bodies_of vs around.now.least number (level_of vs number) label self.old.next).0) }
     {
         let before = self.parts.len();
         self.valof(around, number, label)?;
@@ -156,7 +164,8 @@ impl Writer {
     /// The body of a VALOF, whose RESULTIS jumps to this label.
     #[cycle(commands)]
     fn valof(&mut self, around: &Around<'_>, number: u64, label: u16) -> Result<(), GenError>
-        ensures { Writes result self.old self.new (let vs = valofs_in around.now.valofs.now in bodies_of vs around.now.least number (level_of vs number) label self.old.next) }
+        ensures { Writes result self.old self.new (let vs = valofs_in around.now.valofs.now in
+            bodies_of vs around.now.least number (level_of vs number) label self.old.next) }
     {
         let number = number as usize;
         if number < around.least {
