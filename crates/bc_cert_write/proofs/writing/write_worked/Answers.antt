@@ -1,3 +1,4 @@
+use Rattle.std.proofs.Common.{arith}
 use Rattle.bc_cert_write.proofs.Steps.{on_ok}
 use Rattle.bc_cert_write.proofs.Taken.{written_more, front_of_header, front_so_far, front_of_entry, written_all, front_of_all}
 use Rattle.bc_cert_write.proofs.Worked.{worked_at, as_many}
@@ -47,3 +48,9 @@ returns-clause-front g c =
 
 pub entry_text-requires : goal.entry_text-requires
 entry_text-requires g c = worked_at c.args.entries.now c.args.workings.now c.loop-i.i c.index-entries-i.result c.index-workings-i.result c.requires c.loop-i-test.true c.index-entries-i.is c.index-workings-i.is
+
+pub bounds-workings-i : goal.bounds-workings-i
+bounds-workings-i g c =
+    let n = as_many c.args.entries.now c.args.workings.now c.requires in
+    let t = c.loop-i-test.true in
+    omega (arith, n, t)
