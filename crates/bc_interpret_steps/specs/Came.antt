@@ -15,8 +15,8 @@ use Rattle.bc_interpret_quiet.specs.declared.worth.Worth.TheVariants as worths
 use Rattle.bc_interpret_quiet.specs.declared.worth.Truth.{Truth}
 use Rattle.bc_interpret_quiet.specs.declared.worth.Truth.TheVariants as truths
 use Rattle.bc_interpret_steps.specs.declared.state.State.{State}
-use Rattle.bc_interpret_steps.specs.declared.calls.Room.{Room}
-use Rattle.bc_interpret_steps.specs.declared.calls.Room.TheVariants as rooms
+use Rattle.bc_interpret_steps.specs.declared.calls.Fit.{Fit}
+use Rattle.bc_interpret_steps.specs.declared.calls.Fit.TheVariants as fits
 use Rattle.bc_interpret_steps.specs.declared.forms.Work.{Work}
 use Rattle.bc_interpret_steps.specs.declared.forms.Work.TheVariants as works
 use Rattle.bc_interpret_steps.specs.declared.forms.Primitive.{Primitive}
@@ -80,6 +80,7 @@ progress_of (worths.Is v) = progress.On (works.Number v)
 progress_of worths.Divides = progress.Ended endings.ZeroDivide
 progress_of (worths.Fails c) = progress.Wild c
 
+-- what comes of a test that has this truth
 abbrev pub progress_of_truth : Truth → Progress
 progress_of_truth (truths.Is t) = progress.On (works.Verdict t)
 progress_of_truth truths.Divides = progress.Ended endings.ZeroDivide
@@ -99,10 +100,10 @@ abbrev pub IsBehindCases : (out within : exits.Exit) → Type 0
 IsBehindCases out within = (st : outcomes.State) → lists.behind_cases within st ≡ outcomes.Done out st
 
 -- whether a call goes on in a frame at f
-abbrev pub Framed : Room → (f size : ℕ) → State → State → Type 0
-Framed rooms.Fits f size old new = (r : machine.Step) (streams : Content) → frame_taken f size r (state_of old streams) ≡ r (state_of new streams)
-Framed rooms.TooLarge f size old new = (r : machine.Step) (streams : Content) → frame_taken f size r (state_of old streams) ≡ outcomes.Wild
-Framed rooms.NoTurn f size old new = (r : machine.Step) (streams : Content) → frame_taken f size r (state_of old streams) ≡ outcomes.Going streams
+abbrev pub Framed : Fit → (f size : ℕ) → State → State → Type 0
+Framed fits.Fits f size old new = (r : machine.Step) (streams : Content) → frame_taken f size r (state_of old streams) ≡ r (state_of new streams)
+Framed fits.TooLarge f size old new = (r : machine.Step) (streams : Content) → frame_taken f size r (state_of old streams) ≡ outcomes.Wild
+Framed fits.NoTurn f size old new = (r : machine.Step) (streams : Content) → frame_taken f size r (state_of old streams) ≡ outcomes.Going streams
 
 abbrev pub primitive_if : Option Primitive → Option primitives.Primitive
 primitive_if None = None
