@@ -26,7 +26,8 @@ use Rattle.bc_interpret_steps.specs.declared.rests.Rest.{Rest}
 use Rattle.bc_interpret_steps.specs.declared.sections.Callable.{Callable}
 use Rattle.bc_interpret_steps.specs.declared.state.State.{State}
 use Rattle.bc_interpret_steps.specs.Code.{stack}
-use Rattle.bc_interpret_steps.specs.Came.{state_of, ending, primitive_of}
+use Rattle.bc_interpret_steps.specs.Came.{state_of, primitive_of}
+use Rattle.bc_interpret_steps.specs.Endings.{ending}
 use Rattle.bc_interpret_steps.specs.Sections.{IsTable}
 use Rattle.bc_interpret.specs.declared.serve.Served.TheVariants as forms
 use Rattle.bc_interpret.specs.declared.run.Run.{Run}
@@ -106,12 +107,11 @@ turn_taken moved next old new e h = subst (λ m. TookTurn m old new) e h
 same_outcome : (o o1 : outcome.Outcome) → Over o ≡ Over o1 → o ≡ o1
 same_outcome o o1 e = cc
 
--- what came of a step, as a step's code answers it
-pub step_is : {E : Type 0} (table : List Callable) (w : Work) (rests : List Rest) (old : State) (rests1 : List Rest) (new : State) (r : Result Progress E) (p q : Progress)
-    → ((program : List Placed) → IsTable program table → IfOk r (λ x. StepIs program w rests old x rests1 new)) → r ≡ Ok p → p ≡ q
+-- what came of a step, by its form
+pub step_is : (table : List Callable) (w : Work) (rests : List Rest) (old : State) (rests1 : List Rest) (new : State) (p q : Progress)
+    → ((program : List Placed) → IsTable program table → StepIs program w rests old p rests1 new) → p ≡ q
     → (program : List Placed) → IsTable program table → StepIs program w rests old q rests1 new
-step_is table w rests old rests1 new r p q h was is program t =
-    subst (λ x. StepIs program w rests old x rests1 new) is (ok_is r p (λ x. StepIs program w rests old x rests1 new) was (h program t))
+step_is table w rests old rests1 new p q h is program t = subst (λ x. StepIs program w rests old x rests1 new) is (h program t)
 
 pub on_advances : (table : List Callable) (w : Work) (old new : Run) (known : Type 0) (before : Content) (failures : ℕ) (next : Work) → HasProgram table
     → ((program : List Placed) → IsTable program table → StepIs program w old.stacks.rests.items old.state (progress.On next) new.stacks.rests.items new.state)

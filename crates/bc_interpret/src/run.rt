@@ -87,19 +87,25 @@ fn moved_by<'c>(served: Served) -> Moved<'c>
 /// `Memory` comes where an allocation was refused.
 fn advance<'c, S: Streams>(
     table: &[Callable<'c>],
-    work: Work<'c>,
+    work: &Work<'c>,
     run: &mut Run<'c>,
     streams: &mut S,
 ) -> Result<Moved<'c>, Memory>
     requires { HasProgram table.now }
-    ensures { IfOk result (λ moved. AdvancedOn S.known S.content S.failures table.now work.entry run.old run.new streams.old streams.new moved) }
+    ensures { IfOk result (λ moved. AdvancedOn S.known S.content S.failures table.now work.now run.old run.new streams.old streams.new moved) }
 {
-    run.trace.follow(&work, run.stacks.rests.as_slice())?;
-    let progress = step(table, work, &mut run.stacks, &mut run.state)?;
-    match progress {
+    run.trace.follow(work, run.stacks.rests.as_slice())?;
+    step(table, work, &mut run.stacks, &mut run.state)?;
+    match run.stacks.next {
         Progress::On(next) => Ok(Moved::On(next)),
         Progress::Serve(primitive, frame) => {
-            let served = serve(primitive, frame, &mut run.state, streams, &mut run.name)?;
+            let served = serve(
+                primitive,
+                frame as usize,
+                &mut run.state,
+                streams,
+                &mut run.name,
+            )?;
             Ok(moved_by(served))
         }
         Progress::Answered => Ok(Moved::Over(Outcome::Ended(Ending::Finished))),
@@ -124,7 +130,7 @@ fn stretch<'c, S: Streams>(
     let mut now = work;
     loop {
         let before = run.state.turns;
-        let moved = advance(table, now, run, streams)?;
+        let moved = advance(table, &now, run, streams)?;
         match moved {
             Moved::On(next) => {
                 if run.state.turns < before {

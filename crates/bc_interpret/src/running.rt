@@ -12,7 +12,7 @@ use crate::start::start_store;
 use crate::table::table_of;
 use bc_core::Core;
 use bc_interpret_quiet::Room;
-use bc_interpret_steps::{NumberRest, Rest, Section, Stacks, State, Work, put};
+use bc_interpret_steps::{NumberRest, Progress, Rest, Section, Stacks, State, Work, put};
 use bc_interpret_store::Store;
 use bc_interpret_trace::Trace;
 use bc_machine::{Image, Streams};
@@ -28,6 +28,7 @@ fn run_over<'c>(alloc: Global, store: Store, turns: u64) -> Run<'c>
     Run {
         state: State { store, turns },
         stacks: Stacks {
+            next: Progress::Answered,
             rests: Vec::new(alloc),
             room: Room {
                 rests: Vec::new(alloc),
@@ -41,10 +42,10 @@ fn run_over<'c>(alloc: Global, store: Store, turns: u64) -> Run<'c>
 }
 
 /// The address of the frame in which the run begins, two cells above the stack base.
-fn first_frame(stack_base: u16) -> usize
+fn first_frame(stack_base: u16) -> u32
     ensures { result ≡ stack_base + 2 }
 {
-    usize::from(stack_base) + 2
+    u32::from(stack_base) + 2
 }
 
 /// The run of sections in so many turns, where the stack begins at this address.

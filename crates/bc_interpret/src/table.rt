@@ -36,7 +36,7 @@ pub(crate) fn label_behind(label: usize) -> Result<usize, Memory>
 #[tactic(auto, using(crate::proofs::Tables::of_a_place))]
 fn add_routine<'c>(
     alloc: Global,
-    section: &Section<'c>,
+    section: &'c Section<'c>,
     label: usize,
     place: &'c Place,
     table: &mut Vec<Callable<'c>>,
@@ -48,7 +48,7 @@ fn add_routine<'c>(
             let frame = frame_size(alloc, section.valofs, routine)?;
             table.push(Callable {
                 address: address_of(section, label),
-                section: *section,
+                section,
                 routine,
                 frame,
             })?;
@@ -64,7 +64,7 @@ fn add_routine<'c>(
 #[tactic(auto, using(crate::proofs::Tables::of_a_section))]
 fn add_routines<'c>(
     alloc: Global,
-    section: &Section<'c>,
+    section: &'c Section<'c>,
     table: &mut Vec<Callable<'c>>,
 ) -> Result<(), Memory>
     ensures { OnOk result (Adds (placed_of section.now) table.old.items table.new.items) }
@@ -85,7 +85,7 @@ fn add_routines<'c>(
 #[tactic(auto, using(crate::proofs::Tables::section_added))]
 pub(crate) fn table_of<'c>(
     alloc: Global,
-    sections: &[Section<'c>],
+    sections: &'c [Section<'c>],
 ) -> Result<Vec<Callable<'c>>, Memory>
     ensures { IfOk result (λ table. IsTable (program_of sections.now) table.items) }
 {

@@ -77,10 +77,10 @@ last_calls st E vs level f n s p rs rs1 ws calls h =
     came_true (has_call f) (last_waits E vs f n s rs) (then_do (value (quiet E) f E.frame (routine_level s n)) (called E vs s rs)) st p rs1 ws st calls h
 
 -- what comes of an argument, or of the routine behind the last one, comes of all arguments
-pub argued_over : (a now : Arguments) (first : CoreExp) (behind : List CoreExp) (before cur after : List Rest) (st : State) (g : Given) (p : Progress) → IsGivenOne now first behind cur st g after → g ≡ forms.Over p → now.left.now ≡ first ∷ behind
+pub argued_over : (a now : Arguments) (first : CoreExp) (behind : List CoreExp) (before cur after : List Rest) (st : State) (g : Given) (p : Progress) → IsGivenOne now first behind cur st g p after → g ≡ forms.Over → now.left.now ≡ first ∷ behind
     → ((streams : Content) → Argued a before (stack before) (state_of st streams) ≡ Argued now cur (stack cur) (state_of st streams)) → Goes (Argued a before) before st p after st
 argued_over a now first behind before cur after st g p h is split kept =
-    let P : Given → Type 0 = λ x. IsGivenOne now first behind cur st x after in
+    let P : Given → Type 0 = λ x. IsGivenOne now first behind cur st x p after in
     let E = spot_of now.spot in
     let vs = given_for now.fresh (given cur) in
     let rest : Args → machine.Step = λ es. argue E vs es now.level (exp now.routine.now) now.count now.s (stack cur) in

@@ -7,7 +7,7 @@ use Rattle.bc_machine_defs.specs.Streams.{Content}
 use Rattle.bc_core.specs.Outcome.{choose, in_turn, wild}
 use Rattle.bc_interpret_defs.specs.Machine as machine
 use Rattle.bc_interpret_steps.specs.declared.state.State.{State}
-use Rattle.bc_interpret_steps.specs.declared.calls.Room.TheVariants as rooms
+use Rattle.bc_interpret_steps.specs.declared.calls.Fit.TheVariants as forms
 use Rattle.bc_interpret_steps.specs.Came.{state_of, Turned, Framed}
 
 -- the test of a bound
@@ -17,11 +17,11 @@ above_false a b h = elim (leb_tells a b) [ inl e ↦ absurd (omega (arith, e.1))
 below_true : (a b : ℕ) → a ≤ b → nat_le a b ≡ true
 below_true a b h = le-leb a b h
 
-pub too_large : (f size : ℕ) (old new : State) → 65536 < f + size → Framed rooms.TooLarge f size old new
+pub too_large : (f size : ℕ) (old new : State) → 65536 < f + size → Framed forms.TooLarge f size old new
 too_large f size old new h r streams = ap (λ t. choose t (in_turn r) wild (state_of old streams)) (above_false (f + size) 65536 h)
 
-pub no_turn : (f size : ℕ) (old new : State) → f + size ≤ 65536 → Turned false old new → Framed rooms.NoTurn f size old new
+pub no_turn : (f size : ℕ) (old new : State) → f + size ≤ 65536 → Turned false old new → Framed forms.NoTurn f size old new
 no_turn f size old new h t r streams = ap (λ t. choose t (in_turn r) wild (state_of old streams)) (below_true (f + size) 65536 h) ∙ t.0 r streams
 
-pub fits : (f size : ℕ) (old new : State) → f + size ≤ 65536 → Turned true old new → Framed rooms.Fits f size old new
+pub fits : (f size : ℕ) (old new : State) → f + size ≤ 65536 → Turned true old new → Framed forms.Fits f size old new
 fits f size old new h t r streams = ap (λ t. choose t (in_turn r) wild (state_of old streams)) (below_true (f + size) 65536 h) ∙ t r streams

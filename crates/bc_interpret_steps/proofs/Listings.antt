@@ -58,17 +58,17 @@ performed E s behind first at c old new h d rs st =
 pub ruleset along_a_list = (passed, assigned, divided, failed, performed)
 
 -- what comes of an item comes of the whole list
-pub listed_on : (E : machine.Spot) (s : ℕ) (left behind : List ListItem) (first : ListItem) (at next : Entry) (before after : List Rest) (old new : State) (along : Along) → IsAlong E first behind s at before old along after new → along ≡ alongs.On next → left ≡ first ∷ behind
+pub listed_on : (E : machine.Spot) (s : ℕ) (left behind : List ListItem) (first : ListItem) (at next : Entry) (before after : List Rest) (old new : State) (along : Along) (p : Progress) → IsAlong E first behind s at before old along p after new → along ≡ alongs.On next → left ≡ first ∷ behind
     → (after ≡ before) × ((rs : List machine.Rest) (streams : Content) → list_step E (items left) s (entry_of at) rs (state_of old streams) ≡ list_step E (items behind) s (entry_of next) rs (state_of new streams))
-listed_on E s left behind first at next before after old new along h is split =
-    let P : Along → Type 0 = λ x. IsAlong E first behind s at before old x after new in
+listed_on E s left behind first at next before after old new along p h is split =
+    let P : Along → Type 0 = λ x. IsAlong E first behind s at before old x p after new in
     let on = subst P is h in
     (on.0, λ rs streams. ap (λ xs. list_step E (items xs) s (entry_of at) rs (state_of old streams)) split ∙ on.1 rs streams)
 
-pub listed_over : (E : machine.Spot) (s : ℕ) (all left behind : List ListItem) (first : ListItem) (entry at : Entry) (before cur after : List Rest) (st old new : State) (along : Along) (p : Progress) → IsAlong E first behind s at cur old along after new → along ≡ alongs.Over p → left ≡ first ∷ behind → cur ≡ before
+pub listed_over : (E : machine.Spot) (s : ℕ) (all left behind : List ListItem) (first : ListItem) (entry at : Entry) (before cur after : List Rest) (st old new : State) (along : Along) (p : Progress) → IsAlong E first behind s at cur old along p after new → along ≡ alongs.Over → left ≡ first ∷ behind → cur ≡ before
     → ((rs : List machine.Rest) (streams : Content) → list_step E (items all) s (entry_of entry) rs (state_of st streams) ≡ list_step E (items left) s (entry_of at) rs (state_of old streams)) → Goes (list_step E (items all) s (entry_of entry)) before st p after new
 listed_over E s all left behind first entry at before cur after st old new along p h is split same kept =
-    let P : Along → Type 0 = λ x. IsAlong E first behind s at cur old x after new in
+    let P : Along → Type 0 = λ x. IsAlong E first behind s at cur old x p after new in
     moved_came (list_step E (items all) s (entry_of entry) (stack before)) (list_step E (items_before first (items behind)) s (entry_of at) (stack cur)) st old p (stack after) (given after) new
     (λ streams. kept (stack before) streams
     ∙ (ap (λ xs. list_step E (items xs) s (entry_of at) (stack before) (state_of old streams)) split

@@ -51,27 +51,6 @@ stepped_dead program E limit by b s rs st e = ap (λ c. followed (content_of_cel
 pub stepped_unset : (program : List Placed) (E : Spot) (limit by : ℕ) (b : Block) (s : ℕ) (rs : List Rest) (st : outcomes.State) → Unset ≡ cell_at st.cells (cell_of E s) → next program (ForBody E limit by b s) (Left Past) rs st ≡ Wild
 stepped_unset program E limit by b s rs st e = ap (λ c. followed (content_of_cell c st) (added E limit by b s rs)) (sym e)
 
-stepped_set : (program : List Placed) (E : Spot) (limit by : ℕ) (b : Block) (s i : ℕ) (rs : List Rest) (st : outcomes.State) → Set i ≡ cell_at st.cells (cell_of E s) → next program (ForBody E limit by b s) (Left Past) rs st ≡ added E limit by b s rs i st
-stepped_set program E limit by b s i rs st e = ap (λ c. followed (content_of_cell c st) (added E limit by b s rs)) (sym e)
-
--- the variable isn't live, which can't be where it was read
-pub stepped_wild : (program : List Placed) (E : Spot) (limit by : ℕ) (b : Block) (s i : ℕ) (rs : List Rest) (old new : State) (c : Cause) → Set i ≡ cell_at old.store (cell_of E s) → Wrote old (cell_of E s) ((i + by) % 65536) (Some c) new
-    → (streams : Content) → next program (ForBody E limit by b s) (Left Past) rs (state_of old streams) ≡ Wild
-stepped_wild program E limit by b s i rs old new c e h streams =
-    stepped_set program E limit by b s i rs (state_of old streams) e ∙ ap (λ o. followed o (λ u. in_turn (go (Round E limit by b s) rs))) (h streams)
-
-pub stepped_going : (program : List Placed) (E : Spot) (limit by : ℕ) (b : Block) (s i : ℕ) (rs : List Rest) (old middle new : State) → Set i ≡ cell_at old.store (cell_of E s) → Wrote old (cell_of E s) ((i + by) % 65536) None middle → Turned false middle new
-    → (streams : Content) → next program (ForBody E limit by b s) (Left Past) rs (state_of old streams) ≡ Going streams
-stepped_going program E limit by b s i rs old middle new e h t streams =
-    stepped_set program E limit by b s i rs (state_of old streams) e
-    ∙ (ap (λ o. followed o (λ u. in_turn (go (Round E limit by b s) rs))) (h streams) ∙ t.0 (go (Round E limit by b s) rs) streams)
-
-pub stepped_on : (program : List Placed) (E : Spot) (limit by : ℕ) (b : Block) (s i : ℕ) (rs : List Rest) (old middle new : State) → Set i ≡ cell_at old.store (cell_of E s) → Wrote old (cell_of E s) ((i + by) % 65536) None middle → Turned true middle new
-    → (streams : Content) → next program (ForBody E limit by b s) (Left Past) rs (state_of old streams) ≡ go (Round E limit by b s) rs (state_of new streams)
-stepped_on program E limit by b s i rs old middle new e h t streams =
-    stepped_set program E limit by b s i rs (state_of old streams) e
-    ∙ (ap (λ o. followed o (λ u. in_turn (go (Round E limit by b s) rs))) (h streams) ∙ t (go (Round E limit by b s) rs) streams)
-
 -- where control goes on behind the body, it goes on as past it
 pub for_behind : (program : List Placed) (E : Spot) (limit by : ℕ) (b : Block) (s : ℕ) (x : Exit) (rs : List Rest) → ((again : Step) (rs : List Rest) → behind again x rs ≡ again)
     → next program (ForBody E limit by b s) (Left Past) rs ≡ next program (ForBody E limit by b s) (Left x) rs

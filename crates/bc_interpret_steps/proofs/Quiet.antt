@@ -70,10 +70,6 @@ quiet_truth st E e s streams plain w is =
     ∙ ap (λ x. settled x (state_of st streams)) (sym is)
 
 -- what comes behind a value
-pub value_on : (st : State) (E : machine.Spot) (e : Exp) (s v : ℕ) (f : ℕ → machine.Step) (p : Progress) (rs : List machine.Rest) (vs : List ℕ) (new : State) → has_call e ≡ false → quiet_forms.Is v ≡ (worth (sight st E) e).value → Came (f v) st p rs vs new → Came (then_do (value (quiet E) e E.frame s) f) st p rs vs new
-value_on st E e s v f p rs vs new plain is h =
-    same_came (then_do (value (quiet E) e E.frame s) f) (f v) st p rs vs new (λ streams. ap (λ o. followed o f) (quiet_value st E e s streams plain (worths.Is v) is)) h
-
 pub value_divides : (st : State) (E : machine.Spot) (e : Exp) (s : ℕ) (f : ℕ → machine.Step) (rs : List machine.Rest) (vs : List ℕ) (new : State) → has_call e ≡ false → quiet_forms.Divides ≡ (worth (sight st E) e).value → Came (then_do (value (quiet E) e E.frame s) f) st (progress.Ended endings.ZeroDivide) rs vs new
 value_divides st E e s f rs vs new plain is = λ streams. ap (λ o. followed o f) (quiet_value st E e s streams plain worths.Divides is)
 

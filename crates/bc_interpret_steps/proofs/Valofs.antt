@@ -1,7 +1,7 @@
 -- The VALOF with a number.
-use Rattle.std.proofs.Common.{◌≡◌, ℕ, zero, suc, ◌+◌, ◌-◌, take, ◌<◌, ◌≤◌, ◌==◌, Bool, true, false, inl, inr, List, [], ◌∷◌, length, drop, get_or, map, refl, sym, ap, ◌∙◌, arith}
+use Rattle.std.proofs.Common.{◌≡◌, ℕ, zero, suc, ◌+◌, ◌-◌, ◌<◌, ◌≤◌, ◌==◌, Bool, true, false, inl, inr, List, [], ◌∷◌, length, drop, get_or, map, refl, sym, ap, ◌∙◌, arith}
 use Rattle.std.proofs.lemmas.Bool.{eq-eqb}
-use Rattle.std.proofs.lemmas.List.{take_rest}
+use Rattle.std.proofs.lemmas.List.{length-drop, get_or-drop, drop-drop}
 use Rattle.std.proofs.lemmas.Bool.Decides.{eqb_tells}
 use Rattle.bc_core.specs.View.{valof_of, block_of}
 use Rattle.bc_core.specs.Commands as commands
@@ -60,13 +60,27 @@ valof_at address p first (w ∷ ws) n (suc i) s rs d e h =
     ∙ (valof_at address p (first + 1) ws n i s rs d (omega arith) (omega arith)
     ∙ ap (λ k. within address p (n + 1) (map valof_of (drop k (w ∷ ws))) (valof_of (get_or ws i d)) s rs) (sym more)))
 
+-- the same among all VALOFs of a section, of which those from the first one on stand within
+pub none_before : (address : ℕ → ℕ) (p first : ℕ) (ws : List Valof) (n s : ℕ) (rs : List Rest) → n < first → to_valof address p first (map valof_of (drop first ws)) n s rs ≡ wild
+none_before address p first ws n s rs h = valof_before address p first (drop first ws) n s rs h
+
+pub none_behind : (address : ℕ → ℕ) (p first : ℕ) (ws : List Valof) (n s : ℕ) (rs : List Rest) → first ≤ n → length ws ≤ n → to_valof address p first (map valof_of (drop first ws)) n s rs ≡ wild
+none_behind address p first ws n s rs h k =
+    valof_behind address p first (drop first ws) n (n - first) s rs (omega (arith, h)) (omega (arith, h, k, length-drop first ws))
+
 -- into its body
-pub valof_entered : (address : ℕ → ℕ) (p first : ℕ) (ws : List Valof) (n i s next : ℕ) (v : Valof) (rs after : List Rest) (st : State) → n ≡ first + i → i < length ws → next ≡ n + 1 → after ≡ Results ∷ rs
-    → to_valof address p first (map valof_of ws) n s rs st ≡ go (Enter (record { address = address; first = next; valofs = map valof_of (take (length ws - (i + 1)) (drop (i + 1) ws)); frame = p }) (block_of (get_or ws i v).body) s) after st
-valof_entered address p first ws n i s next v rs after st e h q a =
-    let body = block_of (get_or ws i v).body in
-    let left = take (length ws - (i + 1)) (drop (i + 1) ws) in
-    ap (λ r. r st) (valof_at address p first ws n i s rs v e h)
-    ∙ (ap (λ xs. go (Enter (record { address = address; first = n + 1; valofs = map valof_of xs; frame = p }) body s) (Results ∷ rs) st) (sym (take_rest ws (i + 1)))
-    ∙ (ap (λ k. go (Enter (record { address = address; first = k; valofs = map valof_of left; frame = p }) body s) (Results ∷ rs) st) (sym q)
-    ∙ ap (λ xs. go (Enter (record { address = address; first = next; valofs = map valof_of left; frame = p }) body s) xs st) (sym a)))
+pub valof_entered : (address : ℕ → ℕ) (p first : ℕ) (ws : List Valof) (n s next : ℕ) (v : Valof) (rs after : List Rest) (st : State) → first ≤ n → n < length ws → next ≡ n + 1 → after ≡ Results ∷ rs
+    → to_valof address p first (map valof_of (drop first ws)) n s rs st ≡ go (Enter (record { address = address; first = next; valofs = map valof_of (drop next ws); frame = p }) (block_of (get_or ws n v).body) s) after st
+valof_entered address p first ws n s next v rs after st h k q a =
+    let i = n - first in
+    let body : ℕ → commands.Valof = λ j. valof_of (get_or ws j v) in
+    let there : first + i ≡ n = omega (arith, h) in
+    let onward : first + (i + 1) ≡ next = omega (arith, h, q) in
+    let within = λ (f : ℕ) (vs : List Valof) (b : commands.Valof) (xs : List Rest). go (Enter (record { address = address; first = f; valofs = map valof_of vs; frame = p }) b.body s) xs st in
+    ap (λ r. r st) (valof_at address p first (drop first ws) n i s rs v (omega (arith, h)) (omega (arith, h, k, length-drop first ws)))
+    ∙ (ap (λ b. within (n + 1) (drop (i + 1) (drop first ws)) (valof_of b) (Results ∷ rs)) (get_or-drop first ws i v)
+    ∙ (ap (λ j. within (n + 1) (drop (i + 1) (drop first ws)) (body j) (Results ∷ rs)) there
+    ∙ (ap (λ vs. within (n + 1) vs (body n) (Results ∷ rs)) (drop-drop (i + 1) first ws)
+    ∙ (ap (λ j. within (n + 1) (drop j ws) (body n) (Results ∷ rs)) onward
+    ∙ (ap (λ f. within f (drop next ws) (body n) (Results ∷ rs)) (sym q)
+    ∙ ap (λ xs. within next (drop next ws) (body n) xs) (sym a))))))

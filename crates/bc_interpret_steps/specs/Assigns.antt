@@ -1,4 +1,4 @@
--- Assignments that are done at once, and what comes next in a list.
+-- For proofs: assignments that are done at once, and what comes next in a list.
 use Rattle.std.specs.Prelude.{ℕ, ◌≡◌, ◌||◌, ◌∷◌, true, false, List, Option, Some, None}
 use Rattle.bc_machine_defs.specs.Streams.{Content}
 use Rattle.bc_core.specs.Tree.{Exp}

@@ -1,4 +1,4 @@
--- What came of a step, as the interpreter has it.
+-- For proofs: what came of a step, as the interpreter has it.
 use Rattle.std.specs.Prelude.{ℕ, ◌≡◌, ◌+◌, Bool, true, false, List, Option, Some, None}
 use Rattle.bc_machine_defs.specs.Streams.{Content}
 use Rattle.bc_core.specs.Store.{Dead, cell_at}
@@ -15,13 +15,13 @@ use Rattle.bc_interpret_quiet.specs.declared.worth.Worth.TheVariants as worths
 use Rattle.bc_interpret_quiet.specs.declared.worth.Truth.{Truth}
 use Rattle.bc_interpret_quiet.specs.declared.worth.Truth.TheVariants as truths
 use Rattle.bc_interpret_steps.specs.declared.state.State.{State}
-use Rattle.bc_interpret_steps.specs.declared.calls.Room.{Room}
-use Rattle.bc_interpret_steps.specs.declared.calls.Room.TheVariants as rooms
+use Rattle.bc_interpret_steps.specs.declared.calls.Fit.{Fit}
+use Rattle.bc_interpret_steps.specs.declared.calls.Fit.TheVariants as fits
 use Rattle.bc_interpret_steps.specs.declared.forms.Work.{Work}
 use Rattle.bc_interpret_steps.specs.declared.forms.Work.TheVariants as works
 use Rattle.bc_interpret_steps.specs.declared.forms.Primitive.{Primitive}
 use Rattle.bc_interpret_steps.specs.declared.forms.Primitive.TheVariants as primitive_forms
-use Rattle.bc_interpret_steps.specs.declared.forms.Ending.{Ending}
+use Rattle.bc_interpret_steps.specs.Endings.{ending}
 use Rattle.bc_interpret_steps.specs.declared.forms.Ending.TheVariants as endings
 use Rattle.bc_interpret_steps.specs.declared.forms.Exit.{Exit}
 use Rattle.bc_interpret_steps.specs.declared.forms.Progress.{Progress}
@@ -33,10 +33,6 @@ use Rattle.bc_interpret_steps.specs.Code.{work_of, exit_of, stack, given}
 
 abbrev pub state_of : State → Content → outcomes.State
 state_of st streams = record { cells = st.store; streams = streams; turns = st.turns }
-
-abbrev pub ending : Ending → outcomes.Ending
-ending endings.Finished = outcomes.Finished
-ending endings.ZeroDivide = outcomes.ZeroDivide
 
 abbrev pub primitive_of : Primitive → primitives.Primitive
 primitive_of (primitive_forms.Select side) = primitives.Select side
@@ -80,6 +76,7 @@ progress_of (worths.Is v) = progress.On (works.Number v)
 progress_of worths.Divides = progress.Ended endings.ZeroDivide
 progress_of (worths.Fails c) = progress.Wild c
 
+-- what comes of a test that has this truth
 abbrev pub progress_of_truth : Truth → Progress
 progress_of_truth (truths.Is t) = progress.On (works.Verdict t)
 progress_of_truth truths.Divides = progress.Ended endings.ZeroDivide
@@ -99,10 +96,10 @@ abbrev pub IsBehindCases : (out within : exits.Exit) → Type 0
 IsBehindCases out within = (st : outcomes.State) → lists.behind_cases within st ≡ outcomes.Done out st
 
 -- whether a call goes on in a frame at f
-abbrev pub Framed : Room → (f size : ℕ) → State → State → Type 0
-Framed rooms.Fits f size old new = (r : machine.Step) (streams : Content) → frame_taken f size r (state_of old streams) ≡ r (state_of new streams)
-Framed rooms.TooLarge f size old new = (r : machine.Step) (streams : Content) → frame_taken f size r (state_of old streams) ≡ outcomes.Wild
-Framed rooms.NoTurn f size old new = (r : machine.Step) (streams : Content) → frame_taken f size r (state_of old streams) ≡ outcomes.Going streams
+abbrev pub Framed : Fit → (f size : ℕ) → State → State → Type 0
+Framed fits.Fits f size old new = (r : machine.Step) (streams : Content) → frame_taken f size r (state_of old streams) ≡ r (state_of new streams)
+Framed fits.TooLarge f size old new = (r : machine.Step) (streams : Content) → frame_taken f size r (state_of old streams) ≡ outcomes.Wild
+Framed fits.NoTurn f size old new = (r : machine.Step) (streams : Content) → frame_taken f size r (state_of old streams) ≡ outcomes.Going streams
 
 abbrev pub primitive_if : Option Primitive → Option primitives.Primitive
 primitive_if None = None

@@ -1,5 +1,5 @@
 -- What the interpreter's values stand for.
-use Rattle.std.specs.Prelude.{◌≡◌, ℕ, Bool, true, false, List, [], ◌∷◌, ◌++◌, map, reverse, slice_index_or, Option, Some, None}
+use Rattle.std.specs.Prelude.{◌≡◌, ℕ, Bool, true, false, List, [], ◌∷◌, ◌++◌, map, drop, reverse, slice_index_or, Option, Some, None}
 use Rattle.bc_core.specs.View.{exp, args, items, variable, declarations, command, block_of, valof_of}
 use Rattle.bc_core.specs.Commands as commands
 use Rattle.bc_core.specs.Exit as exits
@@ -26,7 +26,14 @@ use Rattle.bc_interpret_steps.specs.declared.rests.Rest.{Rest}
 use Rattle.bc_interpret_steps.specs.declared.rests.Rest.TheVariants as rests
 
 abbrev pub spot_of : Spot → machine.Spot
-spot_of E = record { address = λ l. slice_index_or E.addresses.now l 0; first = E.first; valofs = map valof_of E.valofs.now; frame = E.frame }
+spot_of E =
+    record {
+      address = λ l. slice_index_or E.section.now.addresses.now l 0;
+      first = E.first;
+      valofs = map valof_of (drop E.first E.section.now.valofs.now);
+      frame =
+          E.frame;
+    }
 
 abbrev pub exit_of : Exit → exits.Exit
 exit_of exit_forms.Past = exits.Past

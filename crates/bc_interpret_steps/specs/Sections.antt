@@ -16,7 +16,7 @@ abbrev pub program_of : List Section → List Placed
 program_of ss = map placed_of ss
 
 abbrev pub callee_of : Callable → Callee
-callee_of e = OfSection (placed_of e.section) (routine_of e.routine.now)
+callee_of e = OfSection (placed_of e.section.now) (routine_of e.routine.now)
 
 -- the first routine with this address, or the primitive
 abbrev pub entry_among : List Callable → ℕ → Option Callable
@@ -32,7 +32,7 @@ called None a = of_library (primitive_among primitives a)
 
 -- the frame has the cells that the routine takes
 abbrev pub IsSized : Callable → Type 0
-IsSized e = e.frame ≡ frame_size (map valof_of e.section.valofs.now) (routine_of e.routine.now)
+IsSized e = e.frame ≡ frame_size (map valof_of e.section.now.valofs.now) (routine_of e.routine.now)
 
 -- the table has the routines of the program
 pub record IsTable (program : List Placed) (table : List Callable) : Type 0 where

@@ -1,5 +1,5 @@
--- What a step came to, with the end of the whole run.
-use Rattle.std.specs.Prelude.{ℕ, ◌≡◌, List, [], Vec, Result, IfOk}
+-- For proofs: what a step came to, with the end of the whole run.
+use Rattle.std.specs.Prelude.{ℕ, ◌≡◌, List, [], Vec, Result, OnOk, IfOk}
 use Rattle.std.specs.declared.alloc.Global.{Global}
 use Rattle.bc_core.specs.Map.{Placed}
 use Rattle.bc_interpret_defs.specs.Machine as machine
@@ -20,17 +20,18 @@ abbrev pub Stepped :
 Stepped program w rs old progress.Answered rs1 vs1 new = ((a : machine.Answer) × (w ≡ machine.Give a)) × (rs ≡ []) × (new ≡ old)
 Stepped program w rs old p rs1 vs1 new = Moves w rs × Came (step program w rs) old p rs1 vs1 new
 
--- The same of what a call answers, if memory sufficed. For proofs: what came of a step that is given what is left to do,
+-- The same of what a call leaves to come next, if memory sufficed. For proofs: what came of a step that is given what is left to do,
 abbrev pub Proceeds :
-    {E : Type 0}
-    → (List machine.Rest → machine.Step) → (before : Vec Rest Global) → (old : State) → Result Progress E → (after : Vec Rest Global) → (new : State) → Type 0
-Proceeds f before old result after new = IfOk result (λ p. Goes f before.items old p after.items new)
+    {A E : Type 0}
+    → (List machine.Rest → machine.Step) → (before : Vec Rest Global) → (old : State) → Result A E → Progress → (after : Vec Rest Global) → (new : State)
+    → Type 0
+Proceeds f before old result p after new = OnOk result (Goes f before.items old p after.items new)
 
 -- an answer that is taken by what is left to do first,
 abbrev pub Takes :
-    {E : Type 0}
-    → machine.Rest → machine.Answer → (before : Vec Rest Global) → (old : State) → Result Progress E → (after : Vec Rest Global) → (new : State) → Type 0
-Takes r a before old result after new = (program : List Placed) → IfOk result (λ p. Goes (next program r a) before.items old p after.items new)
+    {A E : Type 0}
+    → machine.Rest → machine.Answer → (before : Vec Rest Global) → (old : State) → Result A E → Progress → (after : Vec Rest Global) → (new : State) → Type 0
+Takes r a before old result p after new = (program : List Placed) → OnOk result (Goes (next program r a) before.items old p after.items new)
 
 -- which leaves what is behind it alone,
 abbrev pub Gives : machine.Rest → machine.Answer → (old : State) → Progress → (new : State) → Type 0
@@ -41,8 +42,8 @@ GivesIfOk r a old result new = (program : List Placed) (rs : List machine.Rest) 
 
 -- and a step of a program with such a table
 abbrev pub StepsOver :
-    {E : Type 0}
-    → List Callable → machine.Work → (before : Vec Rest Global) → (old : State) → Result Progress E → (after : Vec Rest Global) → (new : State) → Type 0
-StepsOver table w before old result after new =
+    {A E : Type 0}
+    → List Callable → machine.Work → (before : Vec Rest Global) → (old : State) → Result A E → Progress → (after : Vec Rest Global) → (new : State) → Type 0
+StepsOver table w before old result p after new =
     (program : List Placed) → IsTable program table
-    → IfOk result (λ p. Stepped program w (stack before.items) old p (stack after.items) (given after.items) new)
+    → OnOk result (Stepped program w (stack before.items) old p (stack after.items) (given after.items) new)

@@ -21,21 +21,26 @@ pub(crate) fn give_number<'c>(
     v: u16,
     stacks: &mut Stacks<'c>,
     state: &mut State,
-) -> Result<Progress<'c>, Memory>
-    ensures { StepsOver table.now (machine.Give (machine.Number v)) stacks.old.rests state.old result stacks.new.rests state.new }
+) -> Result<(), Memory>
+    ensures { StepsOver table.now (machine.Give (machine.Number v)) stacks.old.rests state.old result stacks.new.next stacks.new.rests state.new }
 {
     match stacks.take() {
-        None => Ok(Progress::Answered),
-        Some(Rest::Number(rest)) => Ok(number_taken(&rest, v, &mut stacks.rests, state)?),
-        Some(Rest::Value(rest)) => Ok(value_taken(&rest, v, &mut stacks.rests, state)?),
+        None => {
+            stacks.next = Progress::Answered;
+            Ok(())
+        }
+        Some(Rest::Number(rest)) => Ok(number_taken(&rest, v, stacks, state)?),
+        Some(Rest::Value(rest)) => Ok(value_taken(&rest, v, stacks, state)?),
         Some(Rest::Calls(fresh, frame)) => Ok(arrive(table, v, fresh, frame, stacks, state)?),
         Some(Rest::Closes(count, from)) => {
-            state.store.close(count, from);
-            Ok(Progress::On(Work::Number(v)))
+            state.store.close(count as usize, from as usize);
+            stacks.next = Progress::On(Work::Number(v));
+            Ok(())
         }
-        Some(Rest::Truth(_) | Rest::Nothing(_) | Rest::Exit(_) | Rest::Given(_, _)) => Ok(
-            Progress::Wild(Cause::Malformed),
-        ),
+        Some(Rest::Truth(_) | Rest::Nothing(_) | Rest::Exit(_) | Rest::Given(_, _)) => {
+            stacks.next = Progress::Wild(Cause::Malformed);
+            Ok(())
+        }
     }
 }
 
@@ -45,15 +50,19 @@ pub(crate) fn give_verdict<'c>(
     t: bool,
     stacks: &mut Stacks<'c>,
     state: &mut State,
-) -> Result<Progress<'c>, Memory>
-    ensures { StepsOver table.now (machine.Give (machine.Verdict t)) stacks.old.rests state.old result stacks.new.rests state.new }
+) -> Result<(), Memory>
+    ensures { StepsOver table.now (machine.Give (machine.Verdict t)) stacks.old.rests state.old result stacks.new.next stacks.new.rests state.new }
 {
     match stacks.take() {
-        None => Ok(Progress::Answered),
+        None => {
+            stacks.next = Progress::Answered;
+            Ok(())
+        }
         Some(Rest::Truth(rest)) => Ok(truth_taken(&rest, t, stacks, state)?),
         Some(Rest::Closes(count, from)) => {
-            state.store.close(count, from);
-            Ok(Progress::On(Work::Verdict(t)))
+            state.store.close(count as usize, from as usize);
+            stacks.next = Progress::On(Work::Verdict(t));
+            Ok(())
         }
         Some(
             Rest::Number(_)
@@ -62,7 +71,10 @@ pub(crate) fn give_verdict<'c>(
             | Rest::Nothing(_)
             | Rest::Exit(_)
             | Rest::Given(_, _),
-        ) => { Ok(Progress::Wild(Cause::Malformed)) }
+        ) => {
+            stacks.next = Progress::Wild(Cause::Malformed);
+            Ok(())
+        }
     }
 }
 
@@ -71,15 +83,19 @@ pub(crate) fn give_nothing<'c>(
     table: &[Callable<'c>],
     stacks: &mut Stacks<'c>,
     state: &mut State,
-) -> Result<Progress<'c>, Memory>
-    ensures { StepsOver table.now (machine.Give machine.Nothing) stacks.old.rests state.old result stacks.new.rests state.new }
+) -> Result<(), Memory>
+    ensures { StepsOver table.now (machine.Give machine.Nothing) stacks.old.rests state.old result stacks.new.next stacks.new.rests state.new }
 {
     match stacks.take() {
-        None => Ok(Progress::Answered),
-        Some(Rest::Nothing(rest)) => Ok(nothing_taken(&rest, &mut stacks.rests)?),
+        None => {
+            stacks.next = Progress::Answered;
+            Ok(())
+        }
+        Some(Rest::Nothing(rest)) => Ok(nothing_taken(&rest, stacks)?),
         Some(Rest::Closes(count, from)) => {
-            state.store.close(count, from);
-            Ok(Progress::On(Work::Nothing))
+            state.store.close(count as usize, from as usize);
+            stacks.next = Progress::On(Work::Nothing);
+            Ok(())
         }
         Some(
             Rest::Number(_)
@@ -88,7 +104,10 @@ pub(crate) fn give_nothing<'c>(
             | Rest::Truth(_)
             | Rest::Exit(_)
             | Rest::Given(_, _),
-        ) => { Ok(Progress::Wild(Cause::Malformed)) }
+        ) => {
+            stacks.next = Progress::Wild(Cause::Malformed);
+            Ok(())
+        }
     }
 }
 
@@ -98,15 +117,19 @@ pub(crate) fn give_exit<'c>(
     exit: Exit,
     stacks: &mut Stacks<'c>,
     state: &mut State,
-) -> Result<Progress<'c>, Memory>
-    ensures { StepsOver table.now (machine.Give (machine.Left (exit_of exit))) stacks.old.rests state.old result stacks.new.rests state.new }
+) -> Result<(), Memory>
+    ensures { StepsOver table.now (machine.Give (machine.Left (exit_of exit))) stacks.old.rests state.old result stacks.new.next stacks.new.rests state.new }
 {
     match stacks.take() {
-        None => Ok(Progress::Answered),
+        None => {
+            stacks.next = Progress::Answered;
+            Ok(())
+        }
         Some(Rest::Exit(rest)) => Ok(exit_taken(&rest, exit, stacks, state)?),
         Some(Rest::Closes(count, from)) => {
-            state.store.close(count, from);
-            Ok(Progress::On(Work::Left(exit)))
+            state.store.close(count as usize, from as usize);
+            stacks.next = Progress::On(Work::Left(exit));
+            Ok(())
         }
         Some(
             Rest::Number(_)
@@ -115,6 +138,9 @@ pub(crate) fn give_exit<'c>(
             | Rest::Truth(_)
             | Rest::Nothing(_)
             | Rest::Given(_, _),
-        ) => { Ok(Progress::Wild(Cause::Malformed)) }
+        ) => {
+            stacks.next = Progress::Wild(Cause::Malformed);
+            Ok(())
+        }
     }
 }

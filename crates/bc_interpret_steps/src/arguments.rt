@@ -20,15 +20,15 @@ pub(crate) fn argue<'c>(
     arguments: Arguments<'c>,
     stacks: &mut Stacks<'c>,
     state: &State,
-) -> Result<Progress<'c>, Memory>
-    ensures { Proceeds (Argued arguments.entry stacks.old.rests.items) stacks.old.rests state.now result stacks.new.rests state.now }
+) -> Result<(), Memory>
+    ensures { Proceeds (Argued arguments.entry stacks.old.rests.items) stacks.old.rests state.now result stacks.new.next stacks.new.rests state.now }
 {
     let mut now = arguments;
     while let [first, behind @ ..] = now.left {
         let given = give_argument(now, first, behind, stacks, state)?;
         match given {
             Given::One(next) => now = next,
-            Given::Over(progress) => return Ok(progress),
+            Given::Over => return Ok(()),
         }
     }
     Ok(argue_routine(now, stacks, state)?)
@@ -39,7 +39,8 @@ pub(crate) fn argue<'c>(
 enum Given<'c> {
     /// It is given, and these are left.
     One(Arguments<'c>),
-    Over(Progress<'c>),
+    /// The step is over.
+    Over,
 }
 
 /// The first argument of those that are left, with the others.
@@ -52,7 +53,8 @@ fn give_argument<'c>(
     stacks: &mut Stacks<'c>,
     state: &State,
 ) -> Result<Given<'c>, Memory>
-    ensures { IfOk result (λ given. IsGivenOne arguments.entry first.now behind.now stacks.old.rests.items state.now given stacks.new.rests.items) }
+    ensures { IfOk result (λ given.
+        IsGivenOne arguments.entry first.now behind.now stacks.old.rests.items state.now given stacks.new.next stacks.new.rests.items) }
 {
     match worth_at(&arguments.spot, first, &mut stacks.room, state)? {
         Some(Worth::Is(v)) => {
@@ -66,15 +68,18 @@ fn give_argument<'c>(
         }
         Some(Worth::Divides) => {
             put_argues(arguments, behind, &mut stacks.rests)?;
-            Ok(Given::Over(Progress::Ended(Ending::ZeroDivide)))
+            stacks.next = Progress::Ended(Ending::ZeroDivide);
+            Ok(Given::Over)
         }
         Some(Worth::Fails(cause)) => {
             put_argues(arguments, behind, &mut stacks.rests)?;
-            Ok(Given::Over(Progress::Wild(cause)))
+            stacks.next = Progress::Wild(cause);
+            Ok(Given::Over)
         }
         None => {
             put_argues(arguments, behind, &mut stacks.rests)?;
-            Ok(Given::Over(Progress::On(Work::Evaluate(arguments.spot, first, arguments.level))))
+            stacks.next = Progress::On(Work::Evaluate(arguments.spot, first, arguments.level));
+            Ok(Given::Over)
         }
     }
 }
@@ -106,15 +111,21 @@ fn argue_routine<'c>(
     arguments: Arguments<'c>,
     stacks: &mut Stacks<'c>,
     state: &State,
-) -> Result<Progress<'c>, Memory>
-    ensures { Proceeds (ArguedLast arguments.entry stacks.old.rests.items) stacks.old.rests state.now result stacks.new.rests state.now }
+) -> Result<(), Memory>
+    ensures { Proceeds (ArguedLast arguments.entry stacks.old.rests.items) stacks.old.rests state.now result stacks.new.next stacks.new.rests state.now }
 {
     let frame = above(arguments.spot.frame, arguments.s)?;
     let level = above(above(arguments.s, 2)?, arguments.count)?;
     put(Rest::Calls(arguments.fresh, frame), &mut stacks.rests)?;
     match worth_at(&arguments.spot, arguments.routine, &mut stacks.room, state)? {
-        Some(worth) => Ok(settled(worth)),
-        None => Ok(Progress::On(Work::Evaluate(arguments.spot, arguments.routine, level))),
+        Some(worth) => {
+            stacks.next = settled(worth);
+            Ok(())
+        }
+        None => {
+            stacks.next = Progress::On(Work::Evaluate(arguments.spot, arguments.routine, level));
+            Ok(())
+        }
     }
 }
 

@@ -17,7 +17,7 @@ use bc_word::Memory;
 
 /// Whether a call goes on.
 #[derive(Clone, Copy)]
-pub(crate) enum Room {
+pub(crate) enum Fit {
     /// It does, and its turn is taken.
     Fits,
     /// Its frame would pass the address 65,535.
@@ -28,16 +28,16 @@ pub(crate) enum Room {
 
 /// Takes the turn of a call with a frame of this size, if the frame fits.
 #[tactic(auto, using(crate::proofs::Frames::too_large, crate::proofs::Frames::no_turn, crate::proofs::Frames::fits))]
-fn take_room(frame: usize, size: usize, state: &mut State) -> Result<Room, Memory>
+fn take_room(frame: u32, size: usize, state: &mut State) -> Result<Fit, Memory>
     ensures { IfOk result (λ found. Framed found frame size state.old state.new) }
 {
-    if above(frame, size)? > 65536 {
-        return Ok(Room::TooLarge);
+    if (frame as usize).checked_add(size).ok_or(Memory)? > 65536 {
+        return Ok(Fit::TooLarge);
     }
     if !turn(state) {
-        return Ok(Room::NoTurn);
+        return Ok(Fit::NoTurn);
     }
-    Ok(Room::Fits)
+    Ok(Fit::Fits)
 }
 
 /// The primitive whose code stands at this address.
@@ -60,18 +60,27 @@ fn primitive_at(address: u16) -> Option<Primitive>
 /// Into a primitive, in the frame at this address.
 fn enter_primitive<'c>(
     primitive: Primitive,
-    frame: usize,
+    frame: u32,
     stacks: &mut Stacks<'c>,
     state: &mut State,
-) -> Result<Progress<'c>, Memory>
+) -> Result<(), Memory>
     ensures { Enters (Some (OfLibrary (primitive_of primitive))) frame stacks.old state.old result stacks.new state.new }
 {
     match take_room(frame, 3, state)? {
-        Room::TooLarge => Ok(Progress::Wild(Cause::FrameTooLarge(frame))),
-        Room::NoTurn => Ok(Progress::Going),
-        Room::Fits => {
-            state.store.pass(1, above(frame, 2)?, &mut stacks.arguments);
-            Ok(Progress::Serve(primitive, frame))
+        Fit::TooLarge => {
+            stacks.next = Progress::Wild(Cause::FrameTooLarge(frame as usize));
+            Ok(())
+        }
+        Fit::NoTurn => {
+            stacks.next = Progress::Going;
+            Ok(())
+        }
+        Fit::Fits => {
+            state
+                .store
+                .pass(1, above(frame, 2)? as usize, &mut stacks.arguments);
+            stacks.next = Progress::Serve(primitive, frame);
+            Ok(())
         }
     }
 }
@@ -79,32 +88,43 @@ fn enter_primitive<'c>(
 /// Into a routine, in the frame at this address.
 fn enter_routine<'c>(
     entry: Callable<'c>,
-    frame: usize,
+    frame: u32,
     stacks: &mut Stacks<'c>,
     state: &mut State,
-) -> Result<Progress<'c>, Memory>
+) -> Result<(), Memory>
     ensures { IsSized entry.entry → Enters (Some (callee_of entry.entry)) frame stacks.old state.old result stacks.new state.new }
 {
     match take_room(frame, entry.frame, state)? {
-        Room::TooLarge => Ok(Progress::Wild(Cause::FrameTooLarge(frame))),
-        Room::NoTurn => Ok(Progress::Going),
-        Room::Fits => {
-            let parameters = entry.routine.parameters as usize;
+        Fit::TooLarge => {
+            stacks.next = Progress::Wild(Cause::FrameTooLarge(frame as usize));
+            Ok(())
+        }
+        Fit::NoTurn => {
+            stacks.next = Progress::Going;
+            Ok(())
+        }
+        Fit::Fits => {
+            let parameters = u32::from(entry.routine.parameters);
             let from = above(frame, 2)?;
             let level = above(2, parameters)?;
-            state.store.pass(parameters, from, &mut stacks.arguments);
+            state
+                .store
+                .pass(parameters as usize, from as usize, &mut stacks.arguments);
             put(Rest::Closes(parameters, from), &mut stacks.rests)?;
             let spot = Spot {
-                addresses: entry.section.addresses,
+                section: entry.section,
                 first: 0,
-                valofs: entry.section.valofs,
                 frame,
             };
             match &entry.routine.body {
-                Body::Value(e) => Ok(Progress::On(Work::Evaluate(spot, e, level))),
+                Body::Value(e) => {
+                    stacks.next = Progress::On(Work::Evaluate(spot, e, level));
+                    Ok(())
+                }
                 Body::Commands(block) => {
                     put(Rest::Exit(ExitRest::Returns), &mut stacks.rests)?;
-                    Ok(Progress::On(Work::Enter(spot, block, level)))
+                    stacks.next = Progress::On(Work::Enter(spot, block, level));
+                    Ok(())
                 }
             }
         }
@@ -116,10 +136,10 @@ pub(crate) fn arrive<'c>(
     table: &[Callable<'c>],
     routine: u16,
     fresh: bool,
-    frame: usize,
+    frame: u32,
     stacks: &mut Stacks<'c>,
     state: &mut State,
-) -> Result<Progress<'c>, Memory>
+) -> Result<(), Memory>
     ensures { Arrives table.now routine fresh frame stacks.old state.old result stacks.new state.new }
 {
     stacks.gather(fresh)?;
@@ -127,7 +147,10 @@ pub(crate) fn arrive<'c>(
         Some(entry) => enter_routine(entry, frame, stacks, state),
         None => match primitive_at(routine) {
             Some(primitive) => enter_primitive(primitive, frame, stacks, state),
-            None => Ok(Progress::Wild(Cause::NotRoutine(routine))),
+            None => {
+                stacks.next = Progress::Wild(Cause::NotRoutine(routine));
+                Ok(())
+            }
         },
     }
 }

@@ -31,17 +31,19 @@ use bc_word::Memory;
 pub(crate) fn perform<'c>(
     spot: Spot<'c>,
     command: &'c Command,
-    s: usize,
+    s: u32,
     stacks: &mut Stacks<'c>,
     state: &mut State,
-) -> Result<Progress<'c>, Memory>
-    ensures { Proceeds (machine.perform_step (spot_of spot.entry) (command_view command.now) s) stacks.old.rests state.old result stacks.new.rests state.new }
+) -> Result<(), Memory>
+    ensures { Proceeds (machine.perform_step (spot_of spot.entry)
+        (command_view command.now) s) stacks.old.rests state.old result stacks.new.next stacks.new.rests state.new }
 {
     match command {
         Command::Call(call) => Ok(behind_value(ValueRest::Drops, spot, call, s, stacks, state)?),
         Command::Assign { value, address } => {
             put(Rest::Nothing(NothingRest::Passes), &mut stacks.rests)?;
-            Ok(Progress::On(Work::Store(spot, value, address, s)))
+            stacks.next = Progress::On(Work::Store(spot, value, address, s));
+            Ok(())
         }
         Command::If(condition, body) => Ok(if_so(spot, condition, body, s, stacks, state)?),
         Command::Test(test, this, that) => Ok(test_which(
@@ -53,13 +55,9 @@ pub(crate) fn perform<'c>(
             state,
         )?),
         Command::While(condition, body) => Ok(while_loop(spot, condition, body, s, stacks, state)?),
-        Command::Repeat(body) => Ok(repeat(spot, body, s, &mut stacks.rests)?),
+        Command::Repeat(body) => Ok(repeat(spot, body, s, stacks)?),
         Command::RepeatWhile(body, condition) => Ok(repeat_while(
-            spot,
-            body,
-            condition,
-            s,
-            &mut stacks.rests,
+            spot, body, condition, s, stacks,
         )?),
         Command::For {
             start,
@@ -68,17 +66,18 @@ pub(crate) fn perform<'c>(
             body,
         } => {
             let cell = above(spot.frame, s)?;
-            state.store.open(1, cell);
+            state.store.open(1, cell as usize);
             put(Rest::Closes(1, cell), &mut stacks.rests)?;
             put(
                 Rest::Nothing(NothingRest::Limits(spot, limit, by.get(), body, s)),
                 &mut stacks.rests,
             )?;
             put(
-                Rest::Value(ValueRest::StoresAt(cell_of(spot.frame, s)?)),
+                Rest::Value(ValueRest::StoresAt(cell_of(spot.frame as usize, s as usize)?)),
                 &mut stacks.rests,
             )?;
-            Ok(Progress::On(Work::Evaluate(spot, start, above(s, 2)?)))
+            stacks.next = Progress::On(Work::Evaluate(spot, start, above(s, 2)?));
+            Ok(())
         }
         Command::SwitchOn(value, items) => Ok(behind_value(
             ValueRest::Switches(spot, items, s),
@@ -88,10 +87,22 @@ pub(crate) fn perform<'c>(
             stacks,
             state,
         )?),
-        Command::Break => Ok(Progress::On(Work::Left(Exit::Broke))),
-        Command::Loop => Ok(Progress::On(Work::Left(Exit::Looped))),
-        Command::EndCase => Ok(Progress::On(Work::Left(Exit::LeftCases))),
-        Command::Return => Ok(Progress::On(Work::Left(Exit::Returned))),
+        Command::Break => {
+            stacks.next = Progress::On(Work::Left(Exit::Broke));
+            Ok(())
+        }
+        Command::Loop => {
+            stacks.next = Progress::On(Work::Left(Exit::Looped));
+            Ok(())
+        }
+        Command::EndCase => {
+            stacks.next = Progress::On(Work::Left(Exit::LeftCases));
+            Ok(())
+        }
+        Command::Return => {
+            stacks.next = Progress::On(Work::Left(Exit::Returned));
+            Ok(())
+        }
         Command::ResultIs(value) => Ok(behind_value(
             ValueRest::Leaves,
             spot,
@@ -100,12 +111,17 @@ pub(crate) fn perform<'c>(
             stacks,
             state,
         )?),
-        Command::Finish => Ok(Progress::Ended(Ending::Finished)),
+        Command::Finish => {
+            stacks.next = Progress::Ended(Ending::Finished);
+            Ok(())
+        }
         Command::Goto(label) => {
             if !turn(state) {
-                return Ok(Progress::Going);
+                stacks.next = Progress::Going;
+                return Ok(());
             }
-            Ok(Progress::On(Work::Left(Exit::Jumped(*label))))
+            stacks.next = Progress::On(Work::Left(Exit::Jumped(*label)));
+            Ok(())
         }
         Command::Nested(body) => Ok(enter(spot, body, s, stacks, state)?),
     }
@@ -116,11 +132,12 @@ fn behind_value<'c>(
     rest: ValueRest<'c>,
     spot: Spot<'c>,
     e: &'c CoreExp,
-    s: usize,
+    s: u32,
     stacks: &mut Stacks<'c>,
     state: &State,
-) -> Result<Progress<'c>, Memory>
-    ensures { Proceeds (λ rs. machine.evaluate (spot_of spot.entry) (exp e.now) s (value_rest rest.entry ∷ rs)) stacks.old.rests state.now result
+) -> Result<(), Memory>
+    ensures { Proceeds (λ rs. machine.evaluate (spot_of spot.entry) (exp e.now) s
+        (value_rest rest.entry ∷ rs)) stacks.old.rests state.now result stacks.new.next
         stacks.new.rests state.now }
 {
     put(Rest::Value(rest), &mut stacks.rests)?;
@@ -132,12 +149,13 @@ fn test_which<'c>(
     spot: Spot<'c>,
     test: &'c CoreExp,
     branches: (&'c Block, &'c Block),
-    s: usize,
+    s: u32,
     stacks: &mut Stacks<'c>,
     state: &State,
-) -> Result<Progress<'c>, Memory>
+) -> Result<(), Memory>
     ensures { Proceeds (λ rs. machine.decide (spot_of spot.entry) (exp test.now) s
-        (truth_rest (truth_rests.Chooses spot.entry branches.entry.0 branches.entry.1 s) ∷ rs)) stacks.old.rests state.now result stacks.new.rests state.now }
+        (truth_rest (truth_rests.Chooses spot.entry branches.entry.0 branches.entry.1 s)
+        ∷ rs)) stacks.old.rests state.now result stacks.new.next stacks.new.rests state.now }
 {
     let (this, that) = branches;
     put(
@@ -154,17 +172,18 @@ pub(crate) fn enter_if<'c>(
     holds: bool,
     spot: Spot<'c>,
     body: &'c Block,
-    s: usize,
+    s: u32,
     stacks: &mut Stacks<'c>,
     state: &mut State,
-) -> Result<Progress<'c>, Memory>
+) -> Result<(), Memory>
     ensures { Proceeds (λ rs. choose holds (machine.enter (spot_of spot.entry) (block_of body.now) s rs) (machine.give (machine.Left Past) rs))
-        stacks.old.rests state.old result stacks.new.rests state.new }
+        stacks.old.rests state.old result stacks.new.next stacks.new.rests state.new }
 {
     if holds {
         return Ok(enter(spot, body, s, stacks, state)?);
     }
-    Ok(Progress::On(Work::Left(Exit::Past)))
+    stacks.next = Progress::On(Work::Left(Exit::Past));
+    Ok(())
 }
 
 /// Into one of two blocks: the first where this is true.
@@ -174,12 +193,13 @@ pub(crate) fn enter_either<'c>(
     t: bool,
     spot: Spot<'c>,
     branches: (&'c Block, &'c Block),
-    s: usize,
+    s: u32,
     stacks: &mut Stacks<'c>,
     state: &mut State,
-) -> Result<Progress<'c>, Memory>
+) -> Result<(), Memory>
     ensures { Proceeds (λ rs. choose t (machine.enter (spot_of spot.entry) (block_of branches.entry.0.now) s rs)
-        (machine.enter (spot_of spot.entry) (block_of branches.entry.1.now) s rs)) stacks.old.rests state.old result stacks.new.rests state.new }
+        (machine.enter (spot_of spot.entry)
+        (block_of branches.entry.1.now) s rs)) stacks.old.rests state.old result stacks.new.next stacks.new.rests state.new }
 {
     let (this, that) = branches;
     if t {
@@ -194,12 +214,12 @@ fn while_body<'c>(
     spot: Spot<'c>,
     condition: &'c Condition,
     body: &'c Block,
-    s: usize,
+    s: u32,
     stacks: &mut Stacks<'c>,
     state: &mut State,
-) -> Result<Progress<'c>, Memory>
+) -> Result<(), Memory>
     ensures { Proceeds (λ rs. machine.enter (spot_of spot.entry) (block_of body.now) s (machine.WhileBody (spot_of spot.entry) condition.now.sense
-        (exp condition.now.test) (block_of body.now) s ∷ rs)) stacks.old.rests state.old result stacks.new.rests state.new }
+        (exp condition.now.test) (block_of body.now) s ∷ rs)) stacks.old.rests state.old result stacks.new.next stacks.new.rests state.new }
 {
     put(
         Rest::Exit(ExitRest::WhileBody(spot, condition, body, s)),
@@ -216,18 +236,19 @@ pub(crate) fn enter_while<'c>(
     spot: Spot<'c>,
     condition: &'c Condition,
     body: &'c Block,
-    s: usize,
+    s: u32,
     stacks: &mut Stacks<'c>,
     state: &mut State,
-) -> Result<Progress<'c>, Memory>
+) -> Result<(), Memory>
     ensures { Proceeds (λ rs. choose holds (machine.enter (spot_of spot.entry) (block_of body.now) s (machine.WhileBody (spot_of spot.entry)
         condition.now.sense (exp condition.now.test) (block_of body.now) s ∷ rs)) (machine.give (machine.Left Past) rs))
-        stacks.old.rests state.old result stacks.new.rests state.new }
+        stacks.old.rests state.old result stacks.new.next stacks.new.rests state.new }
 {
     if holds {
         return Ok(while_body(spot, condition, body, s, stacks, state)?);
     }
-    Ok(Progress::On(Work::Left(Exit::Past)))
+    stacks.next = Progress::On(Work::Left(Exit::Past));
+    Ok(())
 }
 
 /// One step into an IF or UNLESS.
@@ -237,12 +258,12 @@ fn if_so<'c>(
     spot: Spot<'c>,
     condition: &'c Condition,
     body: &'c Block,
-    s: usize,
+    s: u32,
     stacks: &mut Stacks<'c>,
     state: &mut State,
-) -> Result<Progress<'c>, Memory>
+) -> Result<(), Memory>
     ensures { Proceeds (machine.perform_step (spot_of spot.entry) (commands.If condition.now.sense (exp condition.now.test) (block_of body.now)) s)
-        stacks.old.rests state.old result stacks.new.rests state.new }
+        stacks.old.rests state.old result stacks.new.next stacks.new.rests state.new }
 {
     match truth_at(&spot, &condition.test, &mut stacks.room, state)? {
         Some(Truth::Is(t)) => {
@@ -254,21 +275,24 @@ fn if_so<'c>(
                 Rest::Truth(TruthRest::Ifs(spot, condition.sense, body, s)),
                 &mut stacks.rests,
             )?;
-            Ok(Progress::Ended(Ending::ZeroDivide))
+            stacks.next = Progress::Ended(Ending::ZeroDivide);
+            Ok(())
         }
         Some(Truth::Fails(cause)) => {
             put(
                 Rest::Truth(TruthRest::Ifs(spot, condition.sense, body, s)),
                 &mut stacks.rests,
             )?;
-            Ok(Progress::Wild(cause))
+            stacks.next = Progress::Wild(cause);
+            Ok(())
         }
         None => {
             put(
                 Rest::Truth(TruthRest::Ifs(spot, condition.sense, body, s)),
                 &mut stacks.rests,
             )?;
-            Ok(Progress::On(Work::Decide(spot, &condition.test, s)))
+            stacks.next = Progress::On(Work::Decide(spot, &condition.test, s));
+            Ok(())
         }
     }
 }
@@ -280,12 +304,12 @@ pub(crate) fn while_loop<'c>(
     spot: Spot<'c>,
     condition: &'c Condition,
     body: &'c Block,
-    s: usize,
+    s: u32,
     stacks: &mut Stacks<'c>,
     state: &mut State,
-) -> Result<Progress<'c>, Memory>
+) -> Result<(), Memory>
     ensures { Proceeds (machine.perform_step (spot_of spot.entry) (commands.While condition.now.sense (exp condition.now.test) (block_of body.now)) s)
-        stacks.old.rests state.old result stacks.new.rests state.new }
+        stacks.old.rests state.old result stacks.new.next stacks.new.rests state.new }
 {
     match truth_at(&spot, &condition.test, &mut stacks.room, state)? {
         Some(Truth::Is(t)) => {
@@ -297,21 +321,24 @@ pub(crate) fn while_loop<'c>(
                 Rest::Truth(TruthRest::Whiles(spot, condition, body, s)),
                 &mut stacks.rests,
             )?;
-            Ok(Progress::Ended(Ending::ZeroDivide))
+            stacks.next = Progress::Ended(Ending::ZeroDivide);
+            Ok(())
         }
         Some(Truth::Fails(cause)) => {
             put(
                 Rest::Truth(TruthRest::Whiles(spot, condition, body, s)),
                 &mut stacks.rests,
             )?;
-            Ok(Progress::Wild(cause))
+            stacks.next = Progress::Wild(cause);
+            Ok(())
         }
         None => {
             put(
                 Rest::Truth(TruthRest::Whiles(spot, condition, body, s)),
                 &mut stacks.rests,
             )?;
-            Ok(Progress::On(Work::Decide(spot, &condition.test, s)))
+            stacks.next = Progress::On(Work::Decide(spot, &condition.test, s));
+            Ok(())
         }
     }
 }
@@ -320,14 +347,19 @@ pub(crate) fn while_loop<'c>(
 pub(crate) fn repeat<'c>(
     spot: Spot<'c>,
     body: &'c Block,
-    s: usize,
-    rests: &mut Vec<Rest<'c>>,
-) -> Result<Progress<'c>, Memory>
-    ensures { (st : StateValue) → Proceeds (machine.perform_step (spot_of spot.entry) (commands.Repeat (block_of body.now)) s) rests.old st result
-        rests.new st }
+    s: u32,
+    stacks: &mut Stacks<'c>,
+) -> Result<(), Memory>
+    ensures { (st : StateValue) → Proceeds
+        (machine.perform_step (spot_of spot.entry) (commands.Repeat (block_of body.now)) s) stacks.old.rests st result stacks.new.next
+        stacks.new.rests st }
 {
-    put(Rest::Exit(ExitRest::RepeatBody(spot, body, s)), rests)?;
-    Ok(Progress::On(Work::Enter(spot, body, s)))
+    put(
+        Rest::Exit(ExitRest::RepeatBody(spot, body, s)),
+        &mut stacks.rests,
+    )?;
+    stacks.next = Progress::On(Work::Enter(spot, body, s));
+    Ok(())
 }
 
 /// One step into a REPEATWHILE or REPEATUNTIL.
@@ -335,17 +367,18 @@ pub(crate) fn repeat_while<'c>(
     spot: Spot<'c>,
     body: &'c Block,
     condition: &'c Condition,
-    s: usize,
-    rests: &mut Vec<Rest<'c>>,
-) -> Result<Progress<'c>, Memory>
+    s: u32,
+    stacks: &mut Stacks<'c>,
+) -> Result<(), Memory>
     ensures { (st : StateValue) → Proceeds (machine.perform_step (spot_of spot.entry) (commands.RepeatWhile (block_of body.now) condition.now.sense (exp
-        condition.now.test)) s) rests.old st result rests.new st }
+        condition.now.test)) s) stacks.old.rests st result stacks.new.next stacks.new.rests st }
 {
     put(
         Rest::Exit(ExitRest::RepeatWhileBody(spot, body, condition, s)),
-        rests,
+        &mut stacks.rests,
     )?;
-    Ok(Progress::On(Work::Enter(spot, body, s)))
+    stacks.next = Progress::On(Work::Enter(spot, body, s));
+    Ok(())
 }
 
 /// One step into an assignment. With no call in it, it is done at once.
@@ -353,16 +386,26 @@ pub(crate) fn store<'c>(
     spot: Spot<'c>,
     value: &'c CoreExp,
     address: &'c CoreExp,
-    s: usize,
+    s: u32,
     stacks: &mut Stacks<'c>,
     state: &mut State,
-) -> Result<Progress<'c>, Memory>
-    ensures { Proceeds (machine.store (spot_of spot.entry) (exp value.now) (exp address.now) s) stacks.old.rests state.old result stacks.new.rests state.new }
+) -> Result<(), Memory>
+    ensures { Proceeds (machine.store (spot_of spot.entry) (exp value.now)
+        (exp address.now) s) stacks.old.rests state.old result stacks.new.next stacks.new.rests state.new }
 {
     match assign_at_once(&spot, value, address, &mut stacks.room, state)? {
-        Some(Assigned::Done) => Ok(Progress::On(Work::Nothing)),
-        Some(Assigned::Divides) => Ok(Progress::Ended(Ending::ZeroDivide)),
-        Some(Assigned::Fails(cause)) => Ok(Progress::Wild(cause)),
+        Some(Assigned::Done) => {
+            stacks.next = Progress::On(Work::Nothing);
+            Ok(())
+        }
+        Some(Assigned::Divides) => {
+            stacks.next = Progress::Ended(Ending::ZeroDivide);
+            Ok(())
+        }
+        Some(Assigned::Fails(cause)) => {
+            stacks.next = Progress::Wild(cause);
+            Ok(())
+        }
         None => {
             put(
                 Rest::Value(ValueRest::Stores(spot, address, s)),
@@ -373,26 +416,27 @@ pub(crate) fn store<'c>(
             } else {
                 above(s, 1)?
             };
-            Ok(Progress::On(Work::Evaluate(spot, value, level)))
+            stacks.next = Progress::On(Work::Evaluate(spot, value, level));
+            Ok(())
         }
     }
 }
 
 /// How many cells a variable takes: its own, and those of its vector.
-fn cells_of_one(declared: &Variable) -> usize
+fn cells_of_one(declared: &Variable) -> u32
     ensures { result ≡ cells_of_variable (variable declared.now) }
 {
     match declared {
         Variable::Value(_) => 1,
-        Variable::Vector(greatest) => greatest.get() as usize + 2,
+        Variable::Vector(greatest) => u32::from(greatest.get()) + 2,
     }
 }
 
 /// How many cells variables take.
-pub(crate) fn cells_of_all(variables: &[Variable]) -> Result<usize, Memory>
+pub(crate) fn cells_of_all(variables: &[Variable]) -> Result<u32, Memory>
     ensures { IfOk result (λ cells. cells ≡ cells_of_variables (map variable variables.now)) }
 {
-    let mut cells = 0usize;
+    let mut cells = 0u32;
     let mut left = variables;
     while let [first, rest @ ..] = left {
         cells = above(cells, cells_of_one(first))?;
@@ -402,10 +446,10 @@ pub(crate) fn cells_of_all(variables: &[Variable]) -> Result<usize, Memory>
 }
 
 /// How many cells declarations take.
-fn cells_declared(declarations: &[Declaration]) -> Result<usize, Memory>
+fn cells_declared(declarations: &[Declaration]) -> Result<u32, Memory>
     ensures { IfOk result (λ cells. cells ≡ cells_of_declarations (declarations_view declarations.now)) }
 {
-    let mut cells = 0usize;
+    let mut cells = 0u32;
     let mut left = declarations;
     while let [first, rest @ ..] = left {
         cells = above(cells, cells_of_all(&first.variables)?)?;
@@ -419,11 +463,12 @@ fn cells_declared(declarations: &[Declaration]) -> Result<usize, Memory>
 pub(crate) fn enter<'c>(
     spot: Spot<'c>,
     block: &'c Block,
-    s: usize,
+    s: u32,
     stacks: &mut Stacks<'c>,
     state: &mut State,
-) -> Result<Progress<'c>, Memory>
-    ensures { Proceeds (machine.enter (spot_of spot.entry) (block_of block.now) s) stacks.old.rests state.old result stacks.new.rests state.new }
+) -> Result<(), Memory>
+    ensures { Proceeds (machine.enter (spot_of spot.entry)
+        (block_of block.now) s) stacks.old.rests state.old result stacks.new.next stacks.new.rests state.new }
 {
     let level = above(s, cells_declared(&block.declarations)?)?;
     Ok(declare(
@@ -441,12 +486,12 @@ pub(crate) fn declare<'c>(
     spot: Spot<'c>,
     declarations: &'c [Declaration],
     items: &'c [ListItem],
-    levels: (usize, usize),
+    levels: (u32, u32),
     stacks: &mut Stacks<'c>,
     state: &mut State,
-) -> Result<Progress<'c>, Memory>
+) -> Result<(), Memory>
     ensures { Proceeds (machine.declare_step (spot_of spot.entry) (declarations_view declarations.now) (items_view items.now) levels.0 levels.1)
-        stacks.old.rests state.old result stacks.new.rests state.new }
+        stacks.old.rests state.old result stacks.new.next stacks.new.rests state.new }
 {
     let (s, level) = levels;
     match declarations {
@@ -461,13 +506,14 @@ pub(crate) fn declare<'c>(
             let cells = cells_of_all(&first.variables)?;
             let from = above(spot.frame, s)?;
             let behind = above(s, cells)?;
-            state.store.open(cells, from);
+            state.store.open(cells as usize, from as usize);
             put(Rest::Closes(cells, from), &mut stacks.rests)?;
             put(
                 Rest::Nothing(NothingRest::Declares(spot, left, items, behind, level)),
                 &mut stacks.rests,
             )?;
-            Ok(Progress::On(Work::Initialise(spot, &first.variables, s, behind)))
+            stacks.next = Progress::On(Work::Initialise(spot, &first.variables, s, behind));
+            Ok(())
         }
     }
 }
@@ -476,32 +522,43 @@ pub(crate) fn declare<'c>(
 pub(crate) fn initialise<'c>(
     spot: Spot<'c>,
     variables: &'c [Variable],
-    k: usize,
-    s: usize,
-    rests: &mut Vec<Rest<'c>>,
+    k: u32,
+    s: u32,
+    stacks: &mut Stacks<'c>,
     state: &mut State,
-) -> Result<Progress<'c>, Memory>
-    ensures { Proceeds (machine.initialise_step (spot_of spot.entry) (map variable variables.now) k s) rests.old state.old result rests.new state.new }
+) -> Result<(), Memory>
+    ensures { Proceeds (machine.initialise_step (spot_of spot.entry)
+        (map variable variables.now) k s) stacks.old.rests state.old result stacks.new.next stacks.new.rests state.new }
 {
     match variables {
-        [] => Ok(Progress::On(Work::Nothing)),
+        [] => {
+            stacks.next = Progress::On(Work::Nothing);
+            Ok(())
+        }
         [Variable::Value(e), left @ ..] => {
             put(
                 Rest::Nothing(NothingRest::Initialises(spot, left, above(k, 1)?, s)),
-                rests,
+                &mut stacks.rests,
             )?;
             put(
-                Rest::Value(ValueRest::StoresAt(cell_of(spot.frame, k)?)),
-                rests,
+                Rest::Value(ValueRest::StoresAt(cell_of(spot.frame as usize, k as usize)?)),
+                &mut stacks.rests,
             )?;
-            Ok(Progress::On(Work::Evaluate(spot, e, s)))
+            stacks.next = Progress::On(Work::Evaluate(spot, e, s));
+            Ok(())
         }
         [Variable::Vector(greatest), left @ ..] => {
-            let behind = above(k, greatest.get() as usize + 2)?;
-            let first = cell_of(spot.frame, above(k, 1)?)?;
-            match put_word(state, cell_of(spot.frame, k)?, first) {
-                None => Ok(Progress::On(Work::Initialise(spot, left, behind, s))),
-                Some(cause) => Ok(Progress::Wild(cause)),
+            let behind = above(k, u32::from(greatest.get()) + 2)?;
+            let first = cell_of(spot.frame as usize, above(k, 1)? as usize)?;
+            match put_word(state, cell_of(spot.frame as usize, k as usize)?, first) {
+                None => {
+                    stacks.next = Progress::On(Work::Initialise(spot, left, behind, s));
+                    Ok(())
+                }
+                Some(cause) => {
+                    stacks.next = Progress::Wild(cause);
+                    Ok(())
+                }
             }
         }
     }
@@ -526,19 +583,27 @@ pub(crate) fn round<'c>(
     limit: u16,
     by: u16,
     body: &'c Block,
-    s: usize,
+    s: u32,
     stacks: &mut Stacks<'c>,
     state: &mut State,
-) -> Result<Progress<'c>, Memory>
-    ensures { Proceeds (machine.round_step (spot_of spot.entry) limit by (block_of body.now) s) stacks.old.rests state.old result stacks.new.rests state.new }
+) -> Result<(), Memory>
+    ensures { Proceeds (machine.round_step (spot_of spot.entry) limit by
+        (block_of body.now) s) stacks.old.rests state.old result stacks.new.next stacks.new.rests state.new }
 {
-    let address = cell_of(spot.frame, s)?;
+    let address = cell_of(spot.frame as usize, s as usize)?;
     match state.store.at(address) {
-        Cell::Dead => Ok(Progress::Wild(Cause::Dead(address))),
-        Cell::Unset => Ok(Progress::Wild(Cause::Unset(address))),
+        Cell::Dead => {
+            stacks.next = Progress::Wild(Cause::Dead(address));
+            Ok(())
+        }
+        Cell::Unset => {
+            stacks.next = Progress::Wild(Cause::Unset(address));
+            Ok(())
+        }
         Cell::Set(value) => {
             if is_past(by, value, limit) {
-                return Ok(Progress::On(Work::Left(Exit::Past)));
+                stacks.next = Progress::On(Work::Left(Exit::Past));
+                return Ok(());
             }
             Ok(for_body(spot, (limit, by), body, s, stacks, state)?)
         }
@@ -551,12 +616,12 @@ fn for_body<'c>(
     spot: Spot<'c>,
     bounds: (u16, u16),
     body: &'c Block,
-    s: usize,
+    s: u32,
     stacks: &mut Stacks<'c>,
     state: &mut State,
-) -> Result<Progress<'c>, Memory>
+) -> Result<(), Memory>
     ensures { Proceeds (λ rs. machine.enter (spot_of spot.entry) (block_of body.now) (level_in_for s) (machine.ForBody (spot_of spot.entry) bounds.0
-        bounds.1 (block_of body.now) s ∷ rs)) stacks.old.rests state.old result stacks.new.rests state.new }
+        bounds.1 (block_of body.now) s ∷ rs)) stacks.old.rests state.old result stacks.new.next stacks.new.rests state.new }
 {
     let (limit, by) = bounds;
     let level = above(s, 2)?;

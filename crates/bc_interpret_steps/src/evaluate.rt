@@ -32,8 +32,8 @@ pub(crate) fn worth_at<'c>(
 {
     let sight = Sight {
         store: &state.store,
-        addresses: spot.addresses,
-        frame: spot.frame,
+        addresses: spot.section.addresses,
+        frame: spot.frame as usize,
     };
     let found = worth_of(&sight, e, room)?;
     Ok(found)
@@ -53,8 +53,8 @@ pub(crate) fn truth_at<'c>(
 {
     let sight = Sight {
         store: &state.store,
-        addresses: spot.addresses,
-        frame: spot.frame,
+        addresses: spot.section.addresses,
+        frame: spot.frame as usize,
     };
     let found = truth_of(&sight, e, room)?;
     Ok(found)
@@ -90,14 +90,17 @@ pub(crate) fn verdict<'c>(truth: Truth) -> Progress<'c>
 pub(crate) fn evaluate<'c>(
     spot: Spot<'c>,
     e: &'c CoreExp,
-    s: usize,
+    s: u32,
     stacks: &mut Stacks<'c>,
     state: &State,
-) -> Result<Progress<'c>, Memory>
-    ensures { Proceeds (machine.evaluate (spot_of spot.entry) (exp e.now) s) stacks.old.rests state.now result stacks.new.rests state.now }
+) -> Result<(), Memory>
+    ensures { Proceeds (machine.evaluate (spot_of spot.entry) (exp e.now) s) stacks.old.rests state.now result stacks.new.next stacks.new.rests state.now }
 {
     match worth_at(&spot, e, &mut stacks.room, state)? {
-        Some(worth) => Ok(settled(worth)),
+        Some(worth) => {
+            stacks.next = settled(worth);
+            Ok(())
+        }
         None => Ok(evaluate_parts(spot, e, s, stacks, state)?),
     }
 }
@@ -106,34 +109,40 @@ pub(crate) fn evaluate<'c>(
 fn evaluate_parts<'c>(
     spot: Spot<'c>,
     e: &'c CoreExp,
-    s: usize,
+    s: u32,
     stacks: &mut Stacks<'c>,
     state: &State,
-) -> Result<Progress<'c>, Memory>
-    ensures { Proceeds (machine.evaluate_parts (spot_of spot.entry) (exp e.now) s) stacks.old.rests state.now result stacks.new.rests state.now }
+) -> Result<(), Memory>
+    ensures { Proceeds (machine.evaluate_parts (spot_of spot.entry)
+        (exp e.now) s) stacks.old.rests state.now result stacks.new.next stacks.new.rests state.now }
 {
     match e {
         CoreExp::Num(_) | CoreExp::Frame(_) | CoreExp::Glob(_) | CoreExp::Place(_) => {
-            Ok(Progress::Wild(Cause::Malformed))
+            stacks.next = Progress::Wild(Cause::Malformed);
+            Ok(())
         }
         CoreExp::Load(part) => {
             put(Rest::Number(NumberRest::Loads), &mut stacks.rests)?;
-            Ok(Progress::On(Work::Evaluate(spot, part, s)))
+            stacks.next = Progress::On(Work::Evaluate(spot, part, s));
+            Ok(())
         }
         CoreExp::Neg(part) => {
             put(Rest::Number(NumberRest::Negates), &mut stacks.rests)?;
-            Ok(Progress::On(Work::Evaluate(spot, part, s)))
+            stacks.next = Progress::On(Work::Evaluate(spot, part, s));
+            Ok(())
         }
         CoreExp::Not(part) => {
             put(Rest::Number(NumberRest::Complements), &mut stacks.rests)?;
-            Ok(Progress::On(Work::Evaluate(spot, part, s)))
+            stacks.next = Progress::On(Work::Evaluate(spot, part, s));
+            Ok(())
         }
         CoreExp::Bin(op, left, right) => {
             put(
                 Rest::Number(NumberRest::Operates(spot, *op, right, s)),
                 &mut stacks.rests,
             )?;
-            Ok(Progress::On(Work::Evaluate(spot, left, above(s, 1)?)))
+            stacks.next = Progress::On(Work::Evaluate(spot, left, above(s, 1)?));
+            Ok(())
         }
         CoreExp::Cond(condition, this, that) => Ok(choice(
             spot,
@@ -144,7 +153,7 @@ fn evaluate_parts<'c>(
             state,
         )?),
         CoreExp::Call(arguments, routine) => Ok(call(spot, arguments, routine, s, stacks, state)?),
-        CoreExp::Valof(number) => Ok(valof(spot, *number as usize, s, &mut stacks.rests)?),
+        CoreExp::Valof(number) => Ok(valof(spot, *number as u32, s, stacks)?),
     }
 }
 
@@ -153,11 +162,12 @@ fn call<'c>(
     spot: Spot<'c>,
     arguments: &'c [CoreExp],
     routine: &'c CoreExp,
-    s: usize,
+    s: u32,
     stacks: &mut Stacks<'c>,
     state: &State,
-) -> Result<Progress<'c>, Memory>
-    ensures { Proceeds (machine.evaluate_parts (spot_of spot.entry) (tree.Call (args arguments.now) (exp routine.now)) s) stacks.old.rests state.now result
+) -> Result<(), Memory>
+    ensures { Proceeds (machine.evaluate_parts (spot_of spot.entry)
+        (tree.Call (args arguments.now) (exp routine.now)) s) stacks.old.rests state.now result stacks.new.next
         stacks.new.rests state.now }
 {
     let level = above(s, 2)?;
@@ -166,7 +176,7 @@ fn call<'c>(
         left: arguments,
         level,
         routine,
-        count: arguments.len(),
+        count: u32::try_from(arguments.len()).map_err(|_| Memory)?,
         s,
         fresh: true,
     };
@@ -179,58 +189,65 @@ fn choice<'c>(
     spot: Spot<'c>,
     condition: &'c CoreExp,
     branches: (&'c CoreExp, &'c CoreExp),
-    s: usize,
+    s: u32,
     stacks: &mut Stacks<'c>,
     state: &State,
-) -> Result<Progress<'c>, Memory>
+) -> Result<(), Memory>
     ensures { Proceeds (machine.evaluate_parts (spot_of spot.entry) (tree.Cond (exp condition.now) (exp branches.entry.0.now) (exp branches.entry.1.now)) s)
-        stacks.old.rests state.now result stacks.new.rests state.now }
+        stacks.old.rests state.now result stacks.new.next stacks.new.rests state.now }
 {
     let (this, that) = branches;
     match truth_at(&spot, condition, &mut stacks.room, state)? {
         Some(Truth::Is(t)) => {
             if t {
-                return Ok(Progress::On(Work::Evaluate(spot, this, s)));
+                stacks.next = Progress::On(Work::Evaluate(spot, this, s));
+                return Ok(());
             }
-            Ok(Progress::On(Work::Evaluate(spot, that, s)))
+            stacks.next = Progress::On(Work::Evaluate(spot, that, s));
+            Ok(())
         }
-        Some(Truth::Divides) => Ok(Progress::Ended(Ending::ZeroDivide)),
-        Some(Truth::Fails(cause)) => Ok(Progress::Wild(cause)),
+        Some(Truth::Divides) => {
+            stacks.next = Progress::Ended(Ending::ZeroDivide);
+            Ok(())
+        }
+        Some(Truth::Fails(cause)) => {
+            stacks.next = Progress::Wild(cause);
+            Ok(())
+        }
         None => {
             put(
                 Rest::Truth(TruthRest::Selects(spot, this, that, s)),
                 &mut stacks.rests,
             )?;
-            Ok(Progress::On(Work::Decide(spot, condition, s)))
+            stacks.next = Progress::On(Work::Decide(spot, condition, s));
+            Ok(())
         }
     }
 }
 
 /// Into the body of the VALOF with this number.
-fn valof<'c>(
-    spot: Spot<'c>,
-    number: usize,
-    s: usize,
-    rests: &mut Vec<Rest<'c>>,
-) -> Result<Progress<'c>, Memory>
-    ensures { (st : StateValue) → Proceeds (machine.evaluate_parts (spot_of spot.entry) (tree.Valof number) s) rests.old st result rests.new st }
+fn valof<'c>(spot: Spot<'c>, number: u32, s: u32, stacks: &mut Stacks<'c>) -> Result<(), Memory>
+    ensures { (st : StateValue) → Proceeds
+        (machine.evaluate_parts (spot_of spot.entry) (tree.Valof number) s) stacks.old.rests st result stacks.new.next stacks.new.rests st }
 {
     if number < spot.first {
-        return Ok(Progress::Wild(Cause::Malformed));
+        stacks.next = Progress::Wild(Cause::Malformed);
+        return Ok(());
     }
-    let index = number - spot.first;
-    if index >= spot.valofs.len() {
-        return Ok(Progress::Wild(Cause::Malformed));
+    let index = number as usize;
+    if index >= spot.section.valofs.len() {
+        stacks.next = Progress::Wild(Cause::Malformed);
+        return Ok(());
     }
-    let body = &spot.valofs[index].body;
+    let body = &spot.section.valofs[index].body;
     let within = Spot {
-        addresses: spot.addresses,
+        section: spot.section,
         first: above(number, 1)?,
-        valofs: &spot.valofs[index + 1..],
         frame: spot.frame,
     };
-    put(Rest::Exit(ExitRest::Results), rests)?;
-    Ok(Progress::On(Work::Enter(within, body, s)))
+    put(Rest::Exit(ExitRest::Results), &mut stacks.rests)?;
+    stacks.next = Progress::On(Work::Enter(within, body, s));
+    Ok(())
 }
 
 /// One step into an expression whose truth is wanted. One with no call in it is worked out at once.
@@ -239,15 +256,18 @@ fn valof<'c>(
 pub(crate) fn decide<'c>(
     spot: Spot<'c>,
     e: &'c CoreExp,
-    s: usize,
+    s: u32,
     stacks: &mut Stacks<'c>,
     state: &State,
-) -> Result<Progress<'c>, Memory>
-    ensures { Proceeds (machine.decide (spot_of spot.entry) (exp e.now) s) stacks.old.rests state.now result stacks.new.rests state.now }
+) -> Result<(), Memory>
+    ensures { Proceeds (machine.decide (spot_of spot.entry) (exp e.now) s) stacks.old.rests state.now result stacks.new.next stacks.new.rests state.now }
 {
     match truth_at(&spot, e, &mut stacks.room, state)? {
-        Some(truth) => Ok(verdict(truth)),
-        None => Ok(decide_parts(spot, e, s, &mut stacks.rests)?),
+        Some(truth) => {
+            stacks.next = verdict(truth);
+            Ok(())
+        }
+        None => Ok(decide_parts(spot, e, s, stacks)?),
     }
 }
 
@@ -255,23 +275,33 @@ pub(crate) fn decide<'c>(
 fn decide_parts<'c>(
     spot: Spot<'c>,
     e: &'c CoreExp,
-    s: usize,
-    rests: &mut Vec<Rest<'c>>,
-) -> Result<Progress<'c>, Memory>
-    ensures { (st : StateValue) → Proceeds (machine.decide_parts (spot_of spot.entry) (exp e.now) s) rests.old st result rests.new st }
+    s: u32,
+    stacks: &mut Stacks<'c>,
+) -> Result<(), Memory>
+    ensures { (st : StateValue) → Proceeds
+        (machine.decide_parts (spot_of spot.entry) (exp e.now) s) stacks.old.rests st result stacks.new.next stacks.new.rests st }
 {
     match e {
         CoreExp::Not(part) => {
-            put(Rest::Truth(TruthRest::Opposes), rests)?;
-            Ok(Progress::On(Work::Decide(spot, part, s)))
+            put(Rest::Truth(TruthRest::Opposes), &mut stacks.rests)?;
+            stacks.next = Progress::On(Work::Decide(spot, part, s));
+            Ok(())
         }
         CoreExp::Bin(Op::And, left, right) => {
-            put(Rest::Truth(TruthRest::Conjoins(spot, right, s)), rests)?;
-            Ok(Progress::On(Work::Decide(spot, left, above(s, 1)?)))
+            put(
+                Rest::Truth(TruthRest::Conjoins(spot, right, s)),
+                &mut stacks.rests,
+            )?;
+            stacks.next = Progress::On(Work::Decide(spot, left, above(s, 1)?));
+            Ok(())
         }
         CoreExp::Bin(Op::Or, left, right) => {
-            put(Rest::Truth(TruthRest::Disjoins(spot, right, s)), rests)?;
-            Ok(Progress::On(Work::Decide(spot, left, above(s, 1)?)))
+            put(
+                Rest::Truth(TruthRest::Disjoins(spot, right, s)),
+                &mut stacks.rests,
+            )?;
+            stacks.next = Progress::On(Work::Decide(spot, left, above(s, 1)?));
+            Ok(())
         }
         CoreExp::Bin(_, _, _)
         | CoreExp::Num(_)
@@ -283,8 +313,9 @@ fn decide_parts<'c>(
         | CoreExp::Cond(_, _, _)
         | CoreExp::Call(_, _)
         | CoreExp::Valof(_) => {
-            put(Rest::Number(NumberRest::Tests), rests)?;
-            Ok(Progress::On(Work::Evaluate(spot, e, s)))
+            put(Rest::Number(NumberRest::Tests), &mut stacks.rests)?;
+            stacks.next = Progress::On(Work::Evaluate(spot, e, s));
+            Ok(())
         }
     }
 }

@@ -39,12 +39,12 @@ fn step_variable<'c>(
     limit: u16,
     by: u16,
     body: &'c Block,
-    s: usize,
+    s: u32,
     state: &mut State,
 ) -> Result<Progress<'c>, Memory>
     ensures { GivesIfOk (machine.ForBody (spot_of spot.entry) limit by (block_of body.now) s) (machine.Left Past) state.old result state.new }
 {
-    let address = cell_of(spot.frame, s)?;
+    let address = cell_of(spot.frame as usize, s as usize)?;
     let value = match state.store.at(address) {
         Cell::Dead => return Ok(Progress::Wild(Cause::Dead(address))),
         Cell::Unset => return Ok(Progress::Wild(Cause::Unset(address))),
@@ -65,53 +65,88 @@ pub(crate) fn exit_taken<'c>(
     exit: Exit,
     stacks: &mut Stacks<'c>,
     state: &mut State,
-) -> Result<Progress<'c>, Memory>
-    ensures { Takes (exit_rest rest.now) (machine.Left (exit_of exit)) stacks.old.rests state.old result stacks.new.rests state.new }
+) -> Result<(), Memory>
+    ensures { Takes (exit_rest rest.now) (machine.Left (exit_of exit)) stacks.old.rests state.old result stacks.new.next stacks.new.rests state.new }
 {
     match rest {
-        ExitRest::Returns => Ok(returned(exit)),
-        ExitRest::Results => Ok(resulted(exit)),
+        ExitRest::Returns => {
+            stacks.next = returned(exit);
+            Ok(())
+        }
+        ExitRest::Results => {
+            stacks.next = resulted(exit);
+            Ok(())
+        }
         ExitRest::WhileBody(spot, condition, body, s) => match behind(exit) {
-            Some(left) => Ok(Progress::On(Work::Left(left))),
+            Some(left) => {
+                stacks.next = Progress::On(Work::Left(left));
+                Ok(())
+            }
             None => {
                 if !turn(state) {
-                    return Ok(Progress::Going);
+                    stacks.next = Progress::Going;
+                    return Ok(());
                 }
-                Ok(Progress::On(Work::While(*spot, condition, body, *s)))
+                stacks.next = Progress::On(Work::While(*spot, condition, body, *s));
+                Ok(())
             }
         },
         ExitRest::RepeatBody(spot, body, s) => match behind(exit) {
-            Some(left) => Ok(Progress::On(Work::Left(left))),
+            Some(left) => {
+                stacks.next = Progress::On(Work::Left(left));
+                Ok(())
+            }
             None => {
                 if !turn(state) {
-                    return Ok(Progress::Going);
+                    stacks.next = Progress::Going;
+                    return Ok(());
                 }
-                Ok(Progress::On(Work::Repeat(*spot, body, *s)))
+                stacks.next = Progress::On(Work::Repeat(*spot, body, *s));
+                Ok(())
             }
         },
         ExitRest::RepeatWhileBody(spot, body, condition, s) => match behind(exit) {
-            Some(left) => Ok(Progress::On(Work::Left(left))),
+            Some(left) => {
+                stacks.next = Progress::On(Work::Left(left));
+                Ok(())
+            }
             None => {
                 put(
                     Rest::Truth(TruthRest::RepeatWhiles(*spot, body, condition, *s)),
                     &mut stacks.rests,
                 )?;
-                Ok(Progress::On(Work::Decide(*spot, &condition.test, *s)))
+                stacks.next = Progress::On(Work::Decide(*spot, &condition.test, *s));
+                Ok(())
             }
         },
         ExitRest::ForBody(spot, limit, by, body, s) => match behind(exit) {
-            Some(left) => Ok(Progress::On(Work::Left(left))),
-            None => step_variable(*spot, *limit, *by, body, *s, state),
+            Some(left) => {
+                stacks.next = Progress::On(Work::Left(left));
+                Ok(())
+            }
+            None => {
+                stacks.next = step_variable(*spot, *limit, *by, body, *s, state)?;
+                Ok(())
+            }
         },
-        ExitRest::Cases => Ok(Progress::On(Work::Left(behind_cases(exit)))),
+        ExitRest::Cases => {
+            stacks.next = Progress::On(Work::Left(behind_cases(exit)));
+            Ok(())
+        }
         ExitRest::Follows(spot, items, s) => match exit {
-            Exit::Past => Ok(Progress::On(Work::Listing(*spot, items, *s, Entry::Beginning))),
+            Exit::Past => {
+                stacks.next = Progress::On(Work::Listing(*spot, items, *s, Entry::Beginning));
+                Ok(())
+            }
             Exit::Broke
             | Exit::Looped
             | Exit::LeftCases
             | Exit::Returned
             | Exit::Resulted(_)
-            | Exit::Jumped(_) => { Ok(Progress::On(Work::Left(exit))) }
+            | Exit::Jumped(_) => {
+                stacks.next = Progress::On(Work::Left(exit));
+                Ok(())
+            }
         },
         ExitRest::Listed(spot, items, s) => match exit {
             Exit::Jumped(label) => {
@@ -122,14 +157,18 @@ pub(crate) fn exit_taken<'c>(
                     )?;
                     return Ok(listing(*spot, items, *s, Entry::AtLabel(label), stacks, state)?);
                 }
-                Ok(Progress::On(Work::Left(exit)))
+                stacks.next = Progress::On(Work::Left(exit));
+                Ok(())
             }
             Exit::Past
             | Exit::Broke
             | Exit::Looped
             | Exit::LeftCases
             | Exit::Returned
-            | Exit::Resulted(_) => { Ok(Progress::On(Work::Left(exit))) }
+            | Exit::Resulted(_) => {
+                stacks.next = Progress::On(Work::Left(exit));
+                Ok(())
+            }
         },
     }
 }
@@ -175,21 +214,30 @@ fn behind_cases(exit: Exit) -> Exit
 /// What is done behind a store or an initialiser.
 pub(crate) fn nothing_taken<'c>(
     rest: &NothingRest<'c>,
-    rests: &mut Vec<Rest<'c>>,
-) -> Result<Progress<'c>, Memory>
-    ensures { (st : StateValue) → Takes (nothing_rest rest.now) machine.Nothing rests.old st result rests.new st }
+    stacks: &mut Stacks<'c>,
+) -> Result<(), Memory>
+    ensures { (st : StateValue) → Takes (nothing_rest rest.now) machine.Nothing stacks.old.rests st result stacks.new.next stacks.new.rests st }
 {
     match rest {
-        NothingRest::Passes => Ok(Progress::On(Work::Left(Exit::Past))),
+        NothingRest::Passes => {
+            stacks.next = Progress::On(Work::Left(Exit::Past));
+            Ok(())
+        }
         NothingRest::Limits(spot, limit, by, body, s) => {
-            put(Rest::Value(ValueRest::Fors(*spot, *by, body, *s)), rests)?;
-            Ok(Progress::On(Work::Evaluate(*spot, limit, above(*s, 2)?)))
+            put(
+                Rest::Value(ValueRest::Fors(*spot, *by, body, *s)),
+                &mut stacks.rests,
+            )?;
+            stacks.next = Progress::On(Work::Evaluate(*spot, limit, above(*s, 2)?));
+            Ok(())
         }
         NothingRest::Declares(spot, declarations, items, s, level) => {
-            Ok(Progress::On(Work::Declare(*spot, declarations, items, *s, *level)))
+            stacks.next = Progress::On(Work::Declare(*spot, declarations, items, *s, *level));
+            Ok(())
         }
-        NothingRest::Initialises(spot, variables, k, s) => Ok(Progress::On(Work::Initialise(
-            *spot, variables, *k, *s,
-        ))),
+        NothingRest::Initialises(spot, variables, k, s) => {
+            stacks.next = Progress::On(Work::Initialise(*spot, variables, *k, *s));
+            Ok(())
+        }
     }
 }

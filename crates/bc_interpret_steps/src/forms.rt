@@ -1,17 +1,17 @@
 // What is to be done, and what comes of it.
 
-use bc_core::{Block, Command, Condition, CoreExp, Declaration, ListItem, Valof, Variable};
+use crate::sections::Section;
+use bc_core::{Block, Command, Condition, CoreExp, Declaration, ListItem, Variable};
 use bc_interpret_quiet::Cause;
 use bc_machine_defs::Side;
 
-/// Where a part of the source is worked on: the addresses of its section's labels, the VALOFs that stand within it
-/// and the first one's number, and the address of the frame.
+/// Where a part of the source is worked on: its section, the number of the first VALOF that stands within it, and the address of the
+/// frame.
 #[derive(Clone, Copy)]
 pub struct Spot<'c> {
-    pub addresses: &'c [u16],
-    pub first: usize,
-    pub valofs: &'c [Valof],
-    pub frame: usize,
+    pub section: &'c Section<'c>,
+    pub first: u32,
+    pub frame: u32,
 }
 
 /// How control leaves a command.
@@ -41,33 +41,33 @@ pub enum Entry {
 pub struct Arguments<'c> {
     pub spot: Spot<'c>,
     pub left: &'c [CoreExp],
-    pub level: usize,
+    pub level: u32,
     pub routine: &'c CoreExp,
-    pub count: usize,
-    pub s: usize,
+    pub count: u32,
+    pub s: u32,
     pub fresh: bool,
 }
 
 /// What is to be done next, or what a part of the source came to.
 #[derive(Clone, Copy)]
 pub enum Work<'c> {
-    Evaluate(Spot<'c>, &'c CoreExp, usize),
-    Decide(Spot<'c>, &'c CoreExp, usize),
+    Evaluate(Spot<'c>, &'c CoreExp, u32),
+    Decide(Spot<'c>, &'c CoreExp, u32),
     Argue(Arguments<'c>),
     /// The value, and the address.
-    Store(Spot<'c>, &'c CoreExp, &'c CoreExp, usize),
-    Perform(Spot<'c>, &'c Command, usize),
-    While(Spot<'c>, &'c Condition, &'c Block, usize),
-    Repeat(Spot<'c>, &'c Block, usize),
-    RepeatWhile(Spot<'c>, &'c Block, &'c Condition, usize),
-    Enter(Spot<'c>, &'c Block, usize),
+    Store(Spot<'c>, &'c CoreExp, &'c CoreExp, u32),
+    Perform(Spot<'c>, &'c Command, u32),
+    While(Spot<'c>, &'c Condition, &'c Block, u32),
+    Repeat(Spot<'c>, &'c Block, u32),
+    RepeatWhile(Spot<'c>, &'c Block, &'c Condition, u32),
+    Enter(Spot<'c>, &'c Block, u32),
     /// The declarations from here on, and then the list at the second level.
-    Declare(Spot<'c>, &'c [Declaration], &'c [ListItem], usize, usize),
+    Declare(Spot<'c>, &'c [Declaration], &'c [ListItem], u32, u32),
     /// The variables from here on, the first at this offset.
-    Initialise(Spot<'c>, &'c [Variable], usize, usize),
-    Listing(Spot<'c>, &'c [ListItem], usize, Entry),
+    Initialise(Spot<'c>, &'c [Variable], u32, u32),
+    Listing(Spot<'c>, &'c [ListItem], u32, Entry),
     /// A FOR with its limit and its step, from its test on.
-    Round(Spot<'c>, u16, u16, &'c Block, usize),
+    Round(Spot<'c>, u16, u16, &'c Block, u32),
     Number(u16),
     Verdict(bool),
     Nothing,
@@ -98,7 +98,7 @@ pub enum Ending {
 pub enum Progress<'c> {
     On(Work<'c>),
     /// A primitive is called in the frame at this address: its turn is taken, and it has its argument.
-    Serve(Primitive, usize),
+    Serve(Primitive, u32),
     /// The run is over, since START returned.
     Answered,
     Ended(Ending),

@@ -1,5 +1,5 @@
 //! The steps of a run of a resolved program. Each takes what is at work and what is left to do to the next, as the machine of
-//! `bc_interpret_defs` does, and none takes native stack for the depth of calls or of trees.
+//! `bc_interpret_defs` does. None takes native stack for the depth of calls; trees take it down to a depth of 16.
 #![tactic(auto)]
 
 mod answers;

@@ -98,11 +98,11 @@ fn next_of(item: &ListItem, at: Entry) -> Next<'_>
     }
 }
 
-/// What is left to do where an assignment of a list is wild, or divides by zero.
+/// Puts what stands behind an assignment that is wild, or divides by zero, into what is left to do, so that its place is found.
 fn stop<'c>(
     spot: Spot<'c>,
     behind: &'c [ListItem],
-    s: usize,
+    s: u32,
     rests: &mut Vec<Rest<'c>>,
 ) -> Result<(), Memory> {
     put(Rest::Exit(ExitRest::Follows(spot, behind, s)), rests)?;
@@ -112,10 +112,11 @@ fn stop<'c>(
 
 /// What comes of the first item of a list.
 #[derive(Clone, Copy)]
-enum Along<'c> {
+enum Along {
     /// The items behind it are entered so.
     On(Entry),
-    Over(Progress<'c>),
+    /// The step is over.
+    Over,
 }
 
 /// What comes of the first item of a list that is entered so.
@@ -124,13 +125,13 @@ enum Along<'c> {
 fn list_item<'c>(
     spot: Spot<'c>,
     list: (&'c ListItem, &'c [ListItem]),
-    s: usize,
+    s: u32,
     at: Entry,
     stacks: &mut Stacks<'c>,
     state: &mut State,
-) -> Result<Along<'c>, Memory>
+) -> Result<Along, Memory>
     ensures { IfOk result (λ along. IsAlong (spot_of spot.entry) list.entry.0.now list.entry.1.now s at stacks.old.rests.items state.old along
-        stacks.new.rests.items state.new) }
+        stacks.new.next stacks.new.rests.items state.new) }
 {
     let (first, behind) = list;
     match next_of(first, at) {
@@ -139,18 +140,21 @@ fn list_item<'c>(
             Some(Assigned::Done) => Ok(Along::On(Entry::Beginning)),
             Some(Assigned::Divides) => {
                 stop(spot, behind, s, &mut stacks.rests)?;
-                Ok(Along::Over(Progress::Ended(Ending::ZeroDivide)))
+                stacks.next = Progress::Ended(Ending::ZeroDivide);
+                Ok(Along::Over)
             }
             Some(Assigned::Fails(cause)) => {
                 stop(spot, behind, s, &mut stacks.rests)?;
-                Ok(Along::Over(Progress::Wild(cause)))
+                stacks.next = Progress::Wild(cause);
+                Ok(Along::Over)
             }
             None => {
                 put(
                     Rest::Exit(ExitRest::Follows(spot, behind, s)),
                     &mut stacks.rests,
                 )?;
-                Ok(Along::Over(Progress::On(Work::Perform(spot, command, s))))
+                stacks.next = Progress::On(Work::Perform(spot, command, s));
+                Ok(Along::Over)
             }
         },
     }
@@ -160,12 +164,12 @@ fn list_item<'c>(
 pub(crate) fn listing<'c>(
     spot: Spot<'c>,
     items: &'c [ListItem],
-    s: usize,
+    s: u32,
     entry: Entry,
     stacks: &mut Stacks<'c>,
     state: &mut State,
-) -> Result<Progress<'c>, Memory>
-    ensures { Proceeds (machine.list_step (spot_of spot.entry) (items_view items.now) s (entry_of entry)) stacks.old.rests state.old result
+) -> Result<(), Memory>
+    ensures { Proceeds (machine.list_step (spot_of spot.entry) (items_view items.now) s (entry_of entry)) stacks.old.rests state.old result stacks.new.next
         stacks.new.rests state.new }
 {
     let mut left = items;
@@ -174,9 +178,10 @@ pub(crate) fn listing<'c>(
         let along = list_item(spot, (first, behind), s, at, stacks, state)?;
         match along {
             Along::On(next) => at = next,
-            Along::Over(progress) => return Ok(progress),
+            Along::Over => return Ok(()),
         }
         left = behind;
     }
-    Ok(Progress::On(Work::Left(Exit::Past)))
+    stacks.next = Progress::On(Work::Left(Exit::Past));
+    Ok(())
 }

@@ -7,7 +7,7 @@ ghost use Rattle.bc_interpret_steps.specs.Stepped.{Takes, Gives};
 use crate::forms::{Arguments, Ending, Entry, Exit, Progress, Work};
 use crate::lists::has_case;
 use crate::rests::{ExitRest, NumberRest, Rest, ValueRest, above, put};
-use crate::state::{State, put_word};
+use crate::state::{Stacks, State, put_word};
 use bc_core::operand;
 use bc_interpret_quiet::Cause;
 use bc_interpret_store::Cell;
@@ -31,33 +31,55 @@ fn load<'c>(v: u16, state: &State) -> Progress<'c>
 pub(crate) fn number_taken<'c>(
     rest: &NumberRest<'c>,
     v: u16,
-    rests: &mut Vec<Rest<'c>>,
+    stacks: &mut Stacks<'c>,
     state: &State,
-) -> Result<Progress<'c>, Memory>
-    ensures { Takes (number_rest (given rests.old.items) rest.now) (machine.Number v) rests.old state.now result rests.new state.now }
+) -> Result<(), Memory>
+    ensures { Takes (number_rest (given stacks.old.rests.items) rest.now)
+        (machine.Number v) stacks.old.rests state.now result stacks.new.next stacks.new.rests state.now }
 {
     match rest {
-        NumberRest::Loads => Ok(load(v, state)),
-        NumberRest::Negates => Ok(Progress::On(Work::Number(Word::new(v).negated().get()))),
-        NumberRest::Complements => Ok(Progress::On(Work::Number(
-            Word::new(v).complemented().get(),
-        ))),
-        NumberRest::Tests => Ok(Progress::On(Work::Verdict(v != 0))),
+        NumberRest::Loads => {
+            stacks.next = load(v, state);
+            Ok(())
+        }
+        NumberRest::Negates => {
+            stacks.next = Progress::On(Work::Number(Word::new(v).negated().get()));
+            Ok(())
+        }
+        NumberRest::Complements => {
+            stacks.next = Progress::On(Work::Number(Word::new(v).complemented().get()));
+            Ok(())
+        }
+        NumberRest::Tests => {
+            stacks.next = Progress::On(Work::Verdict(v != 0));
+            Ok(())
+        }
         NumberRest::Operates(spot, op, e, s) => {
-            put(Rest::Number(NumberRest::Operated(*op, v)), rests)?;
-            Ok(Progress::On(Work::Evaluate(*spot, e, above(*s, 1)?)))
+            put(
+                Rest::Number(NumberRest::Operated(*op, v)),
+                &mut stacks.rests,
+            )?;
+            stacks.next = Progress::On(Work::Evaluate(*spot, e, above(*s, 1)?));
+            Ok(())
         }
         NumberRest::Operated(op, x) => match apply(*op, Word::new(*x), Word::new(v)) {
-            Some(w) => Ok(Progress::On(Work::Number(w.get()))),
-            None => Ok(Progress::Ended(Ending::ZeroDivide)),
+            Some(w) => {
+                stacks.next = Progress::On(Work::Number(w.get()));
+                Ok(())
+            }
+            None => {
+                stacks.next = Progress::Ended(Ending::ZeroDivide);
+                Ok(())
+            }
         },
         NumberRest::Argues(arguments) => {
-            put(Rest::Given(v, arguments.fresh), rests)?;
-            Ok(Progress::On(Work::Argue(Arguments {
+            put(Rest::Given(v, arguments.fresh), &mut stacks.rests)?;
+            stacks.next = Progress::On(Work::Argue(Arguments {
                 level: above(arguments.level, 1)?,
                 fresh: false,
                 ..*arguments
-            })))
+            }));
+            Ok(())
         }
     }
 }
@@ -78,37 +100,55 @@ fn store<'c>(address: u16, word: u16, state: &mut State) -> Progress<'c>
 pub(crate) fn value_taken<'c>(
     rest: &ValueRest<'c>,
     v: u16,
-    rests: &mut Vec<Rest<'c>>,
+    stacks: &mut Stacks<'c>,
     state: &mut State,
-) -> Result<Progress<'c>, Memory>
-    ensures { Takes (value_rest rest.now) (machine.Number v) rests.old state.old result rests.new state.new }
+) -> Result<(), Memory>
+    ensures { Takes (value_rest rest.now) (machine.Number v) stacks.old.rests state.old result stacks.new.next stacks.new.rests state.new }
 {
     match rest {
         ValueRest::Stores(spot, address, s) => {
-            put(Rest::Value(ValueRest::Stored(v)), rests)?;
+            put(Rest::Value(ValueRest::Stored(v)), &mut stacks.rests)?;
             let level = if operand(address).is_some() {
                 *s
             } else {
                 above(*s, 1)?
             };
-            Ok(Progress::On(Work::Evaluate(*spot, address, level)))
+            stacks.next = Progress::On(Work::Evaluate(*spot, address, level));
+            Ok(())
         }
-        ValueRest::Stored(word) => Ok(store(v, *word, state)),
-        ValueRest::StoresAt(address) => Ok(store(*address, v, state)),
-        ValueRest::Drops => Ok(Progress::On(Work::Left(Exit::Past))),
-        ValueRest::Fors(spot, by, body, s) => Ok(Progress::On(Work::Round(
-            *spot, v, *by, body, *s,
-        ))),
+        ValueRest::Stored(word) => {
+            stacks.next = store(v, *word, state);
+            Ok(())
+        }
+        ValueRest::StoresAt(address) => {
+            stacks.next = store(*address, v, state);
+            Ok(())
+        }
+        ValueRest::Drops => {
+            stacks.next = Progress::On(Work::Left(Exit::Past));
+            Ok(())
+        }
+        ValueRest::Fors(spot, by, body, s) => {
+            stacks.next = Progress::On(Work::Round(*spot, v, *by, body, *s));
+            Ok(())
+        }
         ValueRest::Switches(spot, items, s) => {
-            put(Rest::Exit(ExitRest::Cases), rests)?;
-            put(Rest::Exit(ExitRest::Listed(*spot, items, *s)), rests)?;
+            put(Rest::Exit(ExitRest::Cases), &mut stacks.rests)?;
+            put(
+                Rest::Exit(ExitRest::Listed(*spot, items, *s)),
+                &mut stacks.rests,
+            )?;
             let entry = if has_case(items, v) {
                 Entry::AtCase(v)
             } else {
                 Entry::AtDefault
             };
-            Ok(Progress::On(Work::Listing(*spot, items, *s, entry)))
+            stacks.next = Progress::On(Work::Listing(*spot, items, *s, entry));
+            Ok(())
         }
-        ValueRest::Leaves => Ok(Progress::On(Work::Left(Exit::Resulted(v)))),
+        ValueRest::Leaves => {
+            stacks.next = Progress::On(Work::Left(Exit::Resulted(v)));
+            Ok(())
+        }
     }
 }

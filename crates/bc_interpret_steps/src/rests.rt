@@ -15,7 +15,7 @@ pub enum NumberRest<'c> {
     Complements,
     Tests,
     /// The second operand is worked out; then it is the second operand of this one.
-    Operates(Spot<'c>, Op, &'c CoreExp, usize),
+    Operates(Spot<'c>, Op, &'c CoreExp, u32),
     Operated(Op, u16),
     Argues(Arguments<'c>),
 }
@@ -23,12 +23,12 @@ pub enum NumberRest<'c> {
 /// What is done with the number that an expression comes to in a command.
 #[derive(Clone, Copy)]
 pub enum ValueRest<'c> {
-    Stores(Spot<'c>, &'c CoreExp, usize),
+    Stores(Spot<'c>, &'c CoreExp, u32),
     Stored(u16),
     StoresAt(u16),
     Drops,
-    Fors(Spot<'c>, u16, &'c Block, usize),
-    Switches(Spot<'c>, &'c [ListItem], usize),
+    Fors(Spot<'c>, u16, &'c Block, u32),
+    Switches(Spot<'c>, &'c [ListItem], u32),
     Leaves,
 }
 
@@ -36,22 +36,22 @@ pub enum ValueRest<'c> {
 #[derive(Clone, Copy)]
 pub enum TruthRest<'c> {
     Opposes,
-    Conjoins(Spot<'c>, &'c CoreExp, usize),
-    Disjoins(Spot<'c>, &'c CoreExp, usize),
-    Selects(Spot<'c>, &'c CoreExp, &'c CoreExp, usize),
-    Ifs(Spot<'c>, bool, &'c Block, usize),
-    Chooses(Spot<'c>, &'c Block, &'c Block, usize),
-    Whiles(Spot<'c>, &'c Condition, &'c Block, usize),
-    RepeatWhiles(Spot<'c>, &'c Block, &'c Condition, usize),
+    Conjoins(Spot<'c>, &'c CoreExp, u32),
+    Disjoins(Spot<'c>, &'c CoreExp, u32),
+    Selects(Spot<'c>, &'c CoreExp, &'c CoreExp, u32),
+    Ifs(Spot<'c>, bool, &'c Block, u32),
+    Chooses(Spot<'c>, &'c Block, &'c Block, u32),
+    Whiles(Spot<'c>, &'c Condition, &'c Block, u32),
+    RepeatWhiles(Spot<'c>, &'c Block, &'c Condition, u32),
 }
 
 /// What is done behind a store or an initialiser.
 #[derive(Clone, Copy)]
 pub enum NothingRest<'c> {
     Passes,
-    Limits(Spot<'c>, &'c CoreExp, u16, &'c Block, usize),
-    Declares(Spot<'c>, &'c [Declaration], &'c [ListItem], usize, usize),
-    Initialises(Spot<'c>, &'c [Variable], usize, usize),
+    Limits(Spot<'c>, &'c CoreExp, u16, &'c Block, u32),
+    Declares(Spot<'c>, &'c [Declaration], &'c [ListItem], u32, u32),
+    Initialises(Spot<'c>, &'c [Variable], u32, u32),
 }
 
 /// What is done where control leaves a command.
@@ -59,16 +59,16 @@ pub enum NothingRest<'c> {
 pub enum ExitRest<'c> {
     Returns,
     Results,
-    WhileBody(Spot<'c>, &'c Condition, &'c Block, usize),
-    RepeatBody(Spot<'c>, &'c Block, usize),
-    RepeatWhileBody(Spot<'c>, &'c Block, &'c Condition, usize),
+    WhileBody(Spot<'c>, &'c Condition, &'c Block, u32),
+    RepeatBody(Spot<'c>, &'c Block, u32),
+    RepeatWhileBody(Spot<'c>, &'c Block, &'c Condition, u32),
     /// The limit, and the step.
-    ForBody(Spot<'c>, u16, u16, &'c Block, usize),
+    ForBody(Spot<'c>, u16, u16, &'c Block, u32),
     Cases,
     /// The items behind a command.
-    Follows(Spot<'c>, &'c [ListItem], usize),
+    Follows(Spot<'c>, &'c [ListItem], u32),
     /// A whole list, which a jump may enter again.
-    Listed(Spot<'c>, &'c [ListItem], usize),
+    Listed(Spot<'c>, &'c [ListItem], u32),
 }
 
 /// What is left to do with an answer.
@@ -77,12 +77,12 @@ pub enum Rest<'c> {
     Number(NumberRest<'c>),
     Value(ValueRest<'c>),
     /// Whether the call has no argument, and the address of its frame.
-    Calls(bool, usize),
+    Calls(bool, u32),
     Truth(TruthRest<'c>),
     Nothing(NothingRest<'c>),
     Exit(ExitRest<'c>),
     /// So many cells from this address on are given back.
-    Closes(usize, usize),
+    Closes(u32, u32),
     /// An argument of the call whose rest comes next, and whether it is the first one.
     Given(u16, bool),
 }
@@ -124,7 +124,7 @@ pub(crate) fn take<'c>(rests: &mut Vec<Rest<'c>>) -> Option<Rest<'c>>
 ///
 /// `Memory` comes where no number is so great, which no level of a frame is.
 #[inline(always)]
-pub(crate) fn above(s: usize, n: usize) -> Result<usize, Memory>
+pub(crate) fn above(s: u32, n: u32) -> Result<u32, Memory>
     ensures { IfOk result (λ r. r ≡ s + n) }
 {
     s.checked_add(n).ok_or(Memory)

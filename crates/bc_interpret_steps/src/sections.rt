@@ -17,7 +17,7 @@ pub struct Section<'c> {
 #[derive(Clone, Copy)]
 pub struct Callable<'c> {
     pub address: u16,
-    pub section: Section<'c>,
+    pub section: &'c Section<'c>,
     pub routine: &'c Routine,
     pub frame: usize,
 }

@@ -2,6 +2,7 @@
 
 ghost use Rattle.bc_interpret_steps.specs.Came.{Turned, Wrote};
 
+use crate::forms::Progress;
 use crate::rests::Rest;
 use bc_interpret_quiet::{Cause, Room};
 use bc_interpret_store::Store;
@@ -13,9 +14,11 @@ pub struct State {
     pub turns: u64,
 }
 
-/// What is left to do, and memory that serves again: for expressions without call, and for the arguments of a call.
+/// What came of the last step and what is left to do, and memory that serves again: for expressions without call, and for the arguments
+/// of a call.
 #[derive(Drop)]
 pub struct Stacks<'c> {
+    pub next: Progress<'c>,
     pub rests: Vec<Rest<'c>>,
     pub room: Room<'c>,
     pub arguments: Vec<u16>,

@@ -9,7 +9,7 @@ use crate::commands::{
     declare, enter, initialise, perform, repeat, repeat_while, round, store, while_loop,
 };
 use crate::evaluate::{decide, evaluate};
-use crate::forms::{Progress, Work};
+use crate::forms::Work;
 use crate::lists::listing;
 use crate::sections::Callable;
 use crate::state::{Stacks, State};
@@ -20,48 +20,49 @@ use bc_word::Memory;
 /// `Memory` comes where an allocation was refused.
 pub fn step<'c>(
     table: &[Callable<'c>],
-    work: Work<'c>,
+    work: &Work<'c>,
     stacks: &mut Stacks<'c>,
     state: &mut State,
-) -> Result<Progress<'c>, Memory>
-    ensures { StepsOver table.now (work_of (given stacks.old.rests.items) work.entry) stacks.old.rests state.old result stacks.new.rests state.new }
+) -> Result<(), Memory>
+    ensures { StepsOver table.now (work_of
+        (given stacks.old.rests.items) work.now) stacks.old.rests state.old result stacks.new.next stacks.new.rests state.new }
 {
     match work {
-        Work::Evaluate(spot, e, s) => Ok(evaluate(spot, e, s, stacks, state)?),
-        Work::Decide(spot, e, s) => Ok(decide(spot, e, s, stacks, state)?),
-        Work::Argue(arguments) => Ok(argue(arguments, stacks, state)?),
-        Work::Store(spot, value, address, s) => Ok(store(spot, value, address, s, stacks, state)?),
-        Work::Perform(spot, command, s) => Ok(perform(spot, command, s, stacks, state)?),
+        Work::Evaluate(spot, e, s) => Ok(evaluate(*spot, e, *s, stacks, state)?),
+        Work::Decide(spot, e, s) => Ok(decide(*spot, e, *s, stacks, state)?),
+        Work::Argue(arguments) => Ok(argue(*arguments, stacks, state)?),
+        Work::Store(spot, value, address, s) => Ok(store(
+            *spot, value, address, *s, stacks, state,
+        )?),
+        Work::Perform(spot, command, s) => Ok(perform(*spot, command, *s, stacks, state)?),
         Work::While(spot, condition, body, s) => Ok(while_loop(
-            spot, condition, body, s, stacks, state,
+            *spot, condition, body, *s, stacks, state,
         )?),
-        Work::Repeat(spot, body, s) => Ok(repeat(spot, body, s, &mut stacks.rests)?),
+        Work::Repeat(spot, body, s) => Ok(repeat(*spot, body, *s, stacks)?),
         Work::RepeatWhile(spot, body, condition, s) => Ok(repeat_while(
-            spot,
-            body,
-            condition,
-            s,
-            &mut stacks.rests,
+            *spot, body, condition, *s, stacks,
         )?),
-        Work::Enter(spot, block, s) => Ok(enter(spot, block, s, stacks, state)?),
-        Work::Declare(spot, declarations, items, s, level) => {
-            Ok(declare(spot, declarations, items, (s, level), stacks, state)?)
-        }
-        Work::Initialise(spot, variables, k, s) => Ok(initialise(
-            spot,
-            variables,
-            k,
-            s,
-            &mut stacks.rests,
+        Work::Enter(spot, block, s) => Ok(enter(*spot, block, *s, stacks, state)?),
+        Work::Declare(spot, declarations, items, s, level) => Ok(declare(
+            *spot,
+            declarations,
+            items,
+            (*s, *level),
+            stacks,
             state,
         )?),
-        Work::Listing(spot, items, s, entry) => Ok(listing(spot, items, s, entry, stacks, state)?),
-        Work::Round(spot, limit, by, body, s) => Ok(round(
-            spot, limit, by, body, s, stacks, state,
+        Work::Initialise(spot, variables, k, s) => Ok(initialise(
+            *spot, variables, *k, *s, stacks, state,
         )?),
-        Work::Number(v) => Ok(give_number(table, v, stacks, state)?),
-        Work::Verdict(t) => Ok(give_verdict(table, t, stacks, state)?),
+        Work::Listing(spot, items, s, entry) => Ok(listing(
+            *spot, items, *s, *entry, stacks, state,
+        )?),
+        Work::Round(spot, limit, by, body, s) => Ok(round(
+            *spot, *limit, *by, body, *s, stacks, state,
+        )?),
+        Work::Number(v) => Ok(give_number(table, *v, stacks, state)?),
+        Work::Verdict(t) => Ok(give_verdict(table, *t, stacks, state)?),
         Work::Nothing => Ok(give_nothing(table, stacks, state)?),
-        Work::Left(exit) => Ok(give_exit(table, exit, stacks, state)?),
+        Work::Left(exit) => Ok(give_exit(table, *exit, stacks, state)?),
     }
 }

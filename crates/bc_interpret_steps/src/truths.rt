@@ -26,28 +26,37 @@ pub(crate) fn truth_taken<'c>(
     t: bool,
     stacks: &mut Stacks<'c>,
     state: &mut State,
-) -> Result<Progress<'c>, Memory>
-    ensures { Takes (truth_rest rest.now) (machine.Verdict t) stacks.old.rests state.old result stacks.new.rests state.new }
+) -> Result<(), Memory>
+    ensures { Takes (truth_rest rest.now) (machine.Verdict t) stacks.old.rests state.old result stacks.new.next stacks.new.rests state.new }
 {
     match rest {
-        TruthRest::Opposes => Ok(Progress::On(Work::Verdict(!t))),
+        TruthRest::Opposes => {
+            stacks.next = Progress::On(Work::Verdict(!t));
+            Ok(())
+        }
         TruthRest::Conjoins(spot, e, s) => {
             if t {
-                return Ok(Progress::On(Work::Decide(*spot, e, above(*s, 1)?)));
+                stacks.next = Progress::On(Work::Decide(*spot, e, above(*s, 1)?));
+                return Ok(());
             }
-            Ok(Progress::On(Work::Verdict(false)))
+            stacks.next = Progress::On(Work::Verdict(false));
+            Ok(())
         }
         TruthRest::Disjoins(spot, e, s) => {
             if t {
-                return Ok(Progress::On(Work::Verdict(true)));
+                stacks.next = Progress::On(Work::Verdict(true));
+                return Ok(());
             }
-            Ok(Progress::On(Work::Decide(*spot, e, above(*s, 1)?)))
+            stacks.next = Progress::On(Work::Decide(*spot, e, above(*s, 1)?));
+            Ok(())
         }
         TruthRest::Selects(spot, this, that, s) => {
             if t {
-                return Ok(Progress::On(Work::Evaluate(*spot, this, *s)));
+                stacks.next = Progress::On(Work::Evaluate(*spot, this, *s));
+                return Ok(());
             }
-            Ok(Progress::On(Work::Evaluate(*spot, that, *s)))
+            stacks.next = Progress::On(Work::Evaluate(*spot, that, *s));
+            Ok(())
         }
         TruthRest::Ifs(spot, sense, body, s) => {
             let holds = agrees(*sense, t);
@@ -63,11 +72,14 @@ pub(crate) fn truth_taken<'c>(
         TruthRest::RepeatWhiles(spot, body, condition, s) => {
             if agrees(condition.sense, t) {
                 if !turn(state) {
-                    return Ok(Progress::Going);
+                    stacks.next = Progress::Going;
+                    return Ok(());
                 }
-                return Ok(Progress::On(Work::RepeatWhile(*spot, body, condition, *s)));
+                stacks.next = Progress::On(Work::RepeatWhile(*spot, body, condition, *s));
+                return Ok(());
             }
-            Ok(Progress::On(Work::Left(Exit::Past)))
+            stacks.next = Progress::On(Work::Left(Exit::Past));
+            Ok(())
         }
     }
 }

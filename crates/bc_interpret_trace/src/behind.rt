@@ -27,7 +27,7 @@ fn only(behind: u64) -> Clue {
 fn at(spot: &Spot<'_>, behind: u64) -> Clue {
     Clue {
         behind,
-        first: Some(spot.first),
+        first: Some(spot.first as usize),
         is_bottom: false,
     }
 }

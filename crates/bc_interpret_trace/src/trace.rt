@@ -88,7 +88,7 @@ impl<'c> Trace<'c> {
             least: rests.len().saturating_sub(given),
             within: Within::Call {
                 routine,
-                frame: *frame,
+                frame: *frame as usize,
             },
         })?;
         Ok(())

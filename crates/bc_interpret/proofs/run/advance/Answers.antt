@@ -7,40 +7,40 @@ use Rattle.bc_interpret.proofs.run.advance.Goals as goal
 pub returns-in-On : goal.returns-in-On
 returns-in-On g c =
     let old = c.args.run.now in
-    let s = step_is c.args.table.now c.args.work old.stacks.rests.items old.state c.step.new.stacks.rests.items c.step.new.state c.step.result c.in_ok-progress.progress _ c.step.ensures c.in_ok-progress.was c.in-On.is in
+    let s = step_is c.args.table.now c.args.work.now old.stacks.rests.items old.state c.step.new.stacks.rests.items c.step.new.state c.step.new.stacks.next _ c.in_ok-step.ensures c.in-On.is in
     on_advances _ _ _ _ _ _ _ c.in-On.next c.requires s
 
 pub returns-in-Answered : goal.returns-in-Answered
 returns-in-Answered g c =
     let old = c.args.run.now in
-    let s = step_is c.args.table.now c.args.work old.stacks.rests.items old.state c.step.new.stacks.rests.items c.step.new.state c.step.result c.in_ok-progress.progress _ c.step.ensures c.in_ok-progress.was c.in-Answered.is in
-    over_advances _ _ _ _ _ _ _ _ (λ e. cc) (λ program t n l. answered program n c.args.work old.stacks.rests.items old.state c.step.new.stacks.rests.items c.step.new.state (g.S.Streams.content c.args.streams.now) (s program t))
+    let s = step_is c.args.table.now c.args.work.now old.stacks.rests.items old.state c.step.new.stacks.rests.items c.step.new.state c.step.new.stacks.next _ c.in_ok-step.ensures c.in-Answered.is in
+    over_advances _ _ _ _ _ _ _ _ (λ e. cc) (λ program t n l. answered program n c.args.work.now old.stacks.rests.items old.state c.step.new.stacks.rests.items c.step.new.state (g.S.Streams.content c.args.streams.now) (s program t))
 
 pub returns-in-Ended : goal.returns-in-Ended
 returns-in-Ended g c =
     let old = c.args.run.now in
-    let s = step_is c.args.table.now c.args.work old.stacks.rests.items old.state c.step.new.stacks.rests.items c.step.new.state c.step.result c.in_ok-progress.progress _ c.step.ensures c.in_ok-progress.was c.in-Ended.is in
-    over_advances _ _ _ _ _ _ _ _ (λ e. cc) (λ program t n l. ended program n c.args.work old.stacks.rests.items old.state c.in-Ended.ending c.step.new.stacks.rests.items c.step.new.state (g.S.Streams.content c.args.streams.now) (s program t) l)
+    let s = step_is c.args.table.now c.args.work.now old.stacks.rests.items old.state c.step.new.stacks.rests.items c.step.new.state c.step.new.stacks.next _ c.in_ok-step.ensures c.in-Ended.is in
+    over_advances _ _ _ _ _ _ _ _ (λ e. cc) (λ program t n l. ended program n c.args.work.now old.stacks.rests.items old.state c.in-Ended.ending c.step.new.stacks.rests.items c.step.new.state (g.S.Streams.content c.args.streams.now) (s program t) l)
 
 pub returns-in-Going : goal.returns-in-Going
 returns-in-Going g c =
     let old = c.args.run.now in
-    let s = step_is c.args.table.now c.args.work old.stacks.rests.items old.state c.step.new.stacks.rests.items c.step.new.state c.step.result c.in_ok-progress.progress _ c.step.ensures c.in_ok-progress.was c.in-Going.is in
-    over_advances _ _ _ _ _ _ _ _ (λ e. cc) (λ program t n l. going program n c.args.work old.stacks.rests.items old.state c.step.new.stacks.rests.items c.step.new.state (g.S.Streams.content c.args.streams.now) (s program t) l)
+    let s = step_is c.args.table.now c.args.work.now old.stacks.rests.items old.state c.step.new.stacks.rests.items c.step.new.state c.step.new.stacks.next _ c.in_ok-step.ensures c.in-Going.is in
+    over_advances _ _ _ _ _ _ _ _ (λ e. cc) (λ program t n l. going program n c.args.work.now old.stacks.rests.items old.state c.step.new.stacks.rests.items c.step.new.state (g.S.Streams.content c.args.streams.now) (s program t) l)
 
 pub returns-in-Wild : goal.returns-in-Wild
 returns-in-Wild g c =
     let old = c.args.run.now in
-    let s = step_is c.args.table.now c.args.work old.stacks.rests.items old.state c.step.new.stacks.rests.items c.step.new.state c.step.result c.in_ok-progress.progress _ c.step.ensures c.in_ok-progress.was c.in-Wild.is in
-    over_advances _ _ _ _ _ _ _ _ (λ e. cc) (λ program t n l. was_wild program n c.args.work old.stacks.rests.items old.state c.in-Wild.cause c.step.new.stacks.rests.items c.step.new.state (g.S.Streams.content c.args.streams.now) (s program t) l)
+    let s = step_is c.args.table.now c.args.work.now old.stacks.rests.items old.state c.step.new.stacks.rests.items c.step.new.state c.step.new.stacks.next _ c.in_ok-step.ensures c.in-Wild.is in
+    over_advances _ _ _ _ _ _ _ _ (λ e. cc) (λ program t n l. was_wild program n c.args.work.now old.stacks.rests.items old.state c.in-Wild.cause c.step.new.stacks.rests.items c.step.new.state (g.S.Streams.content c.args.streams.now) (s program t) l)
 
 pub returns-in_ok-served-in-Serve : goal.returns-in_ok-served-in-Serve
 returns-in_ok-served-in-Serve g c =
     let old = c.args.run.now in
-    let s = step_is c.args.table.now c.args.work old.stacks.rests.items old.state c.step.new.stacks.rests.items c.step.new.state c.step.result c.in_ok-progress.progress _ c.step.ensures c.in_ok-progress.was c.in-Serve.is in
+    let s = step_is c.args.table.now c.args.work.now old.stacks.rests.items old.state c.step.new.stacks.rests.items c.step.new.state c.step.new.stacks.next _ c.in_ok-step.ensures c.in-Serve.is in
     let new : Run = record old { state = c.serve.new.state; stacks = c.step.new.stacks; name = c.serve.new.name; trace = c.follow.new.self } in
     let before = c.args.streams.now in
     let after = c.serve.new.streams in
-    subst (λ m. Advanced c.args.table.now c.args.work old new (g.S.Streams.known before) (g.S.Streams.known after) (g.S.Streams.content before) (g.S.Streams.content after) (g.S.Streams.failures before) (g.S.Streams.failures after) m) (sym c.moved_by.ensures)
-    (served_advances c.args.table.now c.args.work old new c.in-Serve.primitive c.in-Serve.frame c.step.new.state (g.S.Streams.known before) (g.S.Streams.known after) (g.S.Streams.content before) (g.S.Streams.content after) (g.S.Streams.failures before) (g.S.Streams.failures after)
+    subst (λ m. Advanced c.args.table.now c.args.work.now old new (g.S.Streams.known before) (g.S.Streams.known after) (g.S.Streams.content before) (g.S.Streams.content after) (g.S.Streams.failures before) (g.S.Streams.failures after) m) (sym c.moved_by.ensures)
+    (served_advances c.args.table.now c.args.work.now old new c.in-Serve.primitive c.in-Serve.frame c.step.new.state (g.S.Streams.known before) (g.S.Streams.known after) (g.S.Streams.content before) (g.S.Streams.content after) (g.S.Streams.failures before) (g.S.Streams.failures after)
     c.in_ok-served-in-Serve.served c.requires s c.in_ok-served-in-Serve.ensures)

@@ -9,4 +9,4 @@ returns-in_ok-exit_taken-in-Some-Exit c program table =
     let middle = c.take.new.self.rests.items in
     let after = c.exit_taken.new.stacks.rests.items in
     handed program (machine.Left (exit_of c.args.exit)) (stack c.args.stacks.now.rests.items) (exit_rest c.in-Some-Exit.rest) (stack middle) c.args.state.now
-    c.in_ok-exit_taken-in-Some-Exit.field-0 (stack after) (given after) c.exit_taken.new.state (subst (λ r. Taken (Some r) c.args.stacks.now.rests.items middle) c.in-Some-Exit.field-0-is c.in-Some-Exit.ensures) (c.in_ok-exit_taken-in-Some-Exit.ensures program)
+    c.exit_taken.new.stacks.next (stack after) (given after) c.exit_taken.new.state (subst (λ r. Taken (Some r) c.args.stacks.now.rests.items middle) c.in-Some-Exit.field-0-is c.in-Some-Exit.ensures) (c.in_ok-exit_taken-in-Some-Exit.ensures program)

@@ -7,7 +7,7 @@ use Rattle.bc_interpret_steps.proofs.answers.give_nothing.Goals as goal
 pub returns-in_ok-nothing_taken-in-Some-Nothing : goal.returns-in_ok-nothing_taken-in-Some-Nothing
 returns-in_ok-nothing_taken-in-Some-Nothing c program table =
     let middle = c.take.new.self.rests.items in
-    let after = c.nothing_taken.new.rests.items in
+    let after = c.nothing_taken.new.stacks.rests.items in
     let st = c.args.state.now in
     handed program machine.Nothing (stack c.args.stacks.now.rests.items) (nothing_rest c.in-Some-Nothing.rest) (stack middle) st
-    c.in_ok-nothing_taken-in-Some-Nothing.field-0 (stack after) (given after) st (subst (λ r. Taken (Some r) c.args.stacks.now.rests.items middle) c.in-Some-Nothing.field-0-is c.in-Some-Nothing.ensures) (c.in_ok-nothing_taken-in-Some-Nothing.ensures st program)
+    c.nothing_taken.new.stacks.next (stack after) (given after) st (subst (λ r. Taken (Some r) c.args.stacks.now.rests.items middle) c.in-Some-Nothing.field-0-is c.in-Some-Nothing.ensures) (c.in_ok-nothing_taken-in-Some-Nothing.ensures st program)

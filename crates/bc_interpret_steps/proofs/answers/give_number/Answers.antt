@@ -7,17 +7,17 @@ use Rattle.bc_interpret_steps.proofs.answers.give_number.Goals as goal
 pub returns-in_ok-number_taken-in-Some-Number : goal.returns-in_ok-number_taken-in-Some-Number
 returns-in_ok-number_taken-in-Some-Number c program table =
     let middle = c.take.new.self.rests.items in
-    let after = c.number_taken.new.rests.items in
+    let after = c.number_taken.new.stacks.rests.items in
     let st = c.args.state.now in
     handed program (machine.Number c.args.v) (stack c.args.stacks.now.rests.items) (number_rest (given middle) c.in-Some-Number.rest) (stack middle) st
-    c.in_ok-number_taken-in-Some-Number.field-0 (stack after) (given after) st (subst (λ r. Taken (Some r) c.args.stacks.now.rests.items middle) c.in-Some-Number.field-0-is c.in-Some-Number.ensures) (c.in_ok-number_taken-in-Some-Number.ensures program)
+    c.number_taken.new.stacks.next (stack after) (given after) st (subst (λ r. Taken (Some r) c.args.stacks.now.rests.items middle) c.in-Some-Number.field-0-is c.in-Some-Number.ensures) (c.in_ok-number_taken-in-Some-Number.ensures program)
 
 pub returns-in_ok-value_taken-in-Some-Value : goal.returns-in_ok-value_taken-in-Some-Value
 returns-in_ok-value_taken-in-Some-Value c program table =
     let middle = c.take.new.self.rests.items in
-    let after = c.value_taken.new.rests.items in
+    let after = c.value_taken.new.stacks.rests.items in
     handed program (machine.Number c.args.v) (stack c.args.stacks.now.rests.items) (value_rest c.in-Some-Value.rest) (stack middle) c.args.state.now
-    c.in_ok-value_taken-in-Some-Value.field-0 (stack after) (given after) c.value_taken.new.state (subst (λ r. Taken (Some r) c.args.stacks.now.rests.items middle) c.in-Some-Value.field-0-is c.in-Some-Value.ensures) (c.in_ok-value_taken-in-Some-Value.ensures program)
+    c.value_taken.new.stacks.next (stack after) (given after) c.value_taken.new.state (subst (λ r. Taken (Some r) c.args.stacks.now.rests.items middle) c.in-Some-Value.field-0-is c.in-Some-Value.ensures) (c.in_ok-value_taken-in-Some-Value.ensures program)
 
 pub returns-in_ok-arrive-in-Some-Calls : goal.returns-in_ok-arrive-in-Some-Calls
 returns-in_ok-arrive-in-Some-Calls c program table =
@@ -25,4 +25,4 @@ returns-in_ok-arrive-in-Some-Calls c program table =
     let after = c.arrive.new.stacks.rests.items in
     let t = c.in-Some-Calls in
     handed program (machine.Number c.args.v) (stack c.args.stacks.now.rests.items) (machine.Calls (given_for t.fresh (given middle)) t.frame) (stack middle) c.args.state.now
-    c.in_ok-arrive-in-Some-Calls.field-0 (stack after) (given after) c.arrive.new.state (subst (λ r. Taken (Some r) c.args.stacks.now.rests.items middle) c.in-Some-Calls.field-0-is t.ensures) (c.in_ok-arrive-in-Some-Calls.ensures program table)
+    c.arrive.new.stacks.next (stack after) (given after) c.arrive.new.state (subst (λ r. Taken (Some r) c.args.stacks.now.rests.items middle) c.in-Some-Calls.field-0-is t.ensures) (c.in_ok-arrive-in-Some-Calls.ensures program table)

@@ -9,4 +9,4 @@ returns-in_ok-truth_taken-in-Some-Truth c program table =
     let middle = c.take.new.self.rests.items in
     let after = c.truth_taken.new.stacks.rests.items in
     handed program (machine.Verdict c.args.t) (stack c.args.stacks.now.rests.items) (truth_rest c.in-Some-Truth.rest) (stack middle) c.args.state.now
-    c.in_ok-truth_taken-in-Some-Truth.field-0 (stack after) (given after) c.truth_taken.new.state (subst (λ r. Taken (Some r) c.args.stacks.now.rests.items middle) c.in-Some-Truth.field-0-is c.in-Some-Truth.ensures) (c.in_ok-truth_taken-in-Some-Truth.ensures program)
+    c.truth_taken.new.stacks.next (stack after) (given after) c.truth_taken.new.state (subst (λ r. Taken (Some r) c.args.stacks.now.rests.items middle) c.in-Some-Truth.field-0-is c.in-Some-Truth.ensures) (c.in_ok-truth_taken-in-Some-Truth.ensures program)

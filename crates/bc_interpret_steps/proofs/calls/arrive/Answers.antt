@@ -1,4 +1,4 @@
-use Rattle.std.proofs.Common.{◌≡◌, Some, reverse, sym, ap, subst, ◌∙◌, IfOk}
+use Rattle.std.proofs.Common.{◌≡◌, Some, reverse, sym, ap, subst, ◌∙◌, OnOk}
 use Rattle.bc_core.specs.Meaning.{OfLibrary, callee, of_library}
 use Rattle.bc_interpret_defs.specs.Machine.{arrive}
 use Rattle.bc_interpret_steps.specs.Code.{given_for, stack, given}
@@ -14,12 +14,13 @@ returns-in-Some c program table =
     let old = c.args.stacks.now.rests.items in
     let vs = reverse c.gather.new.self.arguments.items in
     let after = c.enter_routine.new.stacks.rests.items in
+    let next = c.enter_routine.new.stacks.next in
     let st = c.args.state.now in
     let new = c.enter_routine.new.state in
-    subst (λ k. IfOk c.enter_routine.result (λ p. Goes (arrive k (given_for c.args.fresh (given old)) c.args.frame) old st p after new))
+    subst (λ k. OnOk c.enter_routine.result (Goes (arrive k (given_for c.args.fresh (given old)) c.args.frame) old st next after new))
     (sym (table.finds c.args.routine ∙ ap (λ f. called f c.args.routine) (sym found)))
-    (subst (λ us. IfOk c.enter_routine.result (λ p. Goes (arrive (Some (callee_of entry)) us c.args.frame) old st p after new)) c.in_ok-gather.ensures.1
-    (subst (λ rs. IfOk c.enter_routine.result (λ p. Came (arrive (Some (callee_of entry)) vs c.args.frame rs) st p (stack after) (given after) new)) c.in_ok-gather.ensures.0
+    (subst (λ us. OnOk c.enter_routine.result (Goes (arrive (Some (callee_of entry)) us c.args.frame) old st next after new)) c.in_ok-gather.ensures.1
+    (subst (λ rs. OnOk c.enter_routine.result (Came (arrive (Some (callee_of entry)) vs c.args.frame rs) st next (stack after) (given after) new)) c.in_ok-gather.ensures.0
     (c.enter_routine.ensures (sized_among c.args.table.now c.args.routine entry (sym found) table.sized))))
 
 pub returns-in-Some-primitive_at : goal.returns-in-Some-primitive_at
@@ -28,10 +29,11 @@ returns-in-Some-primitive_at c program table =
     let old = c.args.stacks.now.rests.items in
     let vs = reverse c.gather.new.self.arguments.items in
     let after = c.enter_primitive.new.stacks.rests.items in
+    let next = c.enter_primitive.new.stacks.next in
     let st = c.args.state.now in
     let new = c.enter_primitive.new.state in
-    subst (λ k. IfOk c.enter_primitive.result (λ p. Goes (arrive k (given_for c.args.fresh (given old)) c.args.frame) old st p after new))
+    subst (λ k. OnOk c.enter_primitive.result (Goes (arrive k (given_for c.args.fresh (given old)) c.args.frame) old st next after new))
     (sym (table.finds c.args.routine ∙ (ap (λ f. called f c.args.routine) (sym c.in-None.ensures) ∙ ap of_library (sym c.in-Some-primitive_at.ensures))))
-    (subst (λ us. IfOk c.enter_primitive.result (λ p. Goes (arrive (Some (OfLibrary (primitive_of q))) us c.args.frame) old st p after new)) c.in_ok-gather.ensures.1
-    (subst (λ rs. IfOk c.enter_primitive.result (λ p. Came (arrive (Some (OfLibrary (primitive_of q))) vs c.args.frame rs) st p (stack after) (given after) new)) c.in_ok-gather.ensures.0
+    (subst (λ us. OnOk c.enter_primitive.result (Goes (arrive (Some (OfLibrary (primitive_of q))) us c.args.frame) old st next after new)) c.in_ok-gather.ensures.1
+    (subst (λ rs. OnOk c.enter_primitive.result (Came (arrive (Some (OfLibrary (primitive_of q))) vs c.args.frame rs) st next (stack after) (given after) new)) c.in_ok-gather.ensures.0
     c.enter_primitive.ensures))

@@ -8,7 +8,7 @@ pub returns-in_ok-enter_while-in-Some-Is : goal.returns-in_ok-enter_while-in-Som
 returns-in_ok-enter_while-in-Some-Is c =
     let before = c.args.stacks.now.rests.items in
     let after = c.enter_while.new.stacks.rests.items in
-    while_told (spot_of c.args.spot) c.args.condition.now.sense (exp c.args.condition.now.test) (block_of c.args.body.now) c.args.s (stack before) c.args.state.now c.in_ok-t.field-0 c.in-Some-Is.t c.agrees-holds.result c.in_ok-enter_while-in-Some-Is.field-0 (stack after) (given after) c.enter_while.new.state
+    while_told (spot_of c.args.spot) c.args.condition.now.sense (exp c.args.condition.now.test) (block_of c.args.body.now) c.args.s (stack before) c.args.state.now c.in_ok-t.field-0 c.in-Some-Is.t c.agrees-holds.result c.enter_while.new.stacks.next (stack after) (given after) c.enter_while.new.state
     c.in_ok-t.ensures (cc) c.agrees-holds.ensures c.in_ok-enter_while-in-Some-Is.ensures
 
 pub returns-in_ok-put-in-Some-Divides : goal.returns-in_ok-put-in-Some-Divides

@@ -1,24 +1,24 @@
-use Rattle.std.proofs.Common.{◌≡◌, ◌-◌, ℕ, ap, slice_index_or, arith}
+use Rattle.std.proofs.Common.{◌≡◌, ℕ, ap, slice_index_or, arith}
 use Rattle.bc_interpret_steps.specs.Code.{stack}
 use Rattle.bc_interpret_steps.specs.Came.{state_of}
-use Rattle.bc_interpret_steps.proofs.Valofs.{valof_before, valof_behind, valof_entered}
+use Rattle.bc_interpret_steps.proofs.Valofs.{none_before, none_behind, valof_entered}
 use Rattle.bc_interpret_steps.proofs.evaluate.valof.Goals as goal
 
 pub returns-then-number-spot : goal.returns-then-number-spot
 returns-then-number-spot c st =
     let E = c.args.spot in
-    let address : ℕ → ℕ = λ l. slice_index_or E.addresses.now l 0 in
-    (λ streams. ap (λ r. r (state_of st streams)) (valof_before address E.frame E.first E.valofs.now c.args.number c.args.s (stack c.args.rests.now.items) c.if-number-spot.true))
+    let address : ℕ → ℕ = λ l. slice_index_or E.section.now.addresses.now l 0 in
+    (λ streams. ap (λ r. r (state_of st streams)) (none_before address E.frame E.first E.section.now.valofs.now c.args.number c.args.s (stack c.args.stacks.now.rests.items) c.if-number-spot.true))
 
 pub returns-then-index-spot : goal.returns-then-index-spot
 returns-then-index-spot c st =
     let E = c.args.spot in
-    let address : ℕ → ℕ = λ l. slice_index_or E.addresses.now l 0 in
-    (λ streams. ap (λ r. r (state_of st streams)) (valof_behind address E.frame E.first E.valofs.now c.args.number (c.args.number - E.first) c.args.s (stack c.args.rests.now.items) (omega arith) c.if-index-spot.true))
+    let address : ℕ → ℕ = λ l. slice_index_or E.section.now.addresses.now l 0 in
+    (λ streams. ap (λ r. r (state_of st streams)) (none_behind address E.frame E.first E.section.now.valofs.now c.args.number c.args.s (stack c.args.stacks.now.rests.items) c.if-number-spot.false c.if-index-spot.true))
 
 pub returns : goal.returns
 returns c st =
     let E = c.args.spot in
-    let address : ℕ → ℕ = λ l. slice_index_or E.addresses.now l 0 in
-    λ streams. valof_entered address E.frame E.first E.valofs.now c.args.number (c.args.number - E.first) c.args.s c.in_ok-above.field-0 c.index-spot-index.result (stack c.args.rests.now.items) (stack c.put.new.rests.items) (state_of st streams)
+    let address : ℕ → ℕ = λ l. slice_index_or E.section.now.addresses.now l 0 in
+    λ streams. valof_entered address E.frame E.first E.section.now.valofs.now c.args.number c.args.s c.in_ok-above.field-0 c.index-spot-index.result (stack c.args.stacks.now.rests.items) (stack c.put.new.rests.items) (state_of st streams)
     (omega arith) (omega arith) c.in_ok-above.ensures c.in_ok-put.ensures.stack

@@ -1,4 +1,4 @@
-use Rattle.std.proofs.Common.{sym, subst, IfOk}
+use Rattle.std.proofs.Common.{sym, subst}
 use Rattle.bc_core.specs.View.{block_of}
 use Rattle.bc_interpret_defs.specs.Machine.{Left, next}
 use Rattle.bc_interpret_steps.specs.Code.{spot_of, exit_of, exit_rest, stack, given}
@@ -10,23 +10,24 @@ pub returns-in-Returns : goal.returns-in-Returns
 returns-in-Returns c program =
     let before = c.args.stacks.now.rests.items in
     let st = c.args.state.now in
-    subst (λ r. Goes (next program (exit_rest r) (Left (exit_of c.args.exit))) before st c.returned.result before st) (sym c.in-Returns.is)
-    (c.returned.ensures st program (stack before) (given before))
+    subst (λ r. Goes (next program (exit_rest r) (Left (exit_of c.args.exit))) before st c.returned-stacks.result before st) (sym c.in-Returns.is)
+    (c.returned-stacks.ensures st program (stack before) (given before))
 
 pub returns-in-Results : goal.returns-in-Results
 returns-in-Results c program =
     let before = c.args.stacks.now.rests.items in
     let st = c.args.state.now in
-    subst (λ r. Goes (next program (exit_rest r) (Left (exit_of c.args.exit))) before st c.resulted.result before st) (sym c.in-Results.is)
-    (c.resulted.ensures st program (stack before) (given before))
+    subst (λ r. Goes (next program (exit_rest r) (Left (exit_of c.args.exit))) before st c.resulted-stacks.result before st) (sym c.in-Results.is)
+    (c.resulted-stacks.ensures st program (stack before) (given before))
 
-pub returns-in-None-behind-3 : goal.returns-in-None-behind-3
-returns-in-None-behind-3 c program =
+pub returns-in_ok-stacks-in-None-behind-3 : goal.returns-in_ok-stacks-in-None-behind-3
+returns-in_ok-stacks-in-None-behind-3 c program =
     let before = c.args.stacks.now.rests.items in
     let old = c.args.state.now in
     let new = c.step_variable.new.state in
     let t = c.in-ForBody in
-    subst (λ r. IfOk c.step_variable.result (λ p. Goes (next program (exit_rest r) (Left (exit_of c.args.exit))) before old p before new)) (sym t.is)
-    (subst (λ r. IfOk c.step_variable.result (λ p. Came r old p (stack before) (given before) new))
+    let came = c.in_ok-stacks-in-None-behind-3 in
+    subst (λ r. Goes (next program (exit_rest r) (Left (exit_of c.args.exit))) before old came.field-0 before new) (sym t.is)
+    (subst (λ r. Came r old came.field-0 (stack before) (given before) new)
     (for_behind program (spot_of t.spot) t.limit t.by (block_of t.body.now) t.s (exit_of c.args.exit) (stack before) c.in-None-behind-3.ensures)
-    (c.step_variable.ensures program (stack before) (given before)))
+    (came.ensures program (stack before) (given before)))

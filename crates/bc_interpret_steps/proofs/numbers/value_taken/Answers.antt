@@ -6,12 +6,12 @@ use Rattle.bc_interpret_steps.proofs.numbers.value_taken.Goals as goal
 
 pub returns-in-Stored : goal.returns-in-Stored
 returns-in-Stored c program =
-    let before = c.args.rests.now.items in
-    subst (λ r. Goes (next program (value_rest r) (Number c.args.v)) before c.args.state.now c.store.result before c.store.new.state) (sym c.in-Stored.is)
-    (c.store.ensures program (stack before) (given before))
+    let before = c.args.stacks.now.rests.items in
+    subst (λ r. Goes (next program (value_rest r) (Number c.args.v)) before c.args.state.now c.store-stacks.result before c.store-stacks.new.state) (sym c.in-Stored.is)
+    (c.store-stacks.ensures program (stack before) (given before))
 
 pub returns-in-StoresAt : goal.returns-in-StoresAt
 returns-in-StoresAt c program =
-    let before = c.args.rests.now.items in
-    subst (λ r. Goes (next program (value_rest r) (Number c.args.v)) before c.args.state.now c.store-in-StoresAt.result before c.store-in-StoresAt.new.state) (sym c.in-StoresAt.is)
-    (c.store-in-StoresAt.ensures program (stack before) (given before))
+    let before = c.args.stacks.now.rests.items in
+    subst (λ r. Goes (next program (value_rest r) (Number c.args.v)) before c.args.state.now c.store-stacks-in-StoresAt.result before c.store-stacks-in-StoresAt.new.state) (sym c.in-StoresAt.is)
+    (c.store-stacks-in-StoresAt.ensures program (stack before) (given before))

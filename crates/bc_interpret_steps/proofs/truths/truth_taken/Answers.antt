@@ -11,7 +11,7 @@ pub returns-in_ok-enter_if-in-Ifs : goal.returns-in_ok-enter_if-in-Ifs
 returns-in_ok-enter_if-in-Ifs c program =
     let before = c.args.stacks.now.rests.items in
     let after = c.enter_if.new.stacks.rests.items in
-    let p = c.in_ok-enter_if-in-Ifs.field-0 in
+    let p = c.enter_if.new.stacks.next in
     let t = c.in-Ifs in
     let E = spot_of t.spot in
     let b = block_of t.body.now in
@@ -23,14 +23,14 @@ pub returns-in_ok-enter_either-in-Chooses : goal.returns-in_ok-enter_either-in-C
 returns-in_ok-enter_either-in-Chooses c program =
     let before = c.args.stacks.now.rests.items in
     let after = c.enter_either.new.stacks.rests.items in
-    subst (λ r. Goes (machine.next program (truth_rest r) (machine.Verdict c.args.t)) before c.args.state.now c.in_ok-enter_either-in-Chooses.field-0 after c.enter_either.new.state) (sym c.in-Chooses.is)
+    subst (λ r. Goes (machine.next program (truth_rest r) (machine.Verdict c.args.t)) before c.args.state.now c.enter_either.new.stacks.next after c.enter_either.new.state) (sym c.in-Chooses.is)
     c.in_ok-enter_either-in-Chooses.ensures
 
 pub returns-in_ok-enter_while-in-Whiles : goal.returns-in_ok-enter_while-in-Whiles
 returns-in_ok-enter_while-in-Whiles c program =
     let before = c.args.stacks.now.rests.items in
     let after = c.enter_while.new.stacks.rests.items in
-    let p = c.in_ok-enter_while-in-Whiles.field-0 in
+    let p = c.enter_while.new.stacks.next in
     let t = c.in-Whiles in
     let E = spot_of t.spot in
     let b = block_of t.body.now in
