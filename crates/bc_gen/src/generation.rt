@@ -16,7 +16,7 @@ ghost use Rattle.bc_gen.specs.Writing.{Writes};
 use crate::around::Around;
 use crate::commands::behind;
 use crate::gen_error::GenError;
-use crate::parts::{Separated, separated};
+use crate::parts::{Apart, separated};
 use crate::writer::Writer;
 use bc_cert_write::Workings;
 use bc_core::{Body, Core, Place, Routine};
@@ -58,7 +58,7 @@ pub fn generate(alloc: Global, core: &Core) -> Result<Generated, GenError>
     writer.take(places.len())?;
     let around = Around::body(core.valofs(), 0, 0);
     writer.routines(&around, places)?;
-    let Separated {
+    let Apart {
         mut items,
         entries,
         workings,

@@ -34,16 +34,16 @@ pub(crate) fn count_items(parts: &[Part]) -> u64
     count
 }
 
-/// A section's items, the entries of its roots, and the workings of each entry.
+/// A section's items apart from the entries of its roots, and the workings of each entry.
 #[derive(Drop)]
-pub(crate) struct Separated {
+pub(crate) struct Apart {
     pub(crate) items: Vec<Item>,
     pub(crate) entries: Vec<Entry>,
     pub(crate) workings: Vec<Workings>,
 }
 
 /// The items, and the entries of the roots with their workings.
-pub(crate) fn separated(alloc: Global, parts: Vec<Part>) -> Result<Separated, Memory>
+pub(crate) fn separated(alloc: Global, parts: Vec<Part>) -> Result<Apart, Memory>
     ensures items { IfOk result (λ r. r.items.items ≡ plain_items (parts_view parts.items)) }
     ensures entries { IfOk result (λ r. map entry_view r.entries.items ≡ entries_from 0 (parts_view parts.items)) }
     ensures worked { IfOk result (λ r. AllZip WorkedOut (map entry_view r.entries.items) r.workings.items) }
@@ -63,7 +63,7 @@ pub(crate) fn separated(alloc: Global, parts: Vec<Part>) -> Result<Separated, Me
             }
         }
     }
-    Ok(Separated {
+    Ok(Apart {
         items,
         entries,
         workings,
