@@ -7,3 +7,4 @@ pub mod Whole
 pub mod Choosing
 pub mod Rises
 pub mod Outs
+pub mod Workings

@@ -16,7 +16,7 @@ made c = routines_are c.args.core.now c.places-places.result.now c.valofs.result
 
 pub returns-clause-items : goal.returns-clause-items
 returns-clause-items c =
-    items_are c.args.core.now c.places-places.result.now c.routines.new.self c.in_ok-items.items.items c.put_data.new.items.items c.put_settings.new.items.items c.new-2.result
+    items_are c.args.core.now c.places-places.result.now c.routines.new.self c.in_ok-items.field-0.items.items c.put_data.new.items.items c.put_settings.new.items.items c.new-2.result
     c.places-places.ensures.places (made c).0 c.in_ok-items.ensures.items c.in_ok-put_data.ensures c.in_ok-put_settings.ensures c.new-2.ensures
 
 pub returns-clause-entries : goal.returns-clause-entries
