@@ -27,16 +27,22 @@ $)
 """
 
 
-def main():
-    wanted = int(sys.argv[1])
-    text, tokens, n = 'GET "LIBHDR"\n', 60, 0
+def routines(wanted):
+    """The routines of a program of about so many tokens."""
+    made, tokens = [], 60
     while True:
+        n = len(made)
         routine = ROUTINE.format(n=n, call=f"ROUTINE{n - 1}(A + 1, B)" if n else "A")
-        count = len(re.findall(r'"[^"]*"|[A-Z][A-Z0-9.]*|\d+|:=|>>|->|\$\(|\$\)|\S', routine))
-        if tokens + count > wanted:
-            break
-        text, tokens, n = text + routine, tokens + count, n + 1
-    print(text + f"\nLET START() BE WRITEN(ROUTINE{n - 1}(3, 4))")
+        tokens += len(re.findall(r'"[^"]*"|[A-Z][A-Z0-9.]*|\d+|:=|>>|->|\$\(|\$\)|\S', routine))
+        if tokens > wanted:
+            return made
+        made.append(routine)
 
 
-main()
+def main():
+    made = routines(int(sys.argv[1]))
+    print('GET "LIBHDR"\n' + "".join(made) + f"\nLET START() BE WRITEN(ROUTINE{len(made) - 1}(3, 4))")
+
+
+if __name__ == "__main__":
+    main()

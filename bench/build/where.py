@@ -1,7 +1,8 @@
 #!/usr/bin/env python3
 """where.py CALLGRIND..: where the instructions of a build go, from files that valgrind's callgrind wrote: millions in each part, a column a file.
 
-What a part calls counts for it: memory and copies too. What the program's own crates do themselves, with what they free, is the last line."""
+What a part calls counts for it: memory and copies too. What the program's own crates do themselves, with what they free, is "the rest". The
+last line is no part: it tells what asking for memory and giving it back takes of all."""
 import re
 import sys
 
@@ -14,9 +15,16 @@ PARTS = {
     "generate, without select": ["bc_gen"],
     "select": [],
     "link": ["bc_link", "bc_run"],
-    "text and certificate, without select": [],
-    "rows and select for the certificate": [],
+    "text": ["bc_text"],
+    "certificate, without select": ["bc_cert_write"],
+    "select for the certificate": [],
 }
+
+# The crates around the parts, which hand one's answer to the next.
+AROUND = ["bcpl", "bc_build", "bc_scope", "bc_cert"]
+
+# What a program asks for memory by.
+MEMORY = ["rattle_alloc", "rattle_realloc", "rattle_dealloc"]
 
 
 def crate(name):
@@ -57,22 +65,23 @@ def edges(path):
 def parts_of(path):
     total, called = edges(path)
     found = dict.fromkeys(PARTS, 0)
-    selecting = "select", "rows and select for the certificate"
-    writing = 0
+    selecting = {"bc_gen": "select", "bc_cert_write": "select for the certificate"}
+    memory = 0
     for (caller, callee), cost in called.items():
         above, below = crate(caller), crate(callee)
-        if above in ("bcpl", "bc_build") and "write_files" in callee:
-            writing += cost
-        elif above in ("bcpl", "bc_build") and "write_files" not in caller:
+        if above in AROUND:
             for part, crates in PARTS.items():
                 if below in crates:
                     found[part] += cost
-        if below == "bc_select" and above in ("bc_gen", "bc_cert_write", "bcpl", "bc_build"):
-            found[selecting[above != "bc_gen"]] += cost
-    found["generate, without select"] -= found[selecting[0]]
-    found["text and certificate, without select"] = writing - found[selecting[1]]
+        if below == "bc_select" and above in selecting:
+            found[selecting[above]] += cost
+        if callee in MEMORY:
+            memory += cost
+    found["generate, without select"] -= found["select"]
+    found["certificate, without select"] -= found["select for the certificate"]
     found["the rest"] = total - sum(found.values())
     found["all"] = total
+    found["memory, in all of these"] = memory
     return found
 
 

@@ -12,7 +12,8 @@ use Rattle.bc_lex.specs.Files.{File}
 use Rattle.bc_link.specs.Refusals.{refusal_of}
 use Rattle.bc_link.specs.Linked.{image_of, IsRefusal}
 use Rattle.bc_run.specs.Runs.{behind}
-use Rattle.bc_gen_labels.specs.Laws.{LabelsStandOnce, SectionsKeepRules}
+use Rattle.bc_gen_labels.specs.Laws.{LabelsStandOnce}
+use Rattle.bc_scope_laws.specs.Laws.{SectionsFit}
 use Rattle.bc_build.specs.Compiled.{IsAccepted, AreAccepted}
 use Rattle.bc_build.specs.Code.{items_of, in_segment, entries_of, entries_from, IsCompiled}
 use Rattle.bc_build.specs.Built.{IsBuilt}
@@ -106,7 +107,7 @@ main_refused files mains n main left segments entries (Link e) a h = absurd h
 main_refused files mains n main left segments entries Memory a h = tt
 
 -- the segments are not linked
-pub link_refused : LabelsStandOnce → SectionsKeepRules → (files : List File) (mains : List ℕ) (n : ℕ) (segments : List (List Item)) (entries : List code.Entry) (e : BuildError)
+pub link_refused : LabelsStandOnce → SectionsFit → (files : List File) (mains : List ℕ) (n : ℕ) (segments : List (List Item)) (entries : List code.Entry) (e : BuildError)
     → AreCoded files mains n [] segments entries → IsLinkRefusal segments e → IsRefused files mains e
 link_refused once keep files mains n segments entries (Lex at e) a h = absurd h
 link_refused once keep files mains n segments entries (Parse at e) a h = absurd h

@@ -11,3 +11,4 @@ pub mod Reading
 pub mod Facts
 mod Taking
 mod Ending
+pub mod Worked

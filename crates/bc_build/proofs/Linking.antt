@@ -15,7 +15,8 @@ use Rattle.bc_rules_defs.specs.declared.rule.Table.TheVariants.{Two}
 use Rattle.bc_select_defs.specs.Chosen.{chosen}
 use Rattle.bc_scope_defs.specs.Translation.{core_of}
 use Rattle.bc_gen.specs.Chosen.{coding}
-use Rattle.bc_gen_labels.specs.Laws.{LabelsStand, LabelsStandOnce, SectionsKeepRules}
+use Rattle.bc_gen_labels.specs.Laws.{LabelsStand, LabelsStandOnce}
+use Rattle.bc_scope_laws.specs.Laws.{SectionsFit}
 use Rattle.bc_build.specs.Compiled.{AreAccepted}
 use Rattle.bc_build.specs.Code.{items_of}
 use Rattle.bc_build.specs.Refused.{IsLinkFault}
@@ -31,7 +32,7 @@ one_more segment segments h rest = record {
   unset = λ k. ap (λ x. first_of (option_map (LabelUnset k) x) (label_unset_from (k + 1) segments)) h.1 ∙ rest.unset (k + 1);
 }
 
-labels_are_right : LabelsStandOnce → SectionsKeepRules → (files : List File) (mains : List ℕ) (sections : List Declarations) → AreAccepted files mains sections → LabelsAreRight (map items_of sections)
+labels_are_right : LabelsStandOnce → SectionsFit → (files : List File) (mains : List ℕ) (sections : List Declarations) → AreAccepted files mains sections → LabelsAreRight (map items_of sections)
 unfolding coding
 labels_are_right once keep files [] [] h = record { twice = λ k. refl; unset = λ k. refl }
 labels_are_right once keep files [] (s ∷ ss) h = absurd h
@@ -84,7 +85,7 @@ fault_of segments (LabelTwice k l) r h = no_label_twice (repeated_global_of segm
 fault_of segments (GlobalTwice n) r h = a_global (repeated_global_of segments) _ n (sym r ∙ h)
 fault_of segments TooLarge r h = the_size (repeated_global_of segments) _ (sym r ∙ h)
 
-pub link_fault : LabelsStandOnce → SectionsKeepRules → (files : List File) (mains : List ℕ) (sections : List Declarations) (e : LinkError) → AreAccepted files mains sections
+pub link_fault : LabelsStandOnce → SectionsFit → (files : List File) (mains : List ℕ) (sections : List Declarations) (e : LinkError) → AreAccepted files mains sections
     → IsRefusal (refusal_of (behind (map items_of sections))) e → IsLinkFault (behind (map items_of sections)) e
 link_fault once keep files mains sections e accepted h =
     fault_of (behind (map items_of sections)) e (refusal_is (map items_of sections) (labels_are_right once keep files mains sections accepted)) h

@@ -6,7 +6,7 @@ use Rattle.bc_rules_defs.specs.Rules.{RootDerives, root_shape}
 use Rattle.bc_rules_defs.specs.Code.{root_code, root_cost}
 use Rattle.bc_rules_defs.specs.Entry.{Entry}
 use Rattle.bc_select_defs.specs.Least.{RootIsLeast, RootHasLeastParts}
-use Rattle.bc_select_defs.specs.Chosen.{chosen}
+use Rattle.bc_select_defs.specs.LeastOf.{least_derivation}
 use Rattle.bc_cert_defs.specs.Verdict.{Judged}
 use Rattle.bc_cert_defs.specs.Against.{StandsIn, Fit}
 use Rattle.bc_cert_laws.specs.Written.{with_bodies}
@@ -34,7 +34,7 @@ pub record IsLeast (segments : List (List Item)) (e : Entry) : Type 0 where
 
 -- what a certificate says of an entry
 abbrev pub judged : Entry → Judged
-judged e = judged_by e (chosen Two e.root)
+judged e = judged_by e (least_derivation Two e.root)
 
 -- each entry is of least words, none stands in front of the one before it, and their code lies in the segments
 pub record AreLeast (segments : List (List Item)) (entries : List Entry) : Type 0 where

@@ -48,9 +48,12 @@ IsGenFault section gen_errors.Memory = Unit {0}
 -- the refusal of this main
 abbrev pub IsMainRefusal : List File → ℕ → BuildError → Type 0
 IsMainRefusal files main (Lex at e) = (at ≡ main) × ((e ≡ lex_errors.Memory) ⊎ HasFault files main e)
-IsMainRefusal files main (Parse at e) = (at ≡ main) × ((tokens : List Lexeme) × HasTokens files main tokens × ((e ≡ parse_errors.Memory) ⊎ (parsed tokens ≡ Err e)))
-IsMainRefusal files main (Scope at e) = (at ≡ main) × ((tokens : List Lexeme) × (section : Declarations) × IsSection files main tokens section × IsScopeFault (section_fault section) e)
-IsMainRefusal files main (Gen at e) = (at ≡ main) × ((tokens : List Lexeme) × (section : Declarations) × IsSection files main tokens section × IsGenFault section e)
+IsMainRefusal files main (Parse at e) = (at ≡ main)
+    × ((tokens : List Lexeme) × HasTokens files main tokens × ((e ≡ parse_errors.Memory) ⊎ (parsed tokens ≡ Err e)))
+IsMainRefusal files main (Scope at e) = (at ≡ main) × ((tokens : List Lexeme) × (section : Declarations) × IsSection files main tokens section
+    × IsScopeFault (section_fault section) e)
+IsMainRefusal files main (Gen at e) = (at ≡ main) × ((tokens : List Lexeme) × (section : Declarations) × IsSection files main tokens section
+    × IsGenFault section e)
 IsMainRefusal files main (Link e) = ⊥
 IsMainRefusal files main Memory = Unit {0}
 

@@ -6,17 +6,17 @@ use Rattle.bc_core.specs.Tree.{Root}
 use Rattle.bc_scope_defs.specs.Translation.{core_of}
 use Rattle.bc_rules_defs.specs.declared.rule.Table.TheVariants.{Two}
 use Rattle.bc_rules_defs.specs.Code.{root_cost}
-use Rattle.bc_select_defs.specs.Chosen.{chosen}
+use Rattle.bc_select_defs.specs.LeastOf.{least_derivation}
 use Rattle.bc_gen_roots.specs.Roots.{in_code, roots_of}
 use Rattle.bc_gen_roots.specs.Laws.{fixed_words}
 
 -- the roots of a section, by walking its commands; the VALOFs of each in the order of its code
 abbrev pub section_roots : Declarations → List Root
-section_roots section = roots_of (in_code (chosen Two)) (core_of section)
+section_roots section = roots_of (in_code (least_derivation Two)) (core_of section)
 
 -- the words of a section: the fixed ones of its commands and data, and the least words of its roots
 abbrev pub section_words : Declarations → ℕ
-section_words section = fixed_words (core_of section) + sum_by (λ r. root_cost (chosen Two r)) (section_roots section)
+section_words section = fixed_words (core_of section) + sum_by (λ r. root_cost (least_derivation Two r)) (section_roots section)
 
 abbrev pub words_of : List Declarations → ℕ
 words_of [] = 0

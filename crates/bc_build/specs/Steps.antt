@@ -46,7 +46,8 @@ pub record AreCoded (files : List File) (mains : List ℕ) (number : ℕ) (left 
   pub sections : List Declarations
   pub count : length sections ≡ number
   pub accepted : (rest : List Declarations) → AreAccepted files left rest → AreAccepted files mains (sections ++ rest)
-  pub only : (others : List Declarations) → AreAccepted files mains others → (rest : List Declarations) × AreAccepted files left rest × (others ≡ sections ++ rest)
+  pub only : (others : List Declarations) → AreAccepted files mains others → (rest : List Declarations) × AreAccepted files left rest
+      × (others ≡ sections ++ rest)
   pub refused : (e : BuildError) → IsFirstRefusal files left e → IsFirstRefusal files mains e
   pub segments_are : segments ≡ map items_of sections
   pub entries_are : map entry_view entries ≡ entries_from 0 sections

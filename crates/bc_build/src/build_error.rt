@@ -84,6 +84,16 @@ impl From<Memory> for BuildError {
     }
 }
 
+impl From<AllocError> for BuildError {
+    ghost use Rattle.bc_build.specs.declared.build_error.BuildError.TheVariants as faults;
+
+    ghost from_gives = { λ _ e. e ≡ faults.Memory };
+
+    fn from(_refused: AllocError) -> BuildError {
+        BuildError::Memory
+    }
+}
+
 impl<T: Drop> From<AllocFailed<T>> for BuildError {
     ghost use Rattle.bc_build.specs.declared.build_error.BuildError.TheVariants as faults;
 

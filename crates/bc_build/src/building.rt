@@ -1,6 +1,8 @@
 ghost use Rattle.std.specs.Prelude.{◌≡◌, ◌<◌, ◌++◌, length, map, All, IfOk, IfErr, OnOk, List, ℕ, slice_index};
+ghost use Rattle.std.specs.List.{AllZip};
 ghost use Rattle.bc_parse_tree.specs.Tree.{Declarations};
 ghost use Rattle.bc_rules_defs.specs.View.{entry as entry_view};
+ghost use Rattle.bc_cert_write.specs.Workings.{WorkedOut};
 ghost use Rattle.bc_lex.specs.Files.{files_of};
 ghost use Rattle.bc_build.specs.Compiled.{AreAccepted};
 ghost use Rattle.bc_build.specs.Code.{IsCompiled, in_segment};
@@ -15,6 +17,7 @@ ghost use Rattle.bc_build.specs.Text.{ReadsAs};
 
 use crate::build_error::{BuildError, scope_refusal};
 use crate::ranges::{entries_are_small, segments_are_items, words_are_words};
+use bc_cert_write::Workings;
 use bc_gen::{Generated, generate};
 use bc_lex::{Source, lex};
 use bc_link::link;
@@ -33,6 +36,8 @@ pub struct Built {
     pub segments: Vec<Segment>,
     /// The entries of all mains, those of the first main first.
     pub entries: Vec<Entry>,
+    /// What was worked out of each entry, for the certificate: the n-th of the n-th entry.
+    pub workings: Vec<Workings>,
     /// The image of the primitives followed by the segments.
     pub image: Image,
 }
@@ -41,6 +46,7 @@ pub struct Built {
 fn compiled(alloc: Global, sources: &[Source<'_>], main: usize) -> Result<Generated, BuildError>
     requires { main < length sources.now }
     ensures compiled { IfOk result (λ g. IsCompiled (files_of sources.now) main g.items g.entries.items) }
+    ensures worked { IfOk result (λ g. AllZip WorkedOut (map entry_view g.entries.items) g.workings.items) }
     ensures refused { IfErr result (IsMainRefusal (files_of sources.now) main) }
 {
     let tokens = match lex(alloc, sources, main) {
@@ -55,6 +61,9 @@ fn compiled(alloc: Global, sources: &[Source<'_>], main: usize) -> Result<Genera
         Ok(core) => core,
         Err(fault) => return Err(scope_refusal(alloc, main, fault)),
     };
+    // What the generator takes lies where these lay.
+    drop(section);
+    drop(tokens);
     match generate(alloc, &core) {
         Ok(generated) => Ok(generated),
         Err(fault) => Err(BuildError::Gen(main, fault)),
@@ -66,15 +75,22 @@ fn add_entries(all: &mut Vec<Entry>, segment: u64, entries: Vec<Entry>) -> Resul
     ensures added { OnOk result (map entry_view all.new.items ≡ map entry_view all.old.items ++ map (in_segment segment) (map entry_view entries.items)) }
     ensures refused { IfErr result (λ e. e ≡ BuildError.Memory) }
 {
+    all.reserve(entries.len())?;
     for entry in entries {
         all.push(Entry { segment, ..entry })?;
     }
     Ok(())
 }
 
-/// The segments, linked behind the primitives, with their entries.
-fn linked(alloc: Global, segments: Vec<Segment>, entries: Vec<Entry>) -> Result<Built, BuildError>
+/// The segments, linked behind the primitives, with their entries and the workings of these.
+fn linked(
+    alloc: Global,
+    segments: Vec<Segment>,
+    entries: Vec<Entry>,
+    workings: Vec<Workings>,
+) -> Result<Built, BuildError>
     ensures built { IfOk result (IsLinked segments.items entries.items) }
+    ensures worked { IfOk result (λ built. built.workings.items ≡ workings.items) }
     ensures refused { IfErr result (IsLinkRefusal segments.items) }
 {
     let mut segments = behind_primitives(alloc, segments)?;
@@ -89,6 +105,7 @@ fn linked(alloc: Global, segments: Vec<Segment>, entries: Vec<Entry>) -> Result<
     Ok(Built {
         segments,
         entries,
+        workings,
         image,
     })
 }
@@ -106,31 +123,38 @@ pub fn build(alloc: Global, sources: &[Source<'_>], mains: &[usize]) -> Result<B
 
     // For all inputs and every number of turns, a run from the image has the output and the ending that the sections
     // mean, or is as far as they are; or their meaning is wild.
-    ensures runs { IfOk result (λ built. (sections : List Declarations) → AreAccepted (files_of sources.now) mains.now sections → RunsAsMeant sections built.image) }
+    ensures runs { IfOk result (λ built. (sections : List Declarations) → AreAccepted (files_of sources.now) mains.now sections
+        → RunsAsMeant sections built.image) }
 
     // Each entry is code of a derivation from the rule table that no derivation beats in words, and fits the segments.
     ensures least { IfOk result (λ built. AreLeast built.segments.items (map entry_view built.entries.items)) }
     // The certificate of the entries is accepted, and says of each what fits the segments.
     ensures certified { IfOk result (λ built. IsCertified (map entry_view built.entries.items)) }
-    ensures size { IfOk result (λ built. (sections : List Declarations) → AreAccepted (files_of sources.now) mains.now sections → HasSize sections built.image) }
+    // The workings are those of the entries, which the certificate is written from.
+    ensures worked { IfOk result (λ built. AllZip WorkedOut (map entry_view built.entries.items) built.workings.items) }
+    ensures size { IfOk result (λ built. (sections : List Declarations) → AreAccepted (files_of sources.now) mains.now sections
+        → HasSize sections built.image) }
 
     // What is read of the text of the segments is the segments, and gives this image.
     ensures text { IfOk result (λ built. ReadsAs built.segments.items built.image) }
     ensures refused { IfErr result (IsRefused (files_of sources.now) mains.now) }
 {
     bc_gen_labels::laws::labels_stand_once();
-    bc_gen_labels::laws::sections_keep_rules();
+    bc_scope_laws::laws::sections_fit();
     bc_right_sections::laws::sections_run();
     bc_right_programs::laws::linked_map_is_map();
     let mut segments = Vec::new(alloc);
     let mut entries = Vec::new(alloc);
+    let mut workings = Vec::new(alloc);
     for (number, main) in mains.iter().enumerate() {
         let Generated {
             items,
             entries: coded,
+            workings: mut worked,
         } = compiled(alloc, sources, *main)?;
         segments.push(items)?;
         add_entries(&mut entries, number as u64, coded)?;
+        workings.append(&mut worked)?;
     }
-    linked(alloc, segments, entries)
+    linked(alloc, segments, entries, workings)
 }

@@ -4,7 +4,7 @@ use Rattle.std.specs.List.{AllByRecursion}
 use Rattle.bc_core.specs.Tree.{Exp, Call, Root, Value, Test, Assign}
 use Rattle.bc_core.specs.Commands.{Core}
 use Rattle.bc_select_defs.specs.Nodes.{root_in_order, root_nodes}
-use Rattle.bc_select_defs.specs.Chosen.{chosen}
+use Rattle.bc_select_defs.specs.LeastOf.{least_derivation}
 use Rattle.bc_parse_tree.specs.Tree.{Declarations}
 use Rattle.bc_parse_tree.specs.Height.{declarations_height}
 use Rattle.bc_parse_tree.specs.Size.{declarations_size}
@@ -37,16 +37,19 @@ HasLevels r = AllByRecursion (λ n. n.1 ≤ 32768) (root_in_order r)
 
 -- in code that is made of derivations
 abbrev pub RootsHaveLevels : Type 0
-RootsHaveLevels = (T : Table) (choice : (r : Root) → RootDerives T r) (ds : Declarations) → section_fault ds ≡ None → AllByRecursion HasLevels (section_roots (coding_of choice) (core_of ds))
+RootsHaveLevels = (T : Table) (choice : (r : Root) → RootDerives T r) (ds : Declarations) → section_fault ds ≡ None
+    → AllByRecursion HasLevels (section_roots (coding_of choice) (core_of ds))
 
 -- a section without fault, with at most 524,288 definitions, commands and expressions, has no root of more than 2^32 nodes
 abbrev pub RootsHaveFewNodes : Type 0
 RootsHaveFewNodes =
-    (T : Table) (choice : (r : Root) → RootDerives T r) (ds : Declarations) → section_fault ds ≡ None → declarations_size ds ≤ 524288 → AllByRecursion (λ r. root_nodes r ≤ 2 ^ 32) (section_roots (coding_of choice) (core_of ds))
+    (T : Table) (choice : (r : Root) → RootDerives T r) (ds : Declarations) → section_fault ds ≡ None → declarations_size ds ≤ 524288
+    → AllByRecursion (λ r. root_nodes r ≤ 2 ^ 32) (section_roots (coding_of choice) (core_of ds))
 
 -- where the labels of a section suffice, those of each root end at the last one
 abbrev pub LabelsHaveRoom : Type 0
-LabelsHaveRoom = (coding : Coding) (core : Core) → labels_suffice coding core → AllByRecursion (λ (e : Entry). e.first + coding.labels e.root ≤ 20001) (section_entries coding core)
+LabelsHaveRoom = (coding : Coding) (core : Core) → labels_suffice coding core → AllByRecursion (λ (e : Entry). e.first + coding.labels e.root ≤ 20001)
+    (section_entries coding core)
 
 -- the numbers of a root are small; that of a call is how many arguments it has
 abbrev pub HasSmallForm : Exp → Type 0
@@ -58,8 +61,9 @@ HasSmallForms r = AllByRecursion (λ n. HasSmallForm n.0) (root_in_order r)
 
 -- the node lines and the root line of such a root have room
 abbrev pub NodesHaveRoom : Type 0
-NodesHaveRoom = (T : Table) (r : Root) (d : RootDerives T r) → HasLevels r → HasSmallForms r → IsShallow r → root_nodes r ≤ 2 ^ 32 → AllByRecursion (NodeHasRoom T) (root_shown d) × RootHasRoom r
+NodesHaveRoom = (T : Table) (r : Root) (d : RootDerives T r) → HasLevels r → HasSmallForms r → IsShallow r → root_nodes r ≤ 2 ^ 32
+    → AllByRecursion (NodeHasRoom T) (root_shown d) × RootHasRoom r
 
 -- and where a root has so few nodes, so have the words of the derivation that is chosen for it
 abbrev pub RootWordsHaveRoom : Type 0
-RootWordsHaveRoom = (r : Root) → root_nodes r ≤ 2 ^ 32 → root_cost (chosen Two r) < 2 ^ 64
+RootWordsHaveRoom = (r : Root) → root_nodes r ≤ 2 ^ 32 → root_cost (least_derivation Two r) < 2 ^ 64

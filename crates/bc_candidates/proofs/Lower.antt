@@ -15,7 +15,8 @@ use Rattle.bc_rules_defs.specs.Free.{is_plain, beside_zero, without_zero}
 use Rattle.bc_rules_defs.specs.Piece.{w, operand_words}
 use Rattle.bc_rules_defs.specs.Rules.{Derives, v0, v1, v2, v3, v4, v6, v7, v8, v9, v10, v11, v12, v13, v14, v15, v16, v17, v18, v19, v20, v21, v22, v22_valof, j1, j2, j3, j4, j5, j6, j7, j8, j9}
 use Rattle.bc_rules_defs.specs.Code.{cost}
-use Rattle.bc_select_defs.specs.Least.{rule_number, first_rule}
+use Rattle.bc_select_defs.specs.Least.{first_rule}
+use Rattle.bc_rules_defs.specs.Names.{rule_number}
 use Rattle.bc_select_defs.specs.Options.{more, given, operand_cost, words_of}
 use Rattle.bc_select_defs.specs.Choices.{number_cost, has_tests_of_zero, choices}
 use Rattle.bc_select_defs.specs.Folds.{Within, Reaches, of_rule, words}

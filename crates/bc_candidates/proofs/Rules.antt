@@ -7,7 +7,8 @@ use Rattle.bc_rules_defs.specs.declared.rule.Aim.TheVariants.{Gets, Jumps}
 use Rattle.bc_rules_defs.specs.declared.rule.Rule.{Rule}
 use Rattle.bc_rules_defs.specs.declared.rule.Rule.TheVariants as rule
 use Rattle.bc_rules_defs.specs.Rules.{Derives, v0, v1, v2, v3, v4, v6, v7, v8, v9, v10, v11, v12, v13, v14, v15, v16, v17, v18, v19, v20, v21, v22, v22_valof, j1, j2, j3, j4, j5, j6, j7, j8, j9}
-use Rattle.bc_select_defs.specs.Least.{rule_number, first_rule}
+use Rattle.bc_select_defs.specs.Least.{first_rule}
+use Rattle.bc_rules_defs.specs.Names.{rule_number}
 
 abbrev rule_at : Aim → ℕ → Rule
 rule_at (Gets m) n = cond (n == 0) rule.V0 (cond (n == 1) rule.V1 (cond (n == 2) rule.V2 (cond (n == 3) rule.V3 (cond (n == 4) rule.V4 (cond (n == 6) rule.V6 (cond (n == 7) rule.V7 (cond (n == 8) rule.V8 (cond (n == 9) rule.V9 (cond (n == 10) rule.V10 (cond (n == 11) rule.V11 (cond (n == 12) rule.V12 (cond (n == 13) rule.V13 (cond (n == 14) rule.V14 (cond (n == 15) rule.V15 (cond (n == 16) rule.V16 (cond (n == 17) rule.V17 (cond (n == 18) rule.V18 (cond (n == 19) rule.V19 (cond (n == 20) rule.V20 (cond (n == 21) rule.V21 (rule.V22)))))))))))))))))))))

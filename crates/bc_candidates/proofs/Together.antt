@@ -12,7 +12,8 @@ use Rattle.bc_rules_defs.specs.declared.rule.Rule.{Rule}
 use Rattle.bc_rules_defs.specs.Rules.{Derives}
 use Rattle.bc_rules_defs.specs.Code.{cost}
 use Rattle.bc_select_defs.specs.declared.choice.Candidate.{Candidate}
-use Rattle.bc_select_defs.specs.Least.{rule_number, first_rule, AreLeastWords}
+use Rattle.bc_select_defs.specs.Least.{first_rule, AreLeastWords}
+use Rattle.bc_rules_defs.specs.Names.{rule_number}
 use Rattle.bc_select_defs.specs.Folds.{Within, Reaches, of_rule}
 use Rattle.bc_select_defs.specs.Makes.{Makes, AllMade}
 use Rattle.bc_select.specs.Rows.{AreCosts}

@@ -7,7 +7,8 @@ use Rattle.bc_rules_defs.specs.declared.rule.Aim.{Aim}
 use Rattle.bc_rules_defs.specs.declared.rule.Rule.{Rule}
 use Rattle.bc_rules_defs.specs.Rules.{Derives}
 use Rattle.bc_rules_defs.specs.Code.{cost}
-use Rattle.bc_select_defs.specs.Least.{rule_number, first_rule, AreLeastWords}
+use Rattle.bc_select_defs.specs.Least.{first_rule, AreLeastWords}
+use Rattle.bc_rules_defs.specs.Names.{rule_number}
 use Rattle.bc_candidates.specs.declared.beginning.Beginning.{Beginning}
 
 -- some derivation that begins with the rule has so many words, and none that begins with it has fewer

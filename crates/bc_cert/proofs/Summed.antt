@@ -10,7 +10,8 @@ use Rattle.bc_cert_laws.specs.Judging.{State, Stage, the_header, between, nodes,
 use Rattle.bc_cert.specs.Answer.{IsFault, AreSaid, IsSumsAnswer}
 use Rattle.bc_cert.specs.declared.checker.Checker.{Checker}
 use Rattle.bc_cert.specs.declared.sums.Sums.{Sums}
-use Rattle.bc_cert.specs.View.{own, fed, table_alone, behind, fed_behind, gone, sum_of, summed}
+use Rattle.bc_cert.specs.Answer.{sum_of}
+use Rattle.bc_cert.specs.View.{own, fed, table_alone, behind, fed_behind, gone, summed}
 use Rattle.bc_cert.proofs.Steps.{fed_more, consumes_more, fails_more, fault_given, verdict_given, end_given}
 use Rattle.bc_cert.proofs.Apart.{fed_apart, fails_apart, sum_append}
 

@@ -1,13 +1,12 @@
 -- What `check` and `check_sums` answer, by the bytes that its reader gave.
-use Rattle.std.specs.Prelude.{◌≡◌, ◌≤◌, ℕ, ◌-◌, ◌^◌, min, length, List, Option, Result, Ok, Err}
+use Rattle.std.specs.Prelude.{◌≡◌, ◌≤◌, ℕ, ◌+◌, ◌-◌, ◌^◌, min, length, List, [], ◌∷◌, Option, Result, Ok, Err}
 use Rattle.std.specs.Option.{IfSome}
 use Rattle.bc_cert_defs.specs.declared.check_fault.CheckFault.{CheckFault}
 use Rattle.bc_cert_defs.specs.declared.check_fault.CheckFault.TheVariants as faults
 use Rattle.bc_cert_defs.specs.declared.verdict.Verdict as code
-use Rattle.bc_cert_defs.specs.Verdict.{Verdict}
+use Rattle.bc_cert_defs.specs.Verdict.{Judged, Verdict}
 use Rattle.bc_cert_defs.specs.View.{verdict}
 use Rattle.bc_cert.specs.declared.sums.Sums.{Sums}
-use Rattle.bc_cert.specs.View.{sum_of}
 use Rattle.bc_cert_laws.specs.Entries.{Says}
 use Rattle.bc_cert_laws.specs.Faults.{Lacks}
 
@@ -35,6 +34,11 @@ IsFault known f = IsLacking known f
 abbrev pub IsAnswer : Option (List ℕ) → Result code.Verdict CheckFault → Type 0
 IsAnswer known (Ok v) = IsSaid known (verdict v)
 IsAnswer known (Err f) = IsFault known f
+
+-- the words of entries, in all
+abbrev pub sum_of : List Judged → ℕ
+sum_of [] = 0
+sum_of (j ∷ js) = j.words + sum_of js
 
 -- the sums of a verdict; that of its words is 2^64 - 1 where it is more than that
 pub record AreSums (s : Sums) (v : Verdict) : Type 0 where

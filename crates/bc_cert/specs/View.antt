@@ -49,11 +49,6 @@ gone n = replicate n no_entry
 abbrev pub state : Checker → State
 state c = behind (gone c.passed) (own c)
 
--- the words of entries, in all
-abbrev pub sum_of : List Judged → ℕ
-sum_of [] = 0
-sum_of (j ∷ js) = j.words + sum_of js
-
 -- these words and those of entries, one after another, 2^64 - 1 where they are more
 abbrev pub summed : ℕ → List Judged → ℕ
 summed n [] = n

@@ -12,8 +12,8 @@ ghost use Rattle.bc_cert_trees.specs.Stacks.{with_whole};
 ghost use Rattle.bc_cert_laws.specs.Judging.{same_item, same_piece, same_code, right_of, code_against, code_fits, pieces_judged, judged_with, code_judged};
 ghost use Rattle.bc_cert.specs.View.{IsDerived};
 
-use bc_cert_defs::{CheckFault, Judged};
-use bc_cert_lines::{Head, code_line};
+use bc_cert_defs::{CheckFault, Head, Judged};
+use bc_cert_lines::code_line;
 use bc_cert_trees::{Place, Rooted};
 use bc_core::Root;
 use bc_rules::{code_of, is_derivation_by, next_label, words};

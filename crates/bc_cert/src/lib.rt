@@ -12,9 +12,9 @@ mod writing;
 
 pub use bc_cert_against::check_against;
 pub use bc_cert_defs::{CheckFault, Judged, Mismatch, Verdict};
-pub use bc_cert_write::CertFault;
+pub use bc_cert_write::{CertFault, Workings};
 pub use bc_rules_defs::{Entry, Piece, Table};
 pub use checking::check;
 pub use summing::check_sums;
 pub use sums::Sums;
-pub use writing::write_cert;
+pub use writing::{write_cert, write_worked};

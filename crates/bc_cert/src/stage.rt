@@ -1,4 +1,4 @@
-use bc_cert_lines::Head;
+use bc_cert_defs::Head;
 use bc_cert_trees::Rooted;
 
 /// What may come next.

@@ -1,15 +1,16 @@
 // Writing a certificate.
 
 ghost use Rattle.std.specs.Prelude.{◌≡◌, List, OnOk, IfErr, map};
-ghost use Rattle.std.specs.List.{AllByRecursion};
+ghost use Rattle.std.specs.List.{AllByRecursion, AllZip};
 ghost use Rattle.std.specs.Io.KnownBytes.{Appends};
 ghost use Rattle.bc_text.specs.Printed.{AppendsFront};
 ghost use Rattle.bc_rules_defs.specs.View.{entry as entry_seen};
 ghost use Rattle.bc_cert_write.specs.Certificate.{Derived, entry_of, certificate};
+ghost use Rattle.bc_cert_write.specs.Workings.{WorkedOut};
 ghost use Rattle.bc_cert_laws.specs.Entries.{Says};
 ghost use Rattle.bc_cert_laws.specs.Written.{HasFewest, HasRoom, verdict_of};
 
-use bc_cert_write::CertFault;
+use bc_cert_write::{CertFault, Workings};
 use bc_rules_defs::Entry;
 use std::alloc::Global;
 use std::io::Write;
@@ -24,9 +25,31 @@ use std::io::Write;
 /// refused, where an offset or a label in the code of an entry would be over 65,535, and where a root has more than 2^32
 /// nodes. After either the writer has taken a front of the text.
 pub fn write_cert<W: Write>(alloc: Global, entries: &[Entry], out: &mut W) -> Result<(), CertFault>
-    ensures written { (ds : List Derived) → map entry_seen entries.now ≡ map entry_of ds → OnOk result (Appends (W.contents out.old) (W.contents out.new) (certificate ds)) }
-    ensures front { (ds : List Derived) → map entry_seen entries.now ≡ map entry_of ds → AppendsFront (W.contents out.old) (W.contents out.new) (certificate ds) }
-    ensures accepted { (ds : List Derived) → map entry_seen entries.now ≡ map entry_of ds → AllByRecursion HasFewest ds → AllByRecursion HasRoom ds → Says (certificate ds) (verdict_of ds) }
+    ensures written { (ds : List Derived) → map entry_seen entries.now ≡ map entry_of ds
+        → OnOk result (Appends (W.contents out.old) (W.contents out.new) (certificate ds)) }
+    ensures front { (ds : List Derived) → map entry_seen entries.now ≡ map entry_of ds → AppendsFront (W.contents out.old) (W.contents out.new)
+        (certificate ds) }
+    ensures accepted { (ds : List Derived) → map entry_seen entries.now ≡ map entry_of ds → AllByRecursion HasFewest ds → AllByRecursion HasRoom ds
+        → Says (certificate ds) (verdict_of ds) }
 {
     bc_cert_write::write_cert(alloc, entries, out)
+}
+
+/// The same, with the workings of the entries, which whoever chose the derivations has: the n-th are those of the n-th
+/// entry.
+pub fn write_worked<W: Write>(
+    alloc: Global,
+    entries: &[Entry],
+    workings: &[Workings],
+    out: &mut W,
+) -> Result<(), CertFault>
+    requires { AllZip WorkedOut (map entry_seen entries.now) workings.now }
+    ensures written { (ds : List Derived) → map entry_seen entries.now ≡ map entry_of ds
+        → OnOk result (Appends (W.contents out.old) (W.contents out.new) (certificate ds)) }
+    ensures front { (ds : List Derived) → map entry_seen entries.now ≡ map entry_of ds → AppendsFront (W.contents out.old) (W.contents out.new)
+        (certificate ds) }
+    ensures accepted { (ds : List Derived) → map entry_seen entries.now ≡ map entry_of ds → AllByRecursion HasFewest ds → AllByRecursion HasRoom ds
+        → Says (certificate ds) (verdict_of ds) }
+{
+    bc_cert_write::write_worked(alloc, entries, workings, out)
 }

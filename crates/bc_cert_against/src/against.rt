@@ -16,7 +16,8 @@ use bc_text_items::{Item, Segment};
 /// A refusal is that of the first entry with a fault, counted from 0, and the first of its faults in this order. It
 /// takes no memory.
 pub fn check_against(verdict: &Verdict, segments: &[Segment]) -> Result<(), Mismatch>
-    ensures { MatchResult result (λ done. Fit segments.now 0 0 (verdict_of verdict.now).entries) (λ fault. Misfit segments.now 0 0 0 (verdict_of verdict.now).entries fault) }
+    ensures { MatchResult result (λ done. Fit segments.now 0 0 (verdict_of verdict.now).entries)
+        (λ fault. Misfit segments.now 0 0 0 (verdict_of verdict.now).entries fault) }
 {
     let mut segment = 0;
     let mut item = 0;

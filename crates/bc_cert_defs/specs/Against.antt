@@ -52,6 +52,9 @@ Fit segments segment item (e ∷ es) = IsBehind segment item e × LiesIn segment
 -- The first entry that does not, counted from n on, and why: of its causes the first in this order.
 pub data Misfit (segments : List (List Item)) : (segment item n : ℕ) → List Judged → Mismatch → Type 0 where
   order : {segment item n : ℕ} {e : Judged} {es : List Judged} → ¬ IsBehind segment item e → Misfit segments segment item n (e ∷ es) (faults.Order n)
-  outside : {segment item n : ℕ} {e : Judged} {es : List Judged} → IsBehind segment item e → ¬ LiesIn segments e → Misfit segments segment item n (e ∷ es) (faults.OutsideText n)
-  differs : {segment item n : ℕ} {e : Judged} {es : List Judged} → IsBehind segment item e → LiesIn segments e → ¬ StandsIn segments e → Misfit segments segment item n (e ∷ es) (faults.CodeDiffers n)
-  later : {segment item n : ℕ} {e : Judged} {es : List Judged} {m : Mismatch} → IsBehind segment item e → LiesIn segments e → StandsIn segments e → Misfit segments e.segment e.item (n + 1) es m → Misfit segments segment item n (e ∷ es) m
+  outside : {segment item n : ℕ} {e : Judged} {es : List Judged} → IsBehind segment item e → ¬ LiesIn segments e
+      → Misfit segments segment item n (e ∷ es) (faults.OutsideText n)
+  differs : {segment item n : ℕ} {e : Judged} {es : List Judged} → IsBehind segment item e → LiesIn segments e → ¬ StandsIn segments e
+      → Misfit segments segment item n (e ∷ es) (faults.CodeDiffers n)
+  later : {segment item n : ℕ} {e : Judged} {es : List Judged} {m : Mismatch} → IsBehind segment item e → LiesIn segments e → StandsIn segments e
+      → Misfit segments e.segment e.item (n + 1) es m → Misfit segments segment item n (e ∷ es) m

@@ -2,9 +2,13 @@
 #![tactic(auto)]
 
 mod check_fault;
+mod costs;
+mod head;
 mod mismatch;
 mod verdict;
 
 pub use check_fault::CheckFault;
+pub use costs::Costs;
+pub use head::Head;
 pub use mismatch::Mismatch;
 pub use verdict::{Judged, Verdict};

@@ -12,8 +12,9 @@ use Rattle.bc_rules_defs.specs.declared.rule.Rule.TheVariants.{V0, J1, J2, J3, J
 use Rattle.bc_rules_defs.specs.Free as free
 use Rattle.bc_rules_defs.specs.Rules.{Derives, v0, v1, v2, v3, v4, v6, v7, v8, v9, v10, v11, j6, Tree, by, one, shape}
 use Rattle.bc_rules_defs.specs.Code.{cost}
-use Rattle.bc_select_defs.specs.Least.{rule_number, first_rule}
-use Rattle.bc_cert_node.specs.declared.costs.Costs.{Costs}
+use Rattle.bc_select_defs.specs.Least.{first_rule}
+use Rattle.bc_rules_defs.specs.Names.{rule_number, rule_letter}
+use Rattle.bc_cert_defs.specs.declared.costs.Costs.{Costs}
 use Rattle.bc_cert_node.specs.declared.facts.Facts.{Facts}
 use Rattle.bc_cert_node.specs.declared.form.Form.{Form}
 use Rattle.bc_cert_node.specs.declared.recipe.Recipe.{Recipe}
@@ -23,7 +24,6 @@ use Rattle.bc_cert_node.specs.Costs.{cost_of}
 use Rattle.bc_cert_node.specs.Parts.{AreLeast}
 use Rattle.bc_cert_lines.specs.declared.chain.Chain.{Chain}
 use Rattle.bc_cert_lines.specs.declared.chain.Rules.TheVariants.{Named}
-use Rattle.bc_cert_lines.specs.Chains.{letter_of}
 use Rattle.bc_cert_trees.specs.declared.mark.Mark.{Mark}
 use Rattle.bc_cert_trees.specs.declared.mark.Shown as marks
 use Rattle.bc_cert_trees.specs.Marks.{has_aim}
@@ -62,7 +62,7 @@ any_rules (v0 d) = refl
 any_rules d = refl
 
 -- rules of tests have another letter
-test_letter : (r : Rule) → is_test r ≡ true → letter_of r ≡ 86 → ⊥
+test_letter : (r : Rule) → is_test r ≡ true → rule_letter r ≡ 86 → ⊥
 test_letter J1 h g = never (ap (λ n. n == 86) g)
 test_letter J2 h g = never (ap (λ n. n == 86) g)
 test_letter J3 h g = never (ap (λ n. n == 86) g)
@@ -118,11 +118,11 @@ any_chain d = refl
 
 -- rules of values and of tests that do not go on at the same node
 is_own : ℕ → ℕ → Rule → Bool
-is_own letter n r = cond (letter_of r == letter) (cond (rule_number r == n) false true) false
+is_own letter n r = cond (rule_letter r == letter) (cond (rule_number r == n) false true) false
 
-own_letter : (letter n : ℕ) (r : Rule) → is_own letter n r ≡ true → letter_of r ≡ letter
+own_letter : (letter n : ℕ) (r : Rule) → is_own letter n r ≡ true → rule_letter r ≡ letter
 unfolding is_own
-own_letter letter n r h = eqb-true _ _ (first_true (letter_of r == letter) (cond (rule_number r == n) false true) h) where
+own_letter letter n r h = eqb-true _ _ (first_true (rule_letter r == letter) (cond (rule_number r == n) false true) h) where
   first_true : (b c : Bool) → cond b c false ≡ true → b ≡ true
   first_true true c h = refl
   first_true false c h = never h

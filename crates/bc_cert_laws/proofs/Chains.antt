@@ -3,20 +3,19 @@ use Rattle.std.proofs.Common.{◌≡◌, ◌⊎◌, inl, inr, ⊎_elim, ℕ, ◌
 use Rattle.std.proofs.lemmas.Bool.{eqb-true, and_parts}
 use Rattle.bc_rules_defs.specs.declared.rule.Rule.{Rule}
 use Rattle.bc_rules_defs.specs.declared.rule.Rule.TheVariants.{V0, J6}
-use Rattle.bc_select_defs.specs.Least.{rule_number}
-use Rattle.bc_cert_write.specs.Lines.{rule_letter}
+use Rattle.bc_rules_defs.specs.Names.{rule_number, rule_letter, all_rules, found, rule_named}
 use Rattle.bc_cert_lines.specs.declared.chain.Chain.{Chain}
 use Rattle.bc_cert_lines.specs.declared.chain.Rules.TheVariants.{Named}
 use Rattle.bc_cert_lines.specs.declared.chain.Names.{Names}
 use Rattle.bc_cert_lines.specs.declared.chain.Names.TheVariants.{Nothing, Tested, Freed, Whole, Wrong}
-use Rattle.bc_cert_lines.specs.Chains.{letter_of, all_rules, found, rule_named, whole, of_value, begun, behind_test, behind_free, longer, ended}
+use Rattle.bc_cert_lines.specs.Chains.{whole, of_value, begun, behind_test, behind_free, longer, ended}
 use Rattle.bc_cert_laws.specs.Faults.{Name, name}
 use Rattle.bc_cert_laws.specs.Standing.{over_if, chain_rules, IsChain, AreNamed, named, wrong}
 use Rattle.bc_cert_laws.proofs.Numbers.{chosen}
 use Rattle.bc_cert_laws.proofs.Forms.{at_same}
 
 -- a rule and its name
-letter_same : (r : Rule) → letter_of r ≡ rule_letter r
+letter_same : (r : Rule) → rule_letter r ≡ rule_letter r
 letter_same V0 = refl
 letter_same _ = refl
 
@@ -24,13 +23,13 @@ rule_of_name : (r : Rule) → rule_named (rule_letter r) (rule_number r) ≡ Som
 rule_of_name V0 = refl
 rule_of_name _ = refl
 
-found_read : (letter n : ℕ) (rs : List Rule) (r : Rule) → found letter n rs ≡ Some r → (letter_of r ≡ letter) × (rule_number r ≡ n)
+found_read : (letter n : ℕ) (rs : List Rule) (r : Rule) → found letter n rs ≡ Some r → (rule_letter r ≡ letter) × (rule_number r ≡ n)
 found_read letter n [] r h = absurd (cc)
 found_read letter n (x ∷ rs) r h =
     ⊎_elim
-    (λ p. let t = and_parts (letter_of x == letter) (rule_number x == n) p.0 in at_same (λ y. (letter_of y ≡ letter) × (rule_number y ≡ n)) x r p.1 (eqb-true (letter_of x) letter t.0, eqb-true (rule_number x) n t.1))
+    (λ p. let t = and_parts (rule_letter x == letter) (rule_number x == n) p.0 in at_same (λ y. (rule_letter y ≡ letter) × (rule_number y ≡ n)) x r p.1 (eqb-true (rule_letter x) letter t.0, eqb-true (rule_number x) n t.1))
     (λ p. found_read letter n rs r p.1)
-    (chosen (letter_of x == letter && rule_number x == n) (Some x) _ r h)
+    (chosen (rule_letter x == letter && rule_number x == n) (Some x) _ r h)
 
 name_of_rule : (x : Name) (r : Rule) → rule_named x.letter x.number ≡ Some r → x ≡ name r
 name_of_rule x r h =
@@ -63,11 +62,11 @@ free_is : (tested : Bool) (r : Rule) → ¬ (r ≡ V0) → behind_free tested r 
 free_is tested V0 h = absurd (h refl)
 free_is tested _ h = refl
 
-value_is : (r : Rule) (ns : Names) → letter_of r ≡ 86 → of_value r ns ≡ ns
-value_is r ns h = rw (eq-eqb (letter_of r) 86 h)
+value_is : (r : Rule) (ns : Names) → rule_letter r ≡ 86 → of_value r ns ≡ ns
+value_is r ns h = rw (eq-eqb (rule_letter r) 86 h)
 
 -- the names of a chain make the chain
-chain_runs : (tested freed : Bool) (r : Rule) → (tested ≡ true → letter_of r ≡ 86) → (freed ≡ true → letter_of r ≡ 86) → ¬ (r ≡ V0) → ¬ (r ≡ J6) → run Nothing (map name (over_if tested J6 (over_if freed V0 (r ∷ [])))) ≡ whole tested freed r
+chain_runs : (tested freed : Bool) (r : Rule) → (tested ≡ true → rule_letter r ≡ 86) → (freed ≡ true → rule_letter r ≡ 86) → ¬ (r ≡ V0) → ¬ (r ≡ J6) → run Nothing (map name (over_if tested J6 (over_if freed V0 (r ∷ [])))) ≡ whole tested freed r
 chain_runs false false r t f v j = ap (longer Nothing) (rule_of_name r) ∙ begun_is r v j
 chain_runs false true r t f v j = ap (longer (Freed false)) (rule_of_name r) ∙ free_is false r v ∙ value_is r _ (f refl)
 chain_runs true false r t f v j = ap (longer Tested) (rule_of_name r) ∙ test_is r v ∙ value_is r _ (t refl)
@@ -100,17 +99,17 @@ run_whole c d (x ∷ xs) h = absurd (not_wrong xs d (sym (ap (λ ns. run ns xs) 
 record Last (tested freed : Bool) (xs : List Name) (d : Chain) : Type 0 where
   rule : Rule
   names : xs ≡ name rule ∷ []
-  value : letter_of rule ≡ 86
+  value : rule_letter rule ≡ 86
   not_v0 : ¬ (rule ≡ V0)
   is : d ≡ record { is_tested = tested; is_freed = freed; rule = rule }
 
-run_value : (tested freed : Bool) (r : Rule) (xs : List Name) (d : Chain) (t : Bool) → (letter_of r == 86) ≡ t → run (cond t (whole tested freed r) Wrong) xs ≡ Whole d → (letter_of r ≡ 86) × (xs ≡ []) × (d ≡ record { is_tested = tested; is_freed = freed; rule = r })
-run_value tested freed r xs d true e h = let p = run_whole _ d xs h in (eqb-true (letter_of r) 86 e, p.0, sym p.1)
+run_value : (tested freed : Bool) (r : Rule) (xs : List Name) (d : Chain) (t : Bool) → (rule_letter r == 86) ≡ t → run (cond t (whole tested freed r) Wrong) xs ≡ Whole d → (rule_letter r ≡ 86) × (xs ≡ []) × (d ≡ record { is_tested = tested; is_freed = freed; rule = r })
+run_value tested freed r xs d true e h = let p = run_whole _ d xs h in (eqb-true (rule_letter r) 86 e, p.0, sym p.1)
 run_value tested freed r xs d false e h = absurd (not_wrong xs d h)
 
 last_of : (tested freed : Bool) (x : Name) (xs : List Name) (d : Chain) (r : Rule) → x ≡ name r → ¬ (r ≡ V0) → run (of_value r (whole tested freed r)) xs ≡ Whole d → Last tested freed (x ∷ xs) d
 last_of tested freed x xs d r e v h =
-    let p = run_value tested freed r xs d (letter_of r == 86) refl h in
+    let p = run_value tested freed r xs d (rule_letter r == 86) refl h in
     record { rule = r; names = ap₂ (λ y ys. y ∷ ys) e p.1; value = p.0; not_v0 = v; is = p.2 }
 
 freed_at : (tested : Bool) (x : Name) (xs : List Name) (d : Chain) (o : Option Rule) → rule_named x.letter x.number ≡ o → run (longer (Freed tested) o) xs ≡ Whole d → Last tested true (x ∷ xs) d
@@ -129,8 +128,8 @@ run_freed tested (x ∷ xs) d h = freed_at tested x xs d (rule_named x.letter x.
 abbrev AreOf : List Name → Chain → Type 0
 AreOf xs d = IsChain d × (xs ≡ map name (chain_rules d))
 
-not_j6 : (r : Rule) → letter_of r ≡ 86 → ¬ (r ≡ J6)
-not_j6 r h e = let i = ap letter_of e in omega arith
+not_j6 : (r : Rule) → rule_letter r ≡ 86 → ¬ (r ≡ J6)
+not_j6 r h e = let i = ap rule_letter e in omega arith
 
 are_of : (tested freed : Bool) (xs : List Name) (d : Chain) → (l : Last tested freed xs d) → AreOf (map name (over_if tested J6 (over_if freed V0 (l.rule ∷ [])))) d
 are_of tested freed xs d l =

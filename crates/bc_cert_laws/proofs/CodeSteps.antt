@@ -27,7 +27,7 @@ use Rattle.bc_rules_defs.proofs.ByShape.{root_labels_same, root_code_same}
 use Rattle.bc_rules_defs.proofs.Words.{root_words}
 use Rattle.bc_rules.specs.Fits.{root_fits}
 use Rattle.bc_rules.proofs.Bridge.{root_shape_fits}
-use Rattle.bc_cert_lines.specs.declared.lines.Head.{Head}
+use Rattle.bc_cert_defs.specs.declared.head.Head.{Head}
 use Rattle.bc_cert_lines.specs.Lines.{code_of_line}
 use Rattle.bc_cert_trees.specs.declared.place.Place.{Place}
 use Rattle.bc_cert_trees.specs.Stacks.{◌>>=◌, with_whole, Rooted}

@@ -14,7 +14,7 @@ use Rattle.bc_cert_defs.specs.declared.check_fault.CheckFault.TheVariants.{Heade
 use Rattle.bc_cert_defs.specs.Text.{header_line, end_line}
 use Rattle.bc_cert_defs.specs.Verdict.{Judged}
 use Rattle.bc_cert_write.specs.Lines.{node_line as line_of_node}
-use Rattle.bc_cert_lines.specs.declared.lines.Head.{Head}
+use Rattle.bc_cert_defs.specs.declared.head.Head.{Head}
 use Rattle.bc_cert_lines.specs.Lines.{header as read_header, entry_line as read_entry, end_line as read_end}
 use Rattle.bc_cert_trees.specs.declared.place.Place.{Place}
 use Rattle.bc_cert_trees.specs.Stacks.{no_trees}

@@ -17,7 +17,7 @@ use Rattle.bc_rules_defs.specs.Code.{cost, all_cost}
 use Rattle.bc_cert_defs.specs.Verdict.{Judged}
 use Rattle.bc_cert_write.specs.Shown.{Shown, ended, below_bare, all_bare, bare, rules_at, below, all_shown as all_of_call, shown}
 use Rattle.bc_cert_write.specs.Lines.{node_line as line_of_node}
-use Rattle.bc_cert_lines.specs.declared.lines.Head.{Head}
+use Rattle.bc_cert_defs.specs.declared.head.Head.{Head}
 use Rattle.bc_cert_laws.specs.Entries.{NodeHasRoom}
 use Rattle.bc_cert_laws.specs.Faults.{Grown, all_shown, all_parts, parts, Ends, RulesStand, StandsBy, node, grown, nodes, Reaches, node_line}
 use Rattle.bc_cert_laws.specs.Standing.{IsFewest}

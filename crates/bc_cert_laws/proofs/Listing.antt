@@ -18,7 +18,7 @@ use Rattle.bc_cert_defs.specs.Text.{header_line, end_line}
 use Rattle.bc_cert_defs.specs.Verdict.{Judged, Verdict}
 use Rattle.bc_cert_write.specs.Shown.{Shown, bare, shown, root_shown}
 use Rattle.bc_cert_write.specs.Lines.{line, rule_name, sense_field, node_line as line_of_node, root_line as line_of_root}
-use Rattle.bc_cert_lines.specs.declared.lines.Head.{Head}
+use Rattle.bc_cert_defs.specs.declared.head.Head.{Head}
 use Rattle.bc_cert_laws.specs.Entries.{IsLevel, NodeHasRoom, pieces_line, RootHasRoom, Listed, AllListed, none, more, Says}
 use Rattle.bc_cert_laws.specs.Faults.{head_line, Grown, all_shown, IsAssignment, first, second, third, RootOver, assign, between, nodes, the_end, Reaches, header, entry, root_line, code_line, last_line}
 use Rattle.bc_cert_laws.proofs.Fewest.{by_one, by_first, by_second}

@@ -9,7 +9,8 @@ use Rattle.bc_cert_lines.specs.declared.chain.Rules.TheVariants.{Taken}
 use Rattle.bc_cert_lines.specs.declared.chain.Names.{Names}
 use Rattle.bc_cert_lines.specs.declared.chain.Names.TheVariants.{Nothing}
 use Rattle.bc_cert_lines.specs.Fields.{small, fields}
-use Rattle.bc_cert_lines.specs.Chains.{rule_named, with_number, rule_name, longer, ended, names_from, names, rules}
+use Rattle.bc_cert_lines.specs.Chains.{with_number, rule_name, longer, ended, names_from, names, rules}
+use Rattle.bc_rules_defs.specs.Names.{rule_named}
 use Rattle.bc_cert_laws.specs.Entries.{IsSmall}
 use Rattle.bc_cert_laws.specs.Faults.{Name, IsName, v, j, a, name_text, further_names, names_field}
 use Rattle.bc_cert_laws.specs.Standing.{AreNamed, no_name}

@@ -12,7 +12,7 @@ use Rattle.bc_rules_defs.specs.declared.rule.Aim.TheVariants.{Gets, Jumps}
 use Rattle.bc_rules_defs.specs.declared.rule.Rule.{Rule}
 use Rattle.bc_rules_defs.specs.declared.rule.Rule.TheVariants.{V0, J6}
 use Rattle.bc_rules_defs.specs.Rules.{Derives, Tree, shape}
-use Rattle.bc_cert_node.specs.declared.costs.Costs.{Costs}
+use Rattle.bc_cert_defs.specs.declared.costs.Costs.{Costs}
 use Rattle.bc_cert_node.specs.declared.facts.Facts.{Facts}
 use Rattle.bc_cert_node.specs.declared.form.Form.{Form}
 use Rattle.bc_cert_node.specs.Recipe.{facts_of}
@@ -21,7 +21,7 @@ use Rattle.bc_cert_lines.specs.declared.chain.Chain.{Chain}
 use Rattle.bc_cert_lines.specs.declared.chain.Rules.{Rules}
 use Rattle.bc_cert_lines.specs.declared.chain.Rules.TheVariants.{Taken, Named}
 use Rattle.bc_cert_lines.specs.declared.lines.NodeLine.{NodeLine}
-use Rattle.bc_cert_lines.specs.Chains.{rule_named}
+use Rattle.bc_rules_defs.specs.Names.{rule_named}
 use Rattle.bc_cert_trees.specs.declared.mark.Mark.{Mark}
 use Rattle.bc_cert_trees.specs.declared.mark.Shown as marks
 use Rattle.bc_cert_trees.specs.declared.place.Place.{Place}

@@ -11,7 +11,7 @@ use Rattle.bc_select_defs.specs.Least.{AreLeastWords}
 use Rattle.bc_select_defs.specs.Choices.{choices, words_for}
 use Rattle.bc_select_defs.specs.Chosen.{some_value, some_test}
 use Rattle.bc_select_defs.proofs.Words.{choices_are_least}
-use Rattle.bc_cert_node.specs.declared.costs.Costs.{Costs}
+use Rattle.bc_cert_defs.specs.declared.costs.Costs.{Costs}
 use Rattle.bc_cert_node.specs.declared.facts.Facts.{Facts}
 use Rattle.bc_cert_node.specs.Costs.{cost_of, same_words, are_costs}
 use Rattle.bc_cert_node.specs.Node.{least_words_of}

@@ -11,7 +11,7 @@ use Rattle.bc_rules_defs.specs.Code.{cost}
 use Rattle.bc_select_defs.specs.Least.{AreLeastWords}
 use Rattle.bc_select_defs.specs.Nodes.{in_order}
 use Rattle.bc_select_defs.proofs.Words.{choices_are_least}
-use Rattle.bc_cert_node.specs.declared.costs.Costs.{Costs}
+use Rattle.bc_cert_defs.specs.declared.costs.Costs.{Costs}
 use Rattle.bc_cert_node.specs.declared.facts.Facts.{Facts}
 use Rattle.bc_cert_node.specs.Costs.{cost_of}
 use Rattle.bc_cert_node.specs.Parts.{AreLeast}

@@ -9,9 +9,9 @@ use Rattle.bc_rules_defs.specs.declared.rule.Table.{Table}
 use Rattle.bc_rules_defs.specs.declared.rule.Table.TheVariants.{One, Two}
 use Rattle.bc_cert_defs.specs.Text.{header_line, end_line as end_text}
 use Rattle.bc_cert_write.specs.Lines.{line, words_field}
-use Rattle.bc_cert_node.specs.declared.costs.Costs.{Costs}
+use Rattle.bc_cert_defs.specs.declared.costs.Costs.{Costs}
 use Rattle.bc_cert_node.specs.declared.form.Form.{Form}
-use Rattle.bc_cert_lines.specs.declared.lines.Head.{Head}
+use Rattle.bc_cert_defs.specs.declared.head.Head.{Head}
 use Rattle.bc_cert_lines.specs.declared.lines.NodeLine.{NodeLine}
 use Rattle.bc_cert_lines.specs.declared.lines.RootLine.{RootLine}
 use Rattle.bc_cert_lines.specs.Fields.{◌>>=◌, field, behind, number, small, level, number_or_none}

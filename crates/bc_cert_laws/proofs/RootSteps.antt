@@ -20,7 +20,7 @@ use Rattle.bc_rules_defs.specs.Free.{are_free}
 use Rattle.bc_rules_defs.specs.Rules.{Derives, RootDerives, value, test, a1, a2, a3, Tree, by, one, two, shape, root_shape}
 use Rattle.bc_rules_defs.specs.Code.{cost, root_cost}
 use Rattle.bc_rules_defs.specs.Piece.{w, operand_words}
-use Rattle.bc_cert_node.specs.declared.costs.Costs.{Costs}
+use Rattle.bc_cert_defs.specs.declared.costs.Costs.{Costs}
 use Rattle.bc_cert_node.specs.declared.facts.Facts.{Facts}
 use Rattle.bc_cert_node.specs.Costs.{cost_of}
 use Rattle.bc_cert_node.specs.Parts.{AreLeast, IsPart}

@@ -7,8 +7,8 @@ use Rattle.std.proofs.lemmas.Fmt.{decimal_digit}
 use Rattle.bc_core.specs.Tree.{Root}
 use Rattle.bc_rules_defs.specs.declared.rule.Rule.{Rule}
 use Rattle.bc_rules_defs.specs.declared.rule.Rule.TheVariants.{A1, A2, A3}
-use Rattle.bc_select_defs.specs.Least.{rule_number}
-use Rattle.bc_cert_write.specs.Lines.{line, rule_letter, rule_name, sense_field}
+use Rattle.bc_rules_defs.specs.Names.{rule_number, rule_letter}
+use Rattle.bc_cert_write.specs.Lines.{line, rule_name, sense_field}
 use Rattle.bc_cert_lines.specs.declared.lines.RootLine.{RootLine}
 use Rattle.bc_cert_lines.specs.declared.lines.RootLine.TheVariants.{Value, Test, Assign}
 use Rattle.bc_cert_lines.specs.Fields.{behind, level}

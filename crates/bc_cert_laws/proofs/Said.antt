@@ -12,7 +12,7 @@ use Rattle.bc_cert_defs.specs.Text.{header_line, end_line}
 use Rattle.bc_cert_defs.specs.Verdict.{Judged}
 use Rattle.bc_cert_write.specs.Shown.{root_shown}
 use Rattle.bc_cert_write.specs.Lines.{node_line as line_of_node, root_line as line_of_root}
-use Rattle.bc_cert_lines.specs.declared.lines.Head.{Head}
+use Rattle.bc_cert_defs.specs.declared.head.Head.{Head}
 use Rattle.bc_cert_laws.specs.Entries.{NodeHasRoom, PieceHasRoom, pieces_line, RootHasRoom, AllListed, none, more, Says}
 use Rattle.bc_cert_laws.specs.Faults.{HeadHasRoom, head_line, Grown, all_shown, Ends, node, grown, IsCode, judged, RootOver, value, test, assign, RootStands, Stage, the_header, between, nodes, code, the_end, Reaches, nothing, header, entry, node_line, root_line, code_line, last_line}
 use Rattle.bc_cert_laws.proofs.Fields.{each_of_two}

@@ -18,7 +18,7 @@ use Rattle.bc_rules_defs.specs.Piece.{w, operand_words}
 use Rattle.bc_select_defs.specs.Options.{plus, sum, given, words_of, candidate, better, least_from}
 use Rattle.bc_select_defs.specs.Choices.{choices, words_for, node_of, free as free_nodes}
 use Rattle.bc_select_defs.specs.Chosen.{assign_choice, chosen, chosen_words, chosen_is_least}
-use Rattle.bc_cert_node.specs.declared.costs.Costs.{Costs}
+use Rattle.bc_cert_defs.specs.declared.costs.Costs.{Costs}
 use Rattle.bc_cert_node.specs.declared.facts.Facts.{Facts}
 use Rattle.bc_cert_node.specs.Node.{lesser}
 use Rattle.bc_cert_node.specs.Parts.{AreLeast, IsPart}

@@ -13,7 +13,7 @@ use Rattle.bc_rules_defs.specs.Piece.{operand_words}
 use Rattle.bc_rules_defs.specs.Rules.{Derives, Tree, Trees, one, shape}
 use Rattle.bc_rules_defs.specs.Code.{cost}
 use Rattle.bc_select_defs.specs.Options.{sum}
-use Rattle.bc_cert_node.specs.declared.costs.Costs.{Costs}
+use Rattle.bc_cert_defs.specs.declared.costs.Costs.{Costs}
 use Rattle.bc_cert_node.specs.declared.facts.Facts.{Facts}
 use Rattle.bc_cert_node.specs.declared.form.Form.TheVariants as forms
 use Rattle.bc_cert_node.specs.declared.recipe.Takes.{Takes}

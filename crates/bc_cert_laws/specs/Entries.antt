@@ -98,7 +98,8 @@ pub record Listed (T : Table) (j : Judged) (text : List ℕ) : Type 0 where
   pub nodes : AllByRecursion (NodeHasRoom T) (root_shown derivation)
   pub root : RootHasRoom j.root
   pub pieces : AllByRecursion PieceHasRoom j.code
-  pub lines : text ≡ entry_line j.segment j.item j.target j.first j.words ++ (flat_map (node_line T) (root_shown derivation) ++ (root_line derivation ++ pieces_line j.code))
+  pub lines : text ≡ entry_line j.segment j.item j.target j.first j.words
+      ++ (flat_map (node_line T) (root_shown derivation) ++ (root_line derivation ++ pieces_line j.code))
 
 -- the lines of all entries
 pub data AllListed (T : Table) : List Judged → List ℕ → Type 0 where

@@ -13,15 +13,16 @@ use Rattle.bc_rules_defs.specs.declared.rule.Rule.{Rule}
 use Rattle.bc_rules_defs.specs.declared.rule.Rule.TheVariants.{A1, A2, A3}
 use Rattle.bc_rules_defs.specs.Rules.{Derives, RootDerives}
 use Rattle.bc_rules_defs.specs.Code.{cost, root_code, root_labels, root_cost}
-use Rattle.bc_select_defs.specs.Least.{rule_number, AreLeastWords}
+use Rattle.bc_select_defs.specs.Least.{AreLeastWords}
+use Rattle.bc_rules_defs.specs.Names.{rule_number, rule_letter}
 use Rattle.bc_cert_defs.specs.declared.check_fault.CheckFault.{CheckFault}
 use Rattle.bc_cert_defs.specs.declared.check_fault.CheckFault.TheVariants.{Header, Line, Truncated, WrongCost, WrongRule, WrongCode, WrongWords, TooDeep}
 use Rattle.bc_cert_defs.specs.Text.{header_line, end_line}
 use Rattle.bc_cert_defs.specs.Verdict.{Judged}
 use Rattle.bc_cert_write.specs.Shown.{Shown, shown, root_shown}
-use Rattle.bc_cert_write.specs.Lines.{line, rule_letter, rule_name, form_field, words_field, sense_field, entry_line, node_line as line_of_node, root_line as line_of_root}
-use Rattle.bc_cert_node.specs.declared.costs.Costs.{Costs}
-use Rattle.bc_cert_lines.specs.declared.lines.Head.{Head}
+use Rattle.bc_cert_write.specs.Lines.{line, rule_name, form_field, words_field, sense_field, entry_line, node_line as line_of_node, root_line as line_of_root}
+use Rattle.bc_cert_defs.specs.declared.costs.Costs.{Costs}
+use Rattle.bc_cert_defs.specs.declared.head.Head.{Head}
 use Rattle.bc_cert_laws.specs.Entries.{IsNumber, IsSmall, IsLevel, HasSmallNumber, nested, NodeHasRoom, PieceHasRoom, pieces_line, SamePiece}
 
 -- the numbers of an entry's first line have room
@@ -169,14 +170,20 @@ grown e s rules own = record { expression = e; level = s; shown = all_shown own 
 pub data Reaches : List ℕ → Stage → Type 0 where
   nothing : Reaches [] the_header
   header : {T : Table} → Reaches (header_line T) (between T [])
-  entry : {text : List ℕ} {T : Table} {js : List Judged} {h : Head} → Reaches text (between T js) → HeadHasRoom h → Reaches (text ++ head_line h) (nodes T js h [])
-  node_line : {text : List ℕ} {T : Table} {js : List Judged} {h : Head} {trees : List Grown} {e : Exp} {s : ℕ} {rules : List Rule} → Reaches text (nodes T js h trees) → (ends : Ends e s trees)
-      → NodeHasRoom T (node e s rules) → StandsBy T e s rules (all_shown ends.own ++ node e s rules ∷ []) → Reaches (text ++ line_of_node T (node e s rules)) (nodes T js h (ends.before ++ grown e s rules ends.own ∷ []))
-  root_line : {text : List ℕ} {T : Table} {js : List Judged} {h : Head} {trees : List Grown} {r : Root} {l : List ℕ} {d : RootDerives T r} → Reaches text (nodes T js h trees) → RootOver trees r l → RootStands T r (all_shown trees) l d
+  entry : {text : List ℕ} {T : Table} {js : List Judged} {h : Head} → Reaches text (between T js) → HeadHasRoom h
+      → Reaches (text ++ head_line h) (nodes T js h [])
+  node_line : {text : List ℕ} {T : Table} {js : List Judged} {h : Head} {trees : List Grown} {e : Exp} {s : ℕ} {rules : List Rule}
+      → Reaches text (nodes T js h trees) → (ends : Ends e s trees)
+      → NodeHasRoom T (node e s rules) → StandsBy T e s rules (all_shown ends.own ++ node e s rules ∷ [])
+      → Reaches (text ++ line_of_node T (node e s rules)) (nodes T js h (ends.before ++ grown e s rules ends.own ∷ []))
+  root_line : {text : List ℕ} {T : Table} {js : List Judged} {h : Head} {trees : List Grown} {r : Root} {l : List ℕ} {d : RootDerives T r}
+      → Reaches text (nodes T js h trees) → RootOver trees r l → RootStands T r (all_shown trees) l d
       → Reaches (text ++ l) (code T js h r d)
-  code_line : {text : List ℕ} {T : Table} {js : List Judged} {h : Head} {r : Root} {d : RootDerives T r} {ps : List Piece} → Reaches text (code T js h r d) → AllByRecursion PieceHasRoom ps → IsCode d h ps → root_cost d ≡ h.words
+  code_line : {text : List ℕ} {T : Table} {js : List Judged} {h : Head} {r : Root} {d : RootDerives T r} {ps : List Piece} → Reaches text (code T js h r d)
+      → AllByRecursion PieceHasRoom ps → IsCode d h ps → root_cost d ≡ h.words
       → Reaches (text ++ pieces_line ps) (between T (js ++ judged h r ps ∷ []))
-  last_line : {text : List ℕ} {T : Table} {js : List Judged} → Reaches text (between T js) → IsNumber (length js) → Reaches (text ++ end_line (length js)) (the_end T js)
+  last_line : {text : List ℕ} {T : Table} {js : List Judged} → Reaches text (between T js) → IsNumber (length js)
+      → Reaches (text ++ end_line (length js)) (the_end T js)
 
 -- how many lines end in these bytes
 abbrev pub lines : List ℕ → ℕ
@@ -186,20 +193,30 @@ lines (b ∷ bs) = cond (b == 10) (lines bs + 1) (lines bs)
 -- A line that comes next, with its end, and the fault that it has there.
 pub data LineFault (text : List ℕ) : Stage → List ℕ → CheckFault → Type 0 where
   no_header : {l : List ℕ} → ((T : Table) → ¬ (l ≡ header_line T)) → LineFault text the_header l Header
-  no_entry : {T : Table} {js : List Judged} {l : List ℕ} → ((h : Head) → HeadHasRoom h → ¬ (l ≡ head_line h)) → (IsNumber (length js) → ¬ (l ≡ end_line (length js))) → LineFault text (between T js) l (Line (lines text + 1))
-  no_form : {T : Table} {js : List Judged} {h : Head} {trees : List Grown} {l : List ℕ} → ((e : Exp) (s : ℕ) (c : Costs) (names : List Name) → Ends e s trees → ¬ IsNodeLine e s c names l) → ((r : Root) → ¬ RootOver trees r l)
+  no_entry : {T : Table} {js : List Judged} {l : List ℕ} → ((h : Head) → HeadHasRoom h → ¬ (l ≡ head_line h))
+      → (IsNumber (length js) → ¬ (l ≡ end_line (length js))) → LineFault text (between T js) l (Line (lines text + 1))
+  no_form : {T : Table} {js : List Judged} {h : Head} {trees : List Grown} {l : List ℕ}
+      → ((e : Exp) (s : ℕ) (c : Costs) (names : List Name) → Ends e s trees → ¬ IsNodeLine e s c names l) → ((r : Root) → ¬ RootOver trees r l)
       → LineFault text (nodes T js h trees) l (Line (lines text + 1))
-  too_deep : {T : Table} {js : List Judged} {h : Head} {trees : List Grown} {e : Exp} {s : ℕ} {c : Costs} {names : List Name} {l : List ℕ} → Ends e s trees → IsNodeLine e s c names l → 400 < nested e
+  too_deep : {T : Table} {js : List Judged} {h : Head} {trees : List Grown} {e : Exp} {s : ℕ} {c : Costs} {names : List Name} {l : List ℕ} → Ends e s trees
+      → IsNodeLine e s c names l → 400 < nested e
       → LineFault text (nodes T js h trees) l (TooDeep (lines text + 1))
-  wrong_cost : {T : Table} {js : List Judged} {h : Head} {trees : List Grown} {e : Exp} {s : ℕ} {c : Costs} {names : List Name} {l : List ℕ} → Ends e s trees → IsNodeLine e s c names l → nested e ≤ 400 → ¬ AreLeastCosts T e s c
+  wrong_cost : {T : Table} {js : List Judged} {h : Head} {trees : List Grown} {e : Exp} {s : ℕ} {c : Costs} {names : List Name} {l : List ℕ}
+      → Ends e s trees → IsNodeLine e s c names l → nested e ≤ 400 → ¬ AreLeastCosts T e s c
       → LineFault text (nodes T js h trees) l (WrongCost (length js) (length (all_shown trees)))
-  wrong_rule : {T : Table} {js : List Judged} {h : Head} {trees : List Grown} {e : Exp} {s : ℕ} {c : Costs} {names : List Name} {l : List ℕ} → (ends : Ends e s trees) → IsNodeLine e s c names l → nested e ≤ 400 → AreLeastCosts T e s c
-      → ((rules : List Rule) → names ≡ map name rules → ¬ StandsBy T e s rules (all_shown ends.own ++ node e s rules ∷ [])) → LineFault text (nodes T js h trees) l (WrongRule (length js) (length (all_shown trees)))
-  wrong_root : {T : Table} {js : List Judged} {h : Head} {trees : List Grown} {r : Root} {l : List ℕ} → RootOver trees r l → ((d : RootDerives T r) → ¬ RootStands T r (all_shown trees) l d)
+  wrong_rule : {T : Table} {js : List Judged} {h : Head} {trees : List Grown} {e : Exp} {s : ℕ} {c : Costs} {names : List Name} {l : List ℕ}
+      → (ends : Ends e s trees) → IsNodeLine e s c names l → nested e ≤ 400 → AreLeastCosts T e s c
+      → ((rules : List Rule) → names ≡ map name rules → ¬ StandsBy T e s rules (all_shown ends.own ++ node e s rules ∷ []))
       → LineFault text (nodes T js h trees) l (WrongRule (length js) (length (all_shown trees)))
-  no_pieces : {T : Table} {js : List Judged} {h : Head} {r : Root} {d : RootDerives T r} {l : List ℕ} → ((ps : List Piece) → AllByRecursion PieceHasRoom ps → ¬ (l ≡ pieces_line ps)) → LineFault text (code T js h r d) l (Line (lines text + 1))
-  wrong_code : {T : Table} {js : List Judged} {h : Head} {r : Root} {d : RootDerives T r} {ps : List Piece} → AllByRecursion PieceHasRoom ps → ¬ IsCode d h ps → LineFault text (code T js h r d) (pieces_line ps) (WrongCode (length js))
-  wrong_words : {T : Table} {js : List Judged} {h : Head} {r : Root} {d : RootDerives T r} {ps : List Piece} → AllByRecursion PieceHasRoom ps → IsCode d h ps → ¬ (root_cost d ≡ h.words) → LineFault text (code T js h r d) (pieces_line ps) (WrongWords (length js))
+  wrong_root : {T : Table} {js : List Judged} {h : Head} {trees : List Grown} {r : Root} {l : List ℕ} → RootOver trees r l
+      → ((d : RootDerives T r) → ¬ RootStands T r (all_shown trees) l d)
+      → LineFault text (nodes T js h trees) l (WrongRule (length js) (length (all_shown trees)))
+  no_pieces : {T : Table} {js : List Judged} {h : Head} {r : Root} {d : RootDerives T r} {l : List ℕ}
+      → ((ps : List Piece) → AllByRecursion PieceHasRoom ps → ¬ (l ≡ pieces_line ps)) → LineFault text (code T js h r d) l (Line (lines text + 1))
+  wrong_code : {T : Table} {js : List Judged} {h : Head} {r : Root} {d : RootDerives T r} {ps : List Piece} → AllByRecursion PieceHasRoom ps
+      → ¬ IsCode d h ps → LineFault text (code T js h r d) (pieces_line ps) (WrongCode (length js))
+  wrong_words : {T : Table} {js : List Judged} {h : Head} {r : Root} {d : RootDerives T r} {ps : List Piece} → AllByRecursion PieceHasRoom ps
+      → IsCode d h ps → ¬ (root_cost d ≡ h.words) → LineFault text (code T js h r d) (pieces_line ps) (WrongWords (length js))
   behind : {T : Table} {js : List Judged} {l : List ℕ} → LineFault text (the_end T js) l (Line (lines text + 1))
 
 -- bytes that end no line
@@ -208,6 +225,8 @@ IsUnended bytes = lines bytes ≡ 0
 
 -- the first fault: that of a line behind lines that are right, or the want of a last line
 pub data Lacks : List ℕ → CheckFault → Type 0 where
-  at_line : {text : List ℕ} {stage : Stage} {f : CheckFault} (l rest : List ℕ) → Reaches text stage → IsUnended l → LineFault text stage (l ++ 10 ∷ []) f → Lacks (text ++ (l ++ 10 ∷ rest)) f
+  at_line : {text : List ℕ} {stage : Stage} {f : CheckFault} (l rest : List ℕ) → Reaches text stage → IsUnended l → LineFault text stage (l ++ 10 ∷ []) f
+      → Lacks (text ++ (l ++ 10 ∷ rest)) f
   in_header : {bytes : List ℕ} → IsUnended bytes → Lacks bytes Header
-  in_lines : {text rest : List ℕ} {stage : Stage} → Reaches text stage → ¬ (stage ≡ the_header) → IsUnended rest → ((T : Table) (js : List Judged) → stage ≡ the_end T js → ¬ (rest ≡ [])) → Lacks (text ++ rest) Truncated
+  in_lines : {text rest : List ℕ} {stage : Stage} → Reaches text stage → ¬ (stage ≡ the_header) → IsUnended rest
+      → ((T : Table) (js : List Judged) → stage ≡ the_end T js → ¬ (rest ≡ [])) → Lacks (text ++ rest) Truncated

@@ -12,7 +12,7 @@ use Rattle.bc_rules_defs.specs.declared.rule.Table.TheVariants.{One}
 use Rattle.bc_rules_defs.specs.ByShape.{root_code_by, root_labels_by}
 use Rattle.bc_rules_defs.specs.Piece.{words}
 use Rattle.bc_rules.specs.Fits.{root_fits}
-use Rattle.bc_cert_lines.specs.declared.lines.Head.{Head}
+use Rattle.bc_cert_defs.specs.declared.head.Head.{Head}
 use Rattle.bc_cert_lines.specs.declared.lines.NodeLine.{NodeLine}
 use Rattle.bc_cert_lines.specs.declared.lines.RootLine.{RootLine}
 use Rattle.bc_cert_lines.specs.Lines.{header, entry_line, end_line, node_line, root_line, code_of_line}

@@ -68,7 +68,8 @@ unfolding sum
 sample_says = refl
 
 -- without its last line, and without a line's end
-pub sample_truncated : judged (header_line ++ (entry_line ++ (number_line ++ (global_line ++ (load_line ++ (call_line ++ (root_line ++ code_line))))))) ≡ Err Truncated
+pub sample_truncated : judged (header_line ++ (entry_line ++ (number_line ++ (global_line ++ (load_line ++ (call_line ++ (root_line ++ code_line)))))))
+    ≡ Err Truncated
 unfolding sum
 sample_truncated = refl
 
@@ -81,20 +82,28 @@ unfolding sum
 sample_unfinished = refl
 
 -- `4 N65 2 1 0 2 V0.V1`: one word does
-pub dear_number : judged (header_line ++ (entry_line ++ (52 ∷ 32 ∷ 78 ∷ 54 ∷ 53 ∷ 32 ∷ 50 ∷ 32 ∷ 49 ∷ 32 ∷ 48 ∷ 32 ∷ 50 ∷ 32 ∷ 86 ∷ 48 ∷ 46 ∷ 86 ∷ 49 ∷ 10 ∷ []))) ≡ Err (WrongCost 0 0)
+pub dear_number : judged (header_line
+    ++ (entry_line ++ (52 ∷ 32 ∷ 78 ∷ 54 ∷ 53 ∷ 32 ∷ 50 ∷ 32 ∷ 49 ∷ 32 ∷ 48 ∷ 32 ∷ 50 ∷ 32 ∷ 86 ∷ 48 ∷ 46 ∷ 86 ∷ 49 ∷ 10 ∷ []))) ≡ Err (WrongCost 0 0)
 dear_number = refl
 
 -- `4 N65 1 1 0 2 V0.V2`: a number is no content
-pub other_rule : judged (header_line ++ (entry_line ++ (52 ∷ 32 ∷ 78 ∷ 54 ∷ 53 ∷ 32 ∷ 49 ∷ 32 ∷ 49 ∷ 32 ∷ 48 ∷ 32 ∷ 50 ∷ 32 ∷ 86 ∷ 48 ∷ 46 ∷ 86 ∷ 50 ∷ 10 ∷ []))) ≡ Err (WrongRule 0 0)
+pub other_rule : judged (header_line
+    ++ (entry_line ++ (52 ∷ 32 ∷ 78 ∷ 54 ∷ 53 ∷ 32 ∷ 49 ∷ 32 ∷ 49 ∷ 32 ∷ 48 ∷ 32 ∷ 50 ∷ 32 ∷ 86 ∷ 48 ∷ 46 ∷ 86 ∷ 50 ∷ 10 ∷ []))) ≡ Err (WrongRule 0 0)
 other_rule = refl
 
 -- `C L66 SP4 LIG14 K2`
-pub other_code : judged (header_line ++ (entry_line ++ (number_line ++ (global_line ++ (load_line ++ (call_line ++ (root_line ++ (67 ∷ 32 ∷ 76 ∷ 54 ∷ 54 ∷ 32 ∷ 83 ∷ 80 ∷ 52 ∷ 32 ∷ 76 ∷ 73 ∷ 71 ∷ 49 ∷ 52 ∷ 32 ∷ 75 ∷ 50 ∷ 10 ∷ [])))))))) ≡ Err (WrongCode 0)
+pub other_code : judged (header_line
+    ++ (entry_line ++ (number_line
+    ++ (global_line ++ (load_line ++
+    (call_line ++ (root_line ++ (67 ∷ 32 ∷ 76 ∷ 54 ∷ 54 ∷ 32 ∷ 83 ∷ 80 ∷ 52 ∷ 32 ∷ 76 ∷ 73 ∷ 71 ∷ 49 ∷ 52 ∷ 32 ∷ 75 ∷ 50 ∷ 10 ∷ []))))))))
+    ≡ Err (WrongCode 0)
 unfolding sum
 other_code = refl
 
 -- `E 0 1 0 2 5`
-pub other_words : judged (header_line ++ ((69 ∷ 32 ∷ 48 ∷ 32 ∷ 49 ∷ 32 ∷ 48 ∷ 32 ∷ 50 ∷ 32 ∷ 53 ∷ 10 ∷ []) ++ (number_line ++ (global_line ++ (load_line ++ (call_line ++ (root_line ++ code_line))))))) ≡ Err (WrongWords 0)
+pub other_words : judged (header_line
+    ++ ((69 ∷ 32 ∷ 48 ∷ 32 ∷ 49 ∷ 32 ∷ 48 ∷ 32 ∷ 50 ∷ 32 ∷ 53 ∷ 10 ∷ [])
+    ++ (number_line ++ (global_line ++ (load_line ++ (call_line ++ (root_line ++ code_line))))))) ≡ Err (WrongWords 0)
 unfolding sum
 other_words = refl
 

@@ -20,7 +20,7 @@ use Rattle.bc_cert_lines.specs.declared.chain.Rules.TheVariants.{Taken, Named, W
 use Rattle.bc_cert_lines.specs.declared.lines.NodeLine.{NodeLine}
 use Rattle.bc_cert_lines.specs.declared.lines.RootLine.{RootLine}
 use Rattle.bc_cert_lines.specs.declared.lines.RootLine.TheVariants as lines
-use Rattle.bc_cert_lines.specs.Chains.{letter_of}
+use Rattle.bc_rules_defs.specs.Names.{rule_letter}
 use Rattle.bc_cert_trees.specs.declared.mark.Mark.{Mark}
 use Rattle.bc_cert_trees.specs.Marks.{has_aim, levels_fit}
 use Rattle.bc_cert_trees.specs.Wholes.{whole}
@@ -41,8 +41,8 @@ chain_rules c = over_if c.is_tested J6 (over_if c.is_freed V0 (c.rule ∷ []))
 
 -- a test by the value, and a value that is pushed, end in a rule of values; neither V0 nor J6 goes on at the same node again
 pub record IsChain (c : Chain) : Type 0 where
-  pub tested : c.is_tested ≡ true → letter_of c.rule ≡ 86
-  pub freed : c.is_freed ≡ true → letter_of c.rule ≡ 86
+  pub tested : c.is_tested ≡ true → rule_letter c.rule ≡ 86
+  pub freed : c.is_freed ≡ true → rule_letter c.rule ≡ 86
   pub not_freed_again : ¬ (c.rule ≡ V0)
   pub not_tested_again : ¬ (c.rule ≡ J6)
 

@@ -1,39 +1,13 @@
 -- For proofs: the rules that a field names, by computing.
 use Rattle.std.specs.Prelude.{ℕ, ◌==◌, ◌&&◌, ◌||◌, Bool, true, false, cond, List, [], ◌∷◌, Option, Some, None}
 use Rattle.bc_rules_defs.specs.declared.rule.Rule.{Rule}
-use Rattle.bc_rules_defs.specs.declared.rule.Rule.TheVariants.{V0, V1, V2, V3, V4, V6, V7, V8, V9, V10, V11, V12, V13, V14, V15, V16, V17, V18, V19, V20, V21, V22, J1, J2, J3, J4, J5, J6, J7, J8, J9, A1, A2, A3}
-use Rattle.bc_select_defs.specs.Least.{rule_number}
+use Rattle.bc_rules_defs.specs.declared.rule.Rule.TheVariants.{V0, J6}
+use Rattle.bc_rules_defs.specs.Names.{rule_letter, rule_named}
 use Rattle.bc_cert_lines.specs.declared.chain.Rules.{Rules}
 use Rattle.bc_cert_lines.specs.declared.chain.Rules.TheVariants as kinds
 use Rattle.bc_cert_lines.specs.declared.chain.Names.{Names}
 use Rattle.bc_cert_lines.specs.declared.chain.Names.TheVariants.{Nothing, Tested, Freed, Whole, Wrong}
 use Rattle.bc_cert_lines.specs.Fields.{◌>>=◌, small, fields}
-
-abbrev pub letter_of : Rule → ℕ
-letter_of J1 = 74
-letter_of J2 = 74
-letter_of J3 = 74
-letter_of J4 = 74
-letter_of J5 = 74
-letter_of J6 = 74
-letter_of J7 = 74
-letter_of J8 = 74
-letter_of J9 = 74
-letter_of A1 = 65
-letter_of A2 = 65
-letter_of A3 = 65
-letter_of _ = 86
-
-abbrev pub all_rules : List Rule
-all_rules = V0 ∷ V1 ∷ V2 ∷ V3 ∷ V4 ∷ V6 ∷ V7 ∷ V8 ∷ V9 ∷ V10 ∷ V11 ∷ V12 ∷ V13 ∷ V14 ∷ V15 ∷ V16 ∷ V17 ∷ V18 ∷ V19 ∷ V20 ∷ V21 ∷ V22 ∷ J1 ∷ J2 ∷ J3 ∷ J4 ∷ J5 ∷ J6 ∷ J7 ∷ J8 ∷ J9 ∷ A1 ∷ A2 ∷ A3 ∷ []
-
-abbrev pub found : ℕ → ℕ → List Rule → Option Rule
-found letter n [] = None
-found letter n (r ∷ rs) = cond (letter_of r == letter && rule_number r == n) (Some r) (found letter n rs)
-
--- the rule with this name, if it is in the table
-abbrev pub rule_named : ℕ → ℕ → Option Rule
-rule_named letter n = found letter n all_rules
 
 abbrev pub with_number : ℕ → Option ℕ → Option (Option Rule)
 with_number letter None = None
@@ -47,7 +21,7 @@ abbrev pub whole : Bool → Bool → Rule → Names
 whole tested freed r = Whole (record { is_tested = tested; is_freed = freed; rule = r })
 
 abbrev pub of_value : Rule → Names → Names
-of_value r names = cond (letter_of r == 86) names Wrong
+of_value r names = cond (rule_letter r == 86) names Wrong
 
 abbrev pub begun : Rule → Names
 begun J6 = Tested

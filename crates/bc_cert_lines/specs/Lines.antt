@@ -11,7 +11,7 @@ use Rattle.bc_rules_defs.specs.declared.rule.Table.{Table}
 use Rattle.bc_rules_defs.specs.declared.rule.Table.TheVariants.{One, Two}
 use Rattle.bc_cert_node.specs.declared.form.Form.{Form}
 use Rattle.bc_cert_node.specs.declared.form.Form.TheVariants as forms
-use Rattle.bc_cert_lines.specs.declared.lines.Head.{Head}
+use Rattle.bc_cert_defs.specs.declared.head.Head.{Head}
 use Rattle.bc_cert_lines.specs.declared.lines.NodeLine.{NodeLine}
 use Rattle.bc_cert_lines.specs.declared.lines.RootLine.{RootLine}
 use Rattle.bc_cert_lines.specs.declared.lines.RootLine.TheVariants.{Value, Test, Assign}
@@ -54,7 +54,8 @@ abbrev pub end_line : List ℕ → Option ℕ
 end_line line = behind line 90 >>= (λ text. number text)
 
 abbrev pub operators : List Op
-operators = Multiply ∷ Divide ∷ Remainder ∷ Add ∷ Subtract ∷ Equal ∷ NotEqual ∷ Less ∷ GreaterEqual ∷ Greater ∷ LessEqual ∷ ShiftLeft ∷ ShiftRight ∷ And ∷ Or ∷ NotEquivalent ∷ Equivalent ∷ []
+operators = Multiply ∷ Divide ∷ Remainder ∷ Add ∷ Subtract ∷ Equal ∷ NotEqual ∷ Less ∷ GreaterEqual ∷ Greater ∷ LessEqual ∷ ShiftLeft ∷ ShiftRight ∷ And
+    ∷ Or ∷ NotEquivalent ∷ Equivalent ∷ []
 
 abbrev pub op_among : ℕ → List Op → Option Op
 op_among n [] = None

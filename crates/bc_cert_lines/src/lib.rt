@@ -9,4 +9,4 @@ mod lines;
 
 pub use chain::{Chain, Rules};
 pub use codes::code_line;
-pub use lines::{Head, NodeLine, RootLine, end_line, entry_line, header, node_line, root_line};
+pub use lines::{NodeLine, RootLine, end_line, entry_line, header, node_line, root_line};

@@ -6,19 +6,10 @@ ghost use Rattle.bc_cert_lines.specs.Fields.{small as small_of, level as level_o
 
 use crate::chain::{Rules, rules_field};
 use crate::fields::{behind, field, level, number, number_or_none, small};
-use bc_cert_node::{Costs, Form};
+use bc_cert_defs::{Costs, Head};
+use bc_cert_node::Form;
 use bc_rules_defs::{Rule, Table};
 use bc_word::{Op, Word};
-
-/// What an `E` line says.
-#[derive(Clone, Copy)]
-pub struct Head {
-    pub segment: u64,
-    pub item: u64,
-    pub target: u16,
-    pub first: u16,
-    pub words: u64,
-}
 
 /// What a node line says.
 #[derive(Clone, Copy)]

@@ -22,7 +22,7 @@ use Rattle.bc_select_defs.specs.declared.choice.Candidate.{Candidate}
 use Rattle.bc_select_defs.specs.declared.choice.Node as choosing
 use Rattle.bc_select_defs.specs.Options.{plus, more, sum, given, operand_cost, words_of as words_in, better, least_from, candidate}
 use Rattle.bc_select_defs.specs.Choices.{words_for, by_value as by_value_choice, number_tests, not_tests, line, zero_number, number_cost, beside, without, mixed, worked, pair_tests, has_tests_of_zero, choices, words_of_all, node_of}
-use Rattle.bc_cert_node.specs.declared.costs.Costs.{Costs}
+use Rattle.bc_cert_defs.specs.declared.costs.Costs.{Costs}
 use Rattle.bc_cert_node.specs.declared.facts.Facts.{Facts}
 use Rattle.bc_cert_node.specs.declared.form.Form.{Form}
 use Rattle.bc_cert_node.specs.declared.recipe.Takes.TheVariants.{Nothing, First, Second, InOrder, Turned, Choice as Chosen, Call as Called}

@@ -17,7 +17,7 @@ use Rattle.bc_rules_defs.specs.declared.rule.Rule.TheVariants.{V2, V3, V4, V6, V
 use Rattle.bc_rules_defs.specs.Free.{direct_operand, jumps_at}
 use Rattle.bc_rules_defs.specs.Piece.{w, operand_words}
 use Rattle.bc_select_defs.specs.Choices.{zero_number, has_tests_of_zero}
-use Rattle.bc_cert_node.specs.declared.costs.Costs.{Costs}
+use Rattle.bc_cert_defs.specs.declared.costs.Costs.{Costs}
 use Rattle.bc_cert_node.specs.declared.facts.Facts.{Facts}
 use Rattle.bc_cert_node.specs.declared.form.Form.{Form}
 use Rattle.bc_cert_node.specs.declared.form.Form.TheVariants as forms

@@ -2,31 +2,21 @@ ghost use Rattle.std.specs.Prelude.{◌≡◌, ◌≤◌};
 ghost use Rattle.bc_rules_defs.specs.Piece.{w, operand_words as words_of_operand};
 ghost use Rattle.bc_cert_node.specs.Costs.{cost_of, least_of, are_costs, same_words};
 
+use bc_cert_defs::Costs;
 use bc_core::Operand;
 use bc_rules_defs::{Aim, Mode};
 use bc_text_items::Base;
 
-/// The least words of a node's derivations, for each aim. A value that is pushed may have no derivation.
-#[derive(Clone, Copy)]
-pub struct Costs {
-    pub any: u64,
-    pub push: Option<u64>,
-    pub on_false: u64,
-    pub on_true: u64,
-}
-
-impl Costs {
-    /// The words for this aim.
-    #[inline(always)]
-    pub fn of(&self, aim: Aim) -> Option<u64>
-        ensures { result ≡ cost_of aim self.now }
-    {
-        match aim {
-            Aim::Gets(Mode::Any) => Some(self.any),
-            Aim::Gets(Mode::Push) => self.push,
-            Aim::Jumps(false) => Some(self.on_false),
-            Aim::Jumps(true) => Some(self.on_true),
-        }
+/// The words for this aim.
+#[inline(always)]
+pub(crate) fn words_for(costs: &Costs, aim: Aim) -> Option<u64>
+    ensures { result ≡ cost_of aim costs.now }
+{
+    match aim {
+        Aim::Gets(Mode::Any) => Some(costs.any),
+        Aim::Gets(Mode::Push) => costs.push,
+        Aim::Jumps(false) => Some(costs.on_false),
+        Aim::Jumps(true) => Some(costs.on_true),
     }
 }
 

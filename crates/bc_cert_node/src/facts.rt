@@ -4,7 +4,8 @@ ghost use Rattle.bc_core.specs.Operand.{constant_of};
 ghost use Rattle.bc_select_defs.specs.Choices.{zero_number};
 ghost use Rattle.bc_cert_node.specs.Recipe.{free, facts_of, words_of_operand_of, is_direct_expression};
 
-use crate::costs::{Costs, operand_words};
+use crate::costs::operand_words;
+use bc_cert_defs::Costs;
 use bc_core::{CoreExp, constant, operand};
 
 /// What the rules ask of a part.

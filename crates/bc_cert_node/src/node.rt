@@ -7,7 +7,7 @@ ghost use Rattle.bc_select_defs.specs.Options.{sum as sum_of};
 ghost use Rattle.bc_cert_node.specs.Recipe.{of_form, value_of_two as value_by, both_parts as both_by, test_of_two as test_by, zero_test, beside_zero as beside_by, without_zero as without_by, less_number as less_by, in_any as in_any_of, where_so};
 ghost use Rattle.bc_cert_node.specs.Node.{node, recipe_by, words_of as words_of_recipe, wanted, held, words_by, least, pushes_of, values_of, tests_of, lesser as lesser_of};
 
-use crate::costs::number_words;
+use crate::costs::{number_words, words_for};
 use crate::facts::{Facts, are_free};
 use crate::form::Form;
 use crate::recipe::{Recipe, Takes, makes, only, with_operand};
@@ -118,7 +118,7 @@ impl<'p> Node<'p> {
         ensures few { IfSome result (λ n. n ≤ 2 ^ 64 + 1) }
     {
         match takes.aim_of(at) {
-            Some(aim) => match part.costs.of(aim) {
+            Some(aim) => match words_for(&part.costs, aim) {
                 Some(least) => Some(u128::from(least) + u128::from(self.held(takes, at, is_last))),
                 None => None,
             },

@@ -7,7 +7,7 @@ use Rattle.bc_rules_defs.specs.declared.rule.Aim.{Aim}
 use Rattle.bc_rules_defs.specs.declared.rule.Aim.TheVariants.{Gets, Jumps}
 use Rattle.bc_rules_defs.specs.declared.rule.Rule.{Rule}
 use Rattle.bc_rules_defs.specs.declared.rule.Rule.TheVariants.{J1, J2, J3, J4, J5, J6, J7, J8, J9}
-use Rattle.bc_cert_node.specs.declared.costs.Costs.{Costs}
+use Rattle.bc_cert_defs.specs.declared.costs.Costs.{Costs}
 use Rattle.bc_cert_node.specs.declared.recipe.Takes.{Takes}
 use Rattle.bc_cert_node.specs.declared.recipe.Recipe.{Recipe}
 use Rattle.bc_cert_node.specs.Costs.{are_costs}
@@ -61,7 +61,12 @@ abbrev pub tested : ℕ → ℕ → Bool
 tested any stated = any + 2 == stated
 
 abbrev pub tests : Node → List Mark → Costs → Rule → Shown
-tests n ms c r = record { any = false; push = false; on_false = makes n ms r (Jumps false) (Some c.on_false); on_true = makes n ms r (Jumps true) (Some c.on_true) }
+tests n ms c r = record {
+  any = false;
+  push = false;
+  on_false = makes n ms r (Jumps false) (Some c.on_false);
+  on_true = makes n ms r (Jumps true) (Some c.on_true);
+}
 
 abbrev pub same_value : Option ℕ → ℕ → Bool
 same_value None n = false
@@ -75,7 +80,13 @@ abbrev pub any_by : Node → List Mark → Costs → Rule → (freed : Bool) →
 any_by n ms c r freed = cond freed (makes n ms r (Gets Push) c.push && is_value c) (makes n ms r (Gets Any) (Some c.any))
 
 abbrev pub behind_value : Node → Costs → (any push : Bool) → (tested freed : Bool) → Shown
-behind_value n c any push true freed = record { any = false; push = false; on_false = any && is_plain n.form && tested c.any c.on_false; on_true = any && is_plain n.form && tested c.any c.on_true }
+behind_value n c any push true freed = record {
+  any = false;
+  push = false;
+  on_false = any && is_plain n.form && tested c.any c.on_false;
+  on_true = any
+      && is_plain n.form && tested c.any c.on_true;
+}
 behind_value n c any push false freed = record { any = any; push = push && not freed; on_false = false; on_true = false }
 
 abbrev pub shown_by : Node → List Mark → Costs → Chain → Shown

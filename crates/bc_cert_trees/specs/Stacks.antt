@@ -49,7 +49,8 @@ pub record AreParallel (st : Stack) : Type 0 where
   pub derivations : length st.derivations ≡ length st.facts
 
 abbrev pub fitting : NodeLine → List Mark → Place → Result ℕ CheckFault
-fitting line ms p = cond (levels_fit line.level line.form ms) (cond (nat_le (depth_over ms) 400) (Ok (depth_over ms)) (Err (TooDeep p.line))) (Err (Line p.line))
+fitting line ms p = cond (levels_fit line.level line.form ms) (cond (nat_le (depth_over ms) 400) (Ok (depth_over ms)) (Err (TooDeep p.line)))
+    (Err (Line p.line))
 
 abbrev pub any_calls : List Facts → Bool
 any_calls [] = false
@@ -81,7 +82,10 @@ abbrev pub without_expressions : ℕ → Stack → Stack
 without_expressions at st = record st { expressions = take at st.expressions }
 
 abbrev pub derived_over : NodeLine → Stack → ℕ → Stack
-derived_over line st at = record st { derivations = take at st.derivations ++ derived line.rules (second_zero (drop at st.facts)) (drop at st.derivations) ∷ [] }
+derived_over line st at = record st {
+  derivations = take at st.derivations ++ derived line.rules (second_zero (drop at st.facts)) (drop at st.derivations)
+      ∷ [];
+}
 
 abbrev pub seen_over : NodeLine → Exp → ℕ → ℕ → Shown → Stack → Stack
 seen_over line e at depth shown st = record {
@@ -100,10 +104,12 @@ put_over line st at depth e shown = record {
 }
 
 abbrev pub node_judged_over : Table → NodeLine → Place → Stack → ℕ → ℕ → Exp → Result Stack CheckFault
-node_judged_over T line p st at depth e = judged (line_node T line e (drop at st.facts)) (drop at st.marks) line p >>= (λ shown. Ok (put_over line st at depth e shown))
+node_judged_over T line p st at depth e = judged (line_node T line e (drop at st.facts)) (drop at st.marks) line p >>=
+    (λ shown. Ok (put_over line st at depth e shown))
 
 abbrev pub node_whole : Table → NodeLine → Place → Stack → ℕ → ℕ → Result Stack CheckFault
-node_whole T line p st at depth = with_whole p (whole line.form (drop at st.expressions)) >>= (λ e. node_judged_over T line p (without_expressions at st) at depth e)
+node_whole T line p st at depth =
+    with_whole p (whole line.form (drop at st.expressions)) >>= (λ e. node_judged_over T line p (without_expressions at st) at depth e)
 
 abbrev pub node_from : Table → NodeLine → Place → Stack → ℕ → Result Stack CheckFault
 node_from T line p st at = fitting line (drop at st.marks) p >>= (λ depth. node_whole T line p st at depth)
@@ -126,7 +132,8 @@ abbrev pub one_tree : Stack → Option One
 one_tree st = one_among st.marks st.facts st.expressions st.derivations
 
 abbrev pub two_among : List Mark → List Facts → List Exp → List Tree → Option (One × One)
-two_among (m ∷ n ∷ []) (f ∷ g ∷ []) (e ∷ h ∷ []) (x ∷ y ∷ []) = Some (record { mark = m; facts = f; expression = e; derivation = x }, record { mark = n; facts = g; expression = h; derivation = y })
+two_among (m ∷ n ∷ []) (f ∷ g ∷ []) (e ∷ h ∷ []) (x ∷ y ∷ []) =
+    Some (record { mark = m; facts = f; expression = e; derivation = x }, record { mark = n; facts = g; expression = h; derivation = y })
 two_among _ _ _ _ = None
 
 abbrev pub two_trees : Stack → Option (One × One)
@@ -142,14 +149,16 @@ abbrev pub wrong_rule : {A : Type 0} → Place → Result A CheckFault
 wrong_rule p = Err (WrongRule p.entry p.node)
 
 abbrev pub value_root : Place → One → Result Rooted CheckFault
-value_root p o = cond (has_aim o.mark.shown (Gets Any)) (Ok (record { root = Value o.mark.level o.expression; derivation = o.derivation; words = o.facts.costs.any })) (wrong_rule p)
+value_root p o = cond (has_aim o.mark.shown (Gets Any))
+    (Ok (record { root = Value o.mark.level o.expression; derivation = o.derivation; words = o.facts.costs.any })) (wrong_rule p)
 
 abbrev pub words_on : Bool → Facts → ℕ
 words_on false f = f.costs.on_false
 words_on true f = f.costs.on_true
 
 abbrev pub test_root : Bool → Place → One → Result Rooted CheckFault
-test_root sense p o = cond (has_aim o.mark.shown (Jumps sense)) (Ok (record { root = Test o.mark.level sense o.expression; derivation = o.derivation; words = words_on sense o.facts })) (wrong_rule p)
+test_root sense p o = cond (has_aim o.mark.shown (Jumps sense))
+    (Ok (record { root = Test o.mark.level sense o.expression; derivation = o.derivation; words = words_on sense o.facts })) (wrong_rule p)
 
 -- the level of the sides
 abbrev pub side : Option ℕ → ℕ → ℕ
@@ -170,7 +179,9 @@ assigned r v a = by r (two v a)
 
 abbrev pub with_least : Rule → ℕ → Place → One → One → Option ℕ → Result Rooted CheckFault
 with_least r s p v a None = wrong_rule p
-with_least r s p v a (Some n) = cond (sides_show r v.mark a.mark) (Ok (record { root = Assign s v.expression a.expression; derivation = assigned r v.derivation a.derivation; words = n })) (wrong_rule p)
+with_least r s p v a (Some n) =
+    cond (sides_show r v.mark a.mark)
+    (Ok (record { root = Assign s v.expression a.expression; derivation = assigned r v.derivation a.derivation; words = n })) (wrong_rule p)
 
 abbrev pub assign_root : Rule → ℕ → Place → One × One → Result Rooted CheckFault
 assign_root r s p q =

@@ -6,9 +6,9 @@ ghost use Rattle.bc_cert_trees.specs.Showing.{makes as makes_of, agree as agree_
 
 use crate::mark::{Mark, Shown};
 use crate::place::Place;
-use bc_cert_defs::CheckFault;
+use bc_cert_defs::{CheckFault, Costs};
 use bc_cert_lines::{Chain, NodeLine, Rules};
-use bc_cert_node::{Costs, Node, Takes};
+use bc_cert_node::{Node, Takes};
 use bc_rules_defs::{Aim, Mode, Rule};
 
 const ANY: Aim = Aim::Gets(Mode::Any);

@@ -4,3 +4,4 @@ pub mod Joined
 pub mod Shapes
 pub mod Texts
 pub mod Taken
+pub mod Worked

@@ -23,13 +23,22 @@ pub record Derived : Type 0 where
 
 -- the entry that has the names of the derivation's rules
 abbrev pub entry_of : Derived → Entry
-entry_of d = record { segment = d.segment; item = d.item; target = d.target; first = d.first; root = d.root; derivation = root_shape d.derivation; bodies = d.bodies }
+entry_of d = record {
+  segment = d.segment;
+  item = d.item;
+  target = d.target;
+  first = d.first;
+  root = d.root;
+  derivation = root_shape d.derivation;
+  bodies = d.bodies;
+}
 
 -- the lines of an entry
 abbrev pub entry_text : Derived → List ℕ
 entry_text d =
     let code = root_code d.derivation d.target d.first in
-    entry_line d.segment d.item d.target d.first (words code) ++ (flat_map (node_line Two) (root_shown d.derivation) ++ (root_line d.derivation ++ code_line code d.bodies))
+    entry_line d.segment d.item d.target d.first (words code)
+    ++ (flat_map (node_line Two) (root_shown d.derivation) ++ (root_line d.derivation ++ code_line code d.bodies))
 
 -- the certificate of entries, by table 2
 abbrev pub certificate : List Derived → List ℕ

@@ -7,3 +7,4 @@ pub mod Nodes
 pub mod Exact
 pub mod Examples
 pub mod Laws
+pub mod Workings

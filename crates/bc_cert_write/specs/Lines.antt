@@ -8,12 +8,12 @@ use Rattle.bc_rules_defs.specs.declared.rule.Mode.TheVariants.{Any, Push}
 use Rattle.bc_rules_defs.specs.declared.rule.Aim.{Aim}
 use Rattle.bc_rules_defs.specs.declared.rule.Aim.TheVariants.{Gets, Jumps}
 use Rattle.bc_rules_defs.specs.declared.rule.Rule.{Rule}
-use Rattle.bc_rules_defs.specs.declared.rule.Rule.TheVariants.{J1, J2, J3, J4, J5, J6, J7, J8, J9, A1, A2, A3}
+use Rattle.bc_rules_defs.specs.declared.rule.Rule.TheVariants.{A1, A2, A3}
 use Rattle.bc_rules_defs.specs.declared.piece.Piece.{Piece}
 use Rattle.bc_rules_defs.specs.declared.piece.Piece.TheVariants.{Item, Body}
 use Rattle.bc_rules_defs.specs.Rules.{RootDerives, value, test, a1, a2, a3}
-use Rattle.bc_select_defs.specs.Least.{rule_number}
-use Rattle.bc_select_defs.specs.Choices.{choices, words_for}
+use Rattle.bc_rules_defs.specs.Names.{rule_letter, rule_number}
+use Rattle.bc_select_defs.specs.LeastOf.{least_words_of}
 use Rattle.bc_text.specs.Printed.{printed}
 use Rattle.bc_cert_write.specs.Shown.{Shown}
 
@@ -24,22 +24,6 @@ line_end (f ∷ fs) = 32 ∷ (f ++ line_end fs)
 
 abbrev pub line : (first : List ℕ) → List (List ℕ) → List ℕ
 line f fs = f ++ line_end fs
-
--- V, J or A
-abbrev pub rule_letter : Rule → ℕ
-rule_letter J1 = 74
-rule_letter J2 = 74
-rule_letter J3 = 74
-rule_letter J4 = 74
-rule_letter J5 = 74
-rule_letter J6 = 74
-rule_letter J7 = 74
-rule_letter J8 = 74
-rule_letter J9 = 74
-rule_letter A1 = 65
-rule_letter A2 = 65
-rule_letter A3 = 65
-rule_letter _ = 86
 
 abbrev pub rule_name : Rule → List ℕ
 rule_name r = rule_letter r ∷ decimal (rule_number r)
@@ -73,10 +57,9 @@ abbrev pub words_field : Option ℕ → List ℕ
 words_field None = 45 ∷ []
 words_field (Some n) = decimal n
 
--- The least words of a node's derivations for an aim. That no derivation has fewer, and that one has as many, is the
--- law `choices_are_least` of bc_select_defs.
+-- the least words of a node's derivations for an aim
 abbrev pub least_words : Table → Aim → Shown → Option ℕ
-least_words T aim n = words_for aim (choices T n.expression n.level)
+least_words T aim n = least_words_of T n.expression aim n.level
 
 -- `level form any push false true rules`
 abbrev pub node_line : Table → Shown → List ℕ

@@ -60,7 +60,8 @@ abbrev mutual
   below (v4 d) s = ended_by (below d s) d s
   below (v6 {b = b} h d) s = ended_by (below d (s + 1)) d (s + 1) ++ bare b (s + 1)
   below (v7 {a = a} h free d) s = bare a (s + 1) ++ ended_by (below d (s + 1)) d (s + 1)
-  below (v8 {a = a} {b = b} h d) s = cond (is_zero b) (ended_by (below d (s + 1)) d (s + 1) ++ bare b (s + 1)) (bare a (s + 1) ++ ended_by (below d (s + 1)) d (s + 1))
+  below (v8 {a = a} {b = b} h d) s = cond (is_zero b) (ended_by (below d (s + 1)) d (s + 1) ++ bare b (s + 1))
+      (bare a (s + 1) ++ ended_by (below d (s + 1)) d (s + 1))
   below (v9 {n = n} d) s = ended_by (below d (s + 1)) d (s + 1) ++ bare (Num n) (s + 1)
   below (v10 {b = b} h d) s = ended_by (below d (s + 1)) d (s + 1) ++ bare b (s + 1)
   below (v11 {a = a} h free d) s = bare a (s + 1) ++ ended_by (below d (s + 1)) d (s + 1)
@@ -83,8 +84,10 @@ abbrev mutual
   below (j5 a b) s = ended_by (below a (s + 1)) a (s + 1) ++ ended_by (below b (s + 1)) b (s + 1)
   below (j6 h d) s = below d s
   below j7 s = []
-  below (j8 {a = a} {b = b} h k d) s = cond (is_zero b) (ended_by (below d (s + 1)) d (s + 1) ++ bare b (s + 1)) (bare a (s + 1) ++ ended_by (below d (s + 1)) d (s + 1))
-  below (j9 {a = a} {b = b} h k d) s = cond (is_zero b) (ended_by (below d (s + 1)) d (s + 1) ++ bare b (s + 1)) (bare a (s + 1) ++ ended_by (below d (s + 1)) d (s + 1))
+  below (j8 {a = a} {b = b} h k d) s = cond (is_zero b) (ended_by (below d (s + 1)) d (s + 1) ++ bare b (s + 1))
+      (bare a (s + 1) ++ ended_by (below d (s + 1)) d (s + 1))
+  below (j9 {a = a} {b = b} h k d) s = cond (is_zero b) (ended_by (below d (s + 1)) d (s + 1) ++ bare b (s + 1))
+      (bare a (s + 1) ++ ended_by (below d (s + 1)) d (s + 1))
 
   pub all_shown : {T : Table} {es : Args} → DerivesAll T es → ℕ → List Shown
   all_shown no_more s = []

@@ -127,9 +127,16 @@ abbrev mutual
   below_with f (Load e) s y = ended_with f (below_with f e s (own (placed only_slot y))) e s (placed only_slot y)
   below_with f (Neg e) s y = ended_with f (below_with f e s (own (placed only_slot y))) e s (placed only_slot y)
   below_with f (Not e) s y = ended_with f (below_with f e s (own (placed only_slot y))) e s (placed only_slot y)
-  below_with f (Bin op a b) s y = ended_with f (below_with f a (s + 1) (own (placed (left_slot (is_zero b)) y))) a (s + 1) (placed (left_slot (is_zero b)) y) ++ ended_with f (below_with f b (s + 1) (own (placed (right_slot (is_zero b)) y))) b (s + 1) (placed (right_slot (is_zero b)) y)
-  below_with f (Cond c x z) s y = (ended_with f (below_with f c s (own (placed only_slot y))) c s (placed only_slot y) ++ ended_with f (below_with f x s (own (placed this_slot y))) x s (placed this_slot y)) ++ ended_with f (below_with f z s (own (placed that_slot y))) z s (placed that_slot y)
-  below_with f (Call es e) s y = all_with f es (s + 2) (parts y) ++ ended_with f (below_with f e (s + 2 + count es) (own (first (behind_arguments es (parts y))))) e (s + 2 + count es) (first (behind_arguments es (parts y)))
+  below_with f (Bin op a b) s y = ended_with f (below_with f a (s + 1) (own (placed (left_slot (is_zero b)) y))) a (s + 1)
+      (placed (left_slot (is_zero b)) y) ++ ended_with f (below_with f b (s + 1) (own (placed (right_slot (is_zero b)) y))) b (s + 1)
+      (placed (right_slot (is_zero b)) y)
+  below_with f (Cond c x z) s y =
+      (ended_with f (below_with f c s (own (placed only_slot y))) c s (placed only_slot y)
+      ++ ended_with f (below_with f x s (own (placed this_slot y))) x s (placed this_slot y))
+      ++ ended_with f (below_with f z s (own (placed that_slot y))) z s (placed that_slot y)
+  below_with f (Call es e) s y = all_with f es (s + 2) (parts y)
+      ++ ended_with f (below_with f e (s + 2 + count es) (own (first (behind_arguments es (parts y))))) e (s + 2 + count es)
+      (first (behind_arguments es (parts y)))
   below_with f _ s y = []
 
   pub all_with : {X : Type 0} → (Exp → ℕ → Option Tree → X) → Args → ℕ → Trees → List X

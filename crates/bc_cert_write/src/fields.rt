@@ -8,7 +8,6 @@ ghost use Rattle.bc_cert_write.specs.Printed.{form_text, chain_text};
 
 use crate::chain::Chain;
 use crate::form::Form;
-use crate::rule_names::{letter, number};
 use crate::text::Text;
 use bc_rules_defs::Rule;
 use bc_text_items::{Base, Function, Item};
@@ -48,8 +47,8 @@ pub fn named(text: &mut Text, mark: &[u8], rule: Rule) -> Result<(), Memory>
     ensures { OnOk result (text.new.bytes.items ≡ text.old.bytes.items ++ (mark.now ++ rule_name rule)) }
 {
     text.push(mark)?;
-    text.push(&[letter(rule)])?;
-    text.number(number(rule))
+    text.push(&[rule.letter()])?;
+    text.number(u64::from(rule.number()))
 }
 
 /// The names of the rules at a node, or `-`.

@@ -9,13 +9,14 @@ mod form;
 pub mod laws;
 mod lines;
 mod mark;
-mod rule_names;
 mod slot;
 mod text;
 mod trees;
 mod walk;
+mod workings;
 mod writing;
 
 pub use bc_rules_defs::Entry;
 pub use cert_fault::CertFault;
-pub use writing::write_cert;
+pub use workings::Workings;
+pub use writing::{write_cert, write_worked};

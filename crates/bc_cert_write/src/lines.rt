@@ -18,7 +18,8 @@ use bc_word::Memory;
 /// The `E` line.
 #[tactic(auto, using(crate::proofs::Joined::of_five))]
 pub fn entry_line(text: &mut Text, entry: &Entry, words: u64) -> Result<(), Memory>
-    ensures { OnOk result (text.new.bytes.items ≡ text.old.bytes.items ++ text_of_entry entry.now.segment entry.now.item entry.now.target entry.now.first words) }
+    ensures { OnOk result (text.new.bytes.items ≡ text.old.bytes.items
+        ++ text_of_entry entry.now.segment entry.now.item entry.now.target entry.now.first words) }
 {
     text.lettered(b"E ", entry.segment)?;
     text.lettered(b" ", entry.item)?;

@@ -21,6 +21,13 @@ impl Text {
         }
     }
 
+    /// Takes all of the text away, and keeps its room for the next.
+    pub fn clear(&mut self)
+        ensures { self.new.bytes.items ≡ [] }
+    {
+        self.bytes.clear();
+    }
+
     /// Adds bytes.
     pub fn push(&mut self, bytes: &[u8]) -> Result<(), Memory>
         ensures { OnOk result (self.new.bytes.items ≡ self.old.bytes.items ++ bytes.now) }
@@ -28,8 +35,19 @@ impl Text {
         Ok(self.bytes.extend_from_slice(bytes)?)
     }
 
-    /// Adds a number in decimal digits.
+    /// Adds a number in decimal digits. Most numbers of a certificate have one digit, which is put there at once.
+    #[tactic(auto, using(std::proofs::lemmas::Fmt::decimal_digit))]
     pub fn number(&mut self, number: u64) -> Result<(), Memory>
+        ensures { OnOk result (self.new.bytes.items ≡ self.old.bytes.items ++ decimal number) }
+    {
+        if number < 10 {
+            return Ok(self.bytes.push(b'0' + number as u8)?);
+        }
+        self.digits(number)
+    }
+
+    /// Adds a number of any size.
+    fn digits(&mut self, number: u64) -> Result<(), Memory>
         ensures { OnOk result (self.new.bytes.items ≡ self.old.bytes.items ++ decimal number) }
     {
         let mut buffer = Buffer::new();
@@ -45,9 +63,9 @@ impl Text {
     }
 
     /// The bytes.
-    pub fn into_bytes(self) -> Vec<u8>
-        ensures { result.items ≡ self.bytes.items }
+    pub fn as_slice(&self) -> &[u8]
+        ensures { result.now ≡ self.now.bytes.items }
     {
-        self.bytes
+        self.bytes.as_slice()
     }
 }

@@ -47,7 +47,9 @@ fn pair(
     marks: &mut Vec<Mark>,
 ) -> Result<(), Memory>
     requires { level + 2 * (1 + nodes_in (exp a.now) + nodes_in (exp b.now)) ≤ 2 ^ 40 }
-    ensures { OnOk result (marks.new.items ≡ marks.old.items ++ (whole_with mark (exp a.now) (level + 1) (placed (left_slot (is_zero_of (exp b.now))) (tree_of own.entry)) ++ whole_with mark (exp b.now) (level + 1) (placed (right_slot (is_zero_of (exp b.now))) (tree_of own.entry)))) }
+    ensures { OnOk result (marks.new.items ≡ marks.old.items
+        ++ (whole_with mark (exp a.now) (level + 1) (placed (left_slot (is_zero_of (exp b.now))) (tree_of own.entry))
+        ++ whole_with mark (exp b.now) (level + 1) (placed (right_slot (is_zero_of (exp b.now))) (tree_of own.entry)))) }
 {
     let zero = is_zero(b);
     let other = own;
@@ -66,7 +68,10 @@ fn triple(
     marks: &mut Vec<Mark>,
 ) -> Result<(), Memory>
     requires { level + 2 * (1 + nodes_in (exp c.now) + nodes_in (exp x.now) + nodes_in (exp y.now)) ≤ 2 ^ 40 }
-    ensures { OnOk result (marks.new.items ≡ marks.old.items ++ ((whole_with mark (exp c.now) level (placed only_slot (tree_of own.entry)) ++ whole_with mark (exp x.now) level (placed this_slot (tree_of own.entry))) ++ whole_with mark (exp y.now) level (placed that_slot (tree_of own.entry)))) }
+    ensures { OnOk result (marks.new.items ≡ marks.old.items
+        ++ ((whole_with mark (exp c.now) level (placed only_slot (tree_of own.entry))
+        ++ whole_with mark (exp x.now) level (placed this_slot (tree_of own.entry)))
+        ++ whole_with mark (exp y.now) level (placed that_slot (tree_of own.entry)))) }
 {
     let second = own;
     let third = own;
@@ -102,7 +107,10 @@ fn call(
     marks: &mut Vec<Mark>,
 ) -> Result<(), Memory>
     requires { level + 2 * (1 + nodes_of_args (args arguments.now) + nodes_in (exp routine.now)) ≤ 2 ^ 40 }
-    ensures { OnOk result (marks.new.items ≡ marks.old.items ++ (all_with mark (args arguments.now) (level + 2) (derivations trees.now) ++ whole_with mark (exp routine.now) (level + 2 + count (args arguments.now)) (first (behind_arguments (args arguments.now) (derivations trees.now))))) }
+    ensures { OnOk result (marks.new.items ≡ marks.old.items
+        ++ (all_with mark (args arguments.now) (level + 2) (derivations trees.now)
+        ++ whole_with mark (exp routine.now) (level + 2 + count (args arguments.now))
+        (first (behind_arguments (args arguments.now) (derivations trees.now))))) }
 {
     let count = arguments.len();
     all(arguments, level + 2, trees, marks)?;
@@ -180,20 +188,27 @@ fn sides(
     marks: &mut Vec<Mark>,
 ) -> Result<(), Memory>
     requires { level + 2 * (nodes_in (exp value_side.now) + nodes_in (exp address_side.now)) ≤ 2 ^ 40 }
-    ensures { OnOk result (marks.new.items ≡ marks.old.items ++ (whole_with mark (exp value_side.now) level (placed value_slot (Some (derivation tree.now))) ++ whole_with mark (exp address_side.now) level (placed address_slot (Some (derivation tree.now))))) }
+    ensures { OnOk result (marks.new.items ≡ marks.old.items
+        ++ (whole_with mark (exp value_side.now) level (placed value_slot (Some (derivation tree.now)))
+        ++ whole_with mark (exp address_side.now) level (placed address_slot (Some (derivation tree.now))))) }
 {
     lay(value_side, level, value(tree), marks)?;
     lay(address_side, level, address(tree), marks)
 }
 
-/// The nodes of a root, with the rules of its tree.
+/// The nodes of a root, with the rules of its tree. There is room for so many from the start.
 ///
 /// `Memory` comes where an allocation was refused.
-pub fn marks_of(alloc: Global, root: &Root, tree: &Derivation) -> Result<Vec<Mark>, Memory>
+pub fn marks_of(
+    alloc: Global,
+    root: &Root,
+    tree: &Derivation,
+    room: usize,
+) -> Result<Vec<Mark>, Memory>
     requires { root_nodes (root_of root.now) ≤ 2 ^ 32 }
     ensures { IfOk result (λ marks. marks.items ≡ root_with mark (root_of root.now) (derivation tree.now)) }
 {
-    let mut marks = Vec::new(alloc);
+    let mut marks = Vec::with_capacity(alloc, room)?;
     match root {
         Root::Value { level, expression } => {
             lay(expression, u64::from(*level), Some(tree), &mut marks)?

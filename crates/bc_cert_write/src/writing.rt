@@ -1,17 +1,22 @@
 //! Writing a certificate.
 
 ghost use Rattle.std.specs.Prelude.{◌≡◌, List, OnOk, IfOk, IfErr, map};
+ghost use Rattle.std.specs.List.{AllZip};
 ghost use Rattle.std.specs.Io.KnownBytes.{Appends};
 ghost use Rattle.bc_text.specs.Printed.{AppendsFront};
 ghost use Rattle.bc_rules_defs.specs.View.{entry as entry_seen};
-ghost use Rattle.bc_cert_defs.specs.Text.{end_line};
+ghost use Rattle.bc_rules_defs.specs.declared.rule.Table.TheVariants.{Two};
+ghost use Rattle.bc_cert_defs.specs.Text.{header_line, end_line};
 ghost use Rattle.bc_cert_write.specs.Certificate.{Derived, entry_of, certificate};
+ghost use Rattle.bc_cert_write.specs.Workings.{WorkedOut};
 ghost use Rattle.bc_cert_write.specs.declared.cert_fault.CertFault.TheVariants as faults;
 
 use crate::cert_fault::CertFault;
 use crate::entry_text::entry_text;
 use crate::text::Text;
+use crate::workings::{Workings, workings_of};
 use bc_rules_defs::Entry;
+use bc_word::Memory;
 use std::alloc::Global;
 use std::io::Write;
 
@@ -24,27 +29,63 @@ use std::io::Write;
 /// refused, where an offset or a label in the code of an entry would be over 65,535, and where a root has more than 2^32
 /// nodes. After either the writer has taken a front of the text.
 pub fn write_cert<W: Write>(alloc: Global, entries: &[Entry], out: &mut W) -> Result<(), CertFault>
-    ensures written { (ds : List Derived) → map entry_seen entries.now ≡ map entry_of ds → OnOk result (Appends (W.contents out.old) (W.contents out.new) (certificate ds)) }
-    ensures front { (ds : List Derived) → map entry_seen entries.now ≡ map entry_of ds → AppendsFront (W.contents out.old) (W.contents out.new) (certificate ds) }
+    ensures written { (ds : List Derived) → map entry_seen entries.now ≡ map entry_of ds
+        → OnOk result (Appends (W.contents out.old) (W.contents out.new) (certificate ds)) }
+    ensures front { (ds : List Derived) → map entry_seen entries.now ≡ map entry_of ds → AppendsFront (W.contents out.old) (W.contents out.new)
+        (certificate ds) }
 {
-    put(out, b"BCPLCERT 2\n")?;
+    begin(out)?;
+    let mut text = Text::new(alloc);
     for entry in entries {
-        let text = entry_text(alloc, entry)?;
+        let workings = workings_of(alloc, entry)?;
+        entry_text(alloc, entry, &workings, &mut text)?;
         put(out, text.as_slice())?;
     }
-    let text = last_line(alloc, entries.len() as u64)?;
+    last_line(&mut text, entries.len() as u64)?;
     put(out, text.as_slice())
 }
 
-/// The last line of a certificate.
-fn last_line(alloc: Global, entries: u64) -> Result<Vec<u8>, CertFault>
-    ensures { IfOk result (λ text. text.items ≡ end_line entries) }
+/// The same, with the workings of the entries, which whoever chose the derivations has: the n-th are those of the n-th
+/// entry.
+pub fn write_worked<W: Write>(
+    alloc: Global,
+    entries: &[Entry],
+    workings: &[Workings],
+    out: &mut W,
+) -> Result<(), CertFault>
+    requires { AllZip WorkedOut (map entry_seen entries.now) workings.now }
+    ensures written { (ds : List Derived) → map entry_seen entries.now ≡ map entry_of ds
+        → OnOk result (Appends (W.contents out.old) (W.contents out.new) (certificate ds)) }
+    ensures front { (ds : List Derived) → map entry_seen entries.now ≡ map entry_of ds → AppendsFront (W.contents out.old) (W.contents out.new)
+        (certificate ds) }
 {
+    begin(out)?;
     let mut text = Text::new(alloc);
+    for (i, entry) in entries.iter().enumerate() {
+        entry_text(alloc, entry, &workings[i], &mut text)?;
+        put(out, text.as_slice())?;
+    }
+    last_line(&mut text, entries.len() as u64)?;
+    put(out, text.as_slice())
+}
+
+/// Hands the writer the first line.
+fn begin<W: Write>(out: &mut W) -> Result<(), CertFault>
+    ensures written { OnOk result (Appends (W.contents out.old) (W.contents out.new) (header_line Two)) }
+    ensures front { AppendsFront (W.contents out.old) (W.contents out.new) (header_line Two) }
+    ensures fault { IfErr result (λ fault. fault ≡ faults.Write) }
+{
+    put(out, b"BCPLCERT 2\n")
+}
+
+/// The last line of a certificate, in the place of what the text was.
+fn last_line(text: &mut Text, entries: u64) -> Result<(), Memory>
+    ensures { OnOk result (text.new.bytes.items ≡ end_line entries) }
+{
+    text.clear();
     text.push(b"Z ")?;
     text.number(entries)?;
-    text.push(b"\n")?;
-    Ok(text.into_bytes())
+    text.push(b"\n")
 }
 
 /// Hands the writer all of the bytes, or what it takes of them.

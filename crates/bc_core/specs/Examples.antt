@@ -169,7 +169,8 @@ prints_and_divides = refl
 missing_argument : run_with (routine None 2 (Gives (at 2)) ∷ []) [] (commands (print (call (Place 2) (Num 66 ∷ [])) ∷ [])) 100 ≡ printed (66 ∷ [])
 missing_argument = refl
 
-extra_argument : run_with (routine None 2 (Gives (at 2)) ∷ []) [] (commands (print (call (Place 2) (Num 66 ∷ Num 67 ∷ Num 68 ∷ [])) ∷ [])) 100 ≡ printed (66 ∷ [])
+extra_argument : run_with (routine None 2 (Gives (at 2)) ∷ []) [] (commands (print (call (Place 2) (Num 66 ∷ Num 67 ∷ Num 68 ∷ [])) ∷ [])) 100
+    ≡ printed (66 ∷ [])
 extra_argument = refl
 
 -- F(X,Y) = Y with one argument reads an unset cell
@@ -189,7 +190,12 @@ wild_call = refl
 -- `LET X = 0`; WRCH('0' + VALOF $( X := X+1; IF X = 3 RESULTIS X $) REPEAT)
 valof_in_loop :
     run_with []
-    (record { level = 6; body = commands (c.Repeat (commands (set_to 2 (Bin Add (at 2) (Num 1)) ∷ c.If true (Bin Equal (at 2) (Num 3)) (commands (c.ResultIs (at 2) ∷ [])) ∷ [])) ∷ []) } ∷ [])
+    (record {
+      level = 6;
+      body = commands
+          (c.Repeat (commands (set_to 2 (Bin Add (at 2) (Num 1)) ∷ c.If true (Bin Equal (at 2) (Num 3)) (commands (c.ResultIs (at 2) ∷ [])) ∷ [])) ∷ []);
+    }
+    ∷ [])
     (let_in (Initial (Num 0) ∷ []) (print_digit (Valof 0) ∷ [])) 100 ≡ printed (51 ∷ [])
 valof_in_loop = refl
 
@@ -205,7 +211,8 @@ while_loop : run (let_in (Initial (Num 2) ∷ []) (c.While true (at 2) (commands
 while_loop = refl
 
 -- `LET X = 0`; $( print X; X := X+1 $) REPEATWHILE X < 2
-repeat_while : run (let_in (Initial (Num 0) ∷ []) (c.RepeatWhile (commands (print_digit (at 2) ∷ set_to 2 (Bin Add (at 2) (Num 1)) ∷ [])) true (Bin Less (at 2) (Num 2)) ∷ [])) ≡ printed (48 ∷ 49 ∷ [])
+repeat_while : run (let_in (Initial (Num 0) ∷ []) (c.RepeatWhile (commands (print_digit (at 2) ∷ set_to 2 (Bin Add (at 2) (Num 1)) ∷ [])) true
+    (Bin Less (at 2) (Num 2)) ∷ [])) ≡ printed (48 ∷ 49 ∷ [])
 repeat_while = refl
 
 abbrev for_loop : ℕ → ℕ → ℕ → List Command → Result
@@ -227,13 +234,15 @@ for_changed = refl
 
 -- IF I = 2 DO LOOP; IF I = 4 DO BREAK; print I
 break_and_loop :
-    for_loop 1 9 1 (c.If true (Bin Equal (at 2) (Num 2)) (commands (c.Loop ∷ [])) ∷ c.If true (Bin Equal (at 2) (Num 4)) (commands (c.Break ∷ [])) ∷ print_digit (at 2) ∷ []) ≡ printed (49 ∷ 51 ∷ [])
+    for_loop 1 9 1 (c.If true (Bin Equal (at 2) (Num 2)) (commands (c.Loop ∷ [])) ∷ c.If true (Bin Equal (at 2) (Num 4)) (commands (c.Break ∷ []))
+    ∷ print_digit (at 2) ∷ []) ≡ printed (49 ∷ 51 ∷ [])
 break_and_loop = refl
 
 -- SWITCHON v INTO $( CASE 1: WRCH('A'); CASE 2: WRCH('B'); ENDCASE; CASE 3: WRCH('C') $)
 abbrev switch_on : ℕ → Items → Result
 switch_on v rest =
-    run (commands (c.SwitchOn (Num v) (case 1 (command (print (Num 65)) (case 2 (command (print (Num 66)) (command c.EndCase (case 3 (command (print (Num 67)) rest))))))) ∷ []))
+    run (commands (c.SwitchOn (Num v)
+    (case 1 (command (print (Num 65)) (case 2 (command (print (Num 66)) (command c.EndCase (case 3 (command (print (Num 67)) rest))))))) ∷ []))
 
 falls_through : switch_on 1 no_item ≡ printed (65 ∷ 66 ∷ [])
 falls_through = refl
@@ -253,7 +262,8 @@ vector = refl
 
 -- FOR I = 1 TO 2 DO $( LET V = VEC 0; IF I = 2 DO print !V; !V := 65 $)
 unset_anew :
-    run (commands (c.For (Num 1) (Num 2) 1 (let_in (Vector 0 ∷ []) (c.If true (Bin Equal (at 2) (Num 2)) (commands (print (Load (at 4)) ∷ [])) ∷ c.Assign (Num 65) (at 4) ∷ [])) ∷ [])) ≡ Wild
+    run (commands (c.For (Num 1) (Num 2) 1
+    (let_in (Vector 0 ∷ []) (c.If true (Bin Equal (at 2) (Num 2)) (commands (print (Load (at 4)) ∷ [])) ∷ c.Assign (Num 65) (at 4) ∷ [])) ∷ [])) ≡ Wild
 unset_anew = refl
 
 -- the cell of a block that was left is dead: `$( LET X = 1; P := @X $); print !P`
@@ -266,7 +276,9 @@ goes_on = refl
 
 -- LET I = 0; L: I := I+1; IF I<3 GOTO L; print I
 goto_backward :
-    run (block ((Initial (Num 0) ∷ []) ∷ []) (label 0 (list (set_to 2 (Bin Add (at 2) (Num 1)) ∷ c.If true (Bin Less (at 2) (Num 3)) (commands (c.Goto 0 ∷ [])) ∷ print_digit (at 2) ∷ [])))) ≡ printed (51 ∷ [])
+    run (block ((Initial (Num 0) ∷ []) ∷ [])
+    (label 0 (list (set_to 2 (Bin Add (at 2) (Num 1)) ∷ c.If true (Bin Less (at 2) (Num 3)) (commands (c.Goto 0 ∷ [])) ∷ print_digit (at 2) ∷ []))))
+    ≡ printed (51 ∷ [])
 goto_backward = refl
 
 -- WRCH(RDCH()) twice over the input `h`, and then at its end, where RDCH gives -1
@@ -276,7 +288,8 @@ echo = print (call (Load (Glob 13)) [])
 reads_input :
     (let core : Core = record { places = routine (Some 1) 0 (Does (commands (echo ∷ echo ∷ []))) ∷ []; valofs = [] } in
     let program = placed (core ∷ []) ((λ label. 545 + label) ∷ []) in
-    meaning_over (cells_from 590 0 (standing program)) (entered_at program) 560 (start_streams ((73 ∷ [], 104 ∷ []) ∷ []) ((79 ∷ []) ∷ [])) 100) ≡ printed (104 ∷ 255 ∷ [])
+    meaning_over (cells_from 590 0 (standing program)) (entered_at program) 560 (start_streams ((73 ∷ [], 104 ∷ []) ∷ []) ((79 ∷ []) ∷ [])) 100)
+    ≡ printed (104 ∷ 255 ∷ [])
 reads_input = refl
 
 -- FINDOUTPUT("O") is 1, FINDOUTPUT("P") is 0
@@ -297,11 +310,19 @@ no_turns = refl
 -- Frames, data and what is well formed
 
 -- `LET A,B = 1,2; A := A+B`: the frame has 6 cells
-frame_of_sum : frame_size [] (record { global = None; parameters = 0; body = Does (let_in (Initial (Num 1) ∷ Initial (Num 2) ∷ []) (set_to 2 (Bin Add (at 2) (at 3)) ∷ [])) }) ≡ 6
+frame_of_sum : frame_size [] (record {
+  global = None;
+  parameters = 0;
+  body = Does (let_in (Initial (Num 1) ∷ Initial (Num 2) ∷ []) (set_to 2 (Bin Add (at 2) (at 3)) ∷ []));
+}) ≡ 6
 frame_of_sum = refl
 
 -- `FOR I = 1 TO 3 DO WRCH(I)`: the frame has 7 cells
-frame_of_for : frame_size [] (record { global = None; parameters = 0; body = Does (commands (c.For (Num 1) (Num 3) 1 (commands (print (at 2) ∷ [])) ∷ [])) }) ≡ 7
+frame_of_for : frame_size [] (record {
+  global = None;
+  parameters = 0;
+  body = Does (commands (c.For (Num 1) (Num 3) 1 (commands (print (at 2) ∷ [])) ∷ []));
+}) ≡ 7
 frame_of_for = refl
 
 -- `LET V = VEC 32764` just fits

@@ -1,6 +1,6 @@
 -- What every section keeps: its labels, numbers and jump targets exist, and its frames and roots are no larger
 -- than allowed.
-use Rattle.std.specs.Prelude.{ℕ, ◌+◌, ◌==◌, ◌&&◌, ◌||◌, not, nat_le, nat_lt, Bool, true, false, List, [], ◌∷◌, ◌++◌, map, length, slice_get, Option, Some, None}
+use Rattle.std.specs.Prelude.{ℕ, suc, ◌+◌, ◌==◌, ◌&&◌, ◌||◌, not, nat_le, nat_lt, Bool, true, false, List, [], ◌∷◌, ◌++◌, map, length, slice_get, Option, Some, None}
 use Rattle.bc_core.specs.Tree.{Exp, Frame, Glob, Place, Load, Neg, Not, Bin, Cond, Call, Args, no_argument, argument, count}
 use Rattle.bc_core.specs.Tree as tree
 use Rattle.bc_core.specs.Commands.{Variable, Initial, Vector, Command, Block, block, Items, no_item, command, case, default, label, Routine, Body, Gives, Does, Code, Text, Valof, Core}
@@ -109,6 +109,25 @@ has_entries (case k is) = true
 has_entries (default is) = true
 has_entries (label l is) = has_entries is
 
+-- the values of the CASEs in a list, in order, and how many DEFAULTs it has
+abbrev pub cases_of : Items → List ℕ
+cases_of no_item = []
+cases_of (command c is) = cases_of is
+cases_of (case v is) = v ∷ cases_of is
+cases_of (default is) = cases_of is
+cases_of (label l is) = cases_of is
+
+abbrev pub defaults_in : Items → ℕ
+defaults_in no_item = 0
+defaults_in (command c is) = defaults_in is
+defaults_in (case v is) = defaults_in is
+defaults_in (default is) = suc (defaults_in is)
+defaults_in (label l is) = defaults_in is
+
+-- no CASE stands twice in a list, and no second DEFAULT
+abbrev pub entries_differ : Items → Bool
+entries_differ is = are_distinct (cases_of is) && nat_le (defaults_in is) 1
+
 abbrev mutual
   pub command_fits : Around → Jumps → Command → ℕ → Bool
   command_fits A J (commands.Call e) s = root_fits A e s
@@ -122,7 +141,7 @@ abbrev mutual
       let s1 = level_in_for s in
       assignment_fits A start (Frame s) s1 && assignment_fits A limit (Frame (s + 1)) s1 && block_fits A (in_a_loop J) b s1
   command_fits A J (commands.SwitchOn e is) s =
-      root_fits A e s && are_distinct (labels_of is) && items_fit A (in_list is (record J { in_cases = true })) is s
+      root_fits A e s && are_distinct (labels_of is) && entries_differ is && items_fit A (in_list is (record J { in_cases = true })) is s
   command_fits A J commands.Break s = J.in_loop
   command_fits A J commands.Loop s = J.in_loop
   command_fits A J commands.EndCase s = J.in_cases

@@ -46,6 +46,15 @@ gotos : (list_fits (label 0 (command (c.Goto 0) no_item)) ≡ true) × (list_fit
     × (list_fits (command (c.Goto 0) no_item) ≡ false) × (list_fits (command (c.Nested (block [] (label 0 no_item))) (command (c.Goto 0) no_item)) ≡ false)
 gotos = (refl, refl, refl, refl)
 
+-- a CASE twice in one list, or a second DEFAULT; in the list of a SWITCHON within it they may stand again
+abbrev entries_fit : Items → Bool
+entries_fit is = fits (c.SwitchOn (Num 1) is)
+
+entries : (entries_fit (case 1 (case 2 (default no_item))) ≡ true) × (entries_fit (case 1 (case 1 no_item)) ≡ false)
+    × (entries_fit (default (case 1 (default no_item))) ≡ false)
+    × (entries_fit (case 1 (default (command (c.SwitchOn (Num 2) (case 1 (default no_item))) no_item))) ≡ true)
+entries = (refl, refl, refl, refl)
+
 -- in the list of a SWITCHON too; not out of a VALOF
 goto_in_cases : fits (c.SwitchOn (Num 1) (label 0 (command (c.Goto 0) no_item))) ≡ true
 goto_in_cases = refl
@@ -60,8 +69,8 @@ labels : (list_fits (label 0 (label 1 no_item)) ≡ true) × (list_fits (label 0
 labels = (refl, refl, refl)
 
 -- CASE and DEFAULT in the list of a SWITCHON alone
-entries : (fits (c.SwitchOn (Num 1) (case 1 (default no_item))) ≡ true) × (list_fits (case 1 no_item) ≡ false) × (list_fits (default no_item) ≡ false)
-entries = (refl, refl, refl)
+entries_of_switch : (fits (c.SwitchOn (Num 1) (case 1 (default no_item))) ≡ true) × (list_fits (case 1 no_item) ≡ false) × (list_fits (default no_item) ≡ false)
+entries_of_switch = (refl, refl, refl)
 
 -- globals 0 to 511; places 1 to how many there are: here START alone
 globals : (fits (c.Call (Load (Glob 511))) ≡ true) × (fits (c.Call (Load (Glob 512))) ≡ false)

@@ -4,7 +4,7 @@ use Rattle.bc_core.specs.View.{root}
 use Rattle.bc_rules_defs.specs.View.{derivation}
 use Rattle.bc_gen_defs.specs.Entries.{Marked, Plain, Begins}
 use Rattle.bc_gen_defs.specs.Entries as entries
-use Rattle.bc_gen.specs.declared.parts.Mark.{Mark}
+use Rattle.bc_gen.specs.declared.mark.Mark.{Mark}
 use Rattle.bc_gen.specs.declared.parts.Part.{Part}
 use Rattle.bc_gen.specs.declared.parts.Part.TheVariants as variants
 

@@ -1,28 +1,44 @@
 //! The choice of each root's code.
 ghost use Rattle.std.specs.Prelude.{◌≡◌, ◌+◌, ◌≤◌, IfOk, IfSome};
+ghost use Rattle.std.specs.List.{AllZip};
 ghost use Rattle.bc_core.specs.View.{root as root_view};
 ghost use Rattle.bc_rules_defs.specs.View.{derivation as derivation_view};
+ghost use Rattle.bc_rules.specs.Code.{IsCodeOf};
+ghost use Rattle.bc_select_defs.specs.Nodes.{root_in_order};
+ghost use Rattle.bc_select.specs.Rows.{IsRowOf};
 ghost use Rattle.bc_gen.specs.Chosen.{coding};
 ghost use Rattle.bc_gen.specs.Writing.{IsNext};
 
 use bc_core::Root;
 use bc_rules::{code_of, next_label};
 use bc_rules_defs::{Derivation, Piece};
-use bc_select::{is_selectable, select};
+use bc_select::{Row, is_selectable, select};
 use bc_word::Memory;
 use std::alloc::Global;
 
-/// A root's derivation of least words.
+/// A root's derivation of least words, with the rows of the root's nodes.
+#[derive(Drop)]
+pub(crate) struct Choice {
+    pub(crate) derivation: Derivation,
+    pub(crate) rows: Vec<Row>,
+}
+
+/// A root's derivation of least words, with the rows of the root's nodes.
 ///
 /// No root of a section has more than 2^20 nodes.
 #[tactic(auto, using(crate::proofs::Choosing::derivation_is))]
-pub(crate) fn chosen(alloc: Global, root: &Root) -> Result<Derivation, Memory>
-    ensures { IfOk result (λ d. derivation_view d ≡ coding.derivation (root_view root.now)) }
+pub(crate) fn chosen(alloc: Global, root: &Root) -> Result<Choice, Memory>
+    ensures derivation { IfOk result (λ c. derivation_view c.derivation ≡ coding.derivation (root_view root.now)) }
+    ensures rows { IfOk result (λ c. AllZip IsRowOf (root_in_order (root_view root.now)) c.rows.items) }
 {
     if !is_selectable(root) {
         return Err(Memory);
     }
-    Ok(select(alloc, root)?.derivation)
+    let selected = select(alloc, root)?;
+    Ok(Choice {
+        derivation: selected.derivation,
+        rows: selected.table,
+    })
 }
 
 /// The label behind those of a derivation, the first of which is this one; none where one is no word.
@@ -44,7 +60,8 @@ pub(crate) fn pieces_of(
     first: u16,
 ) -> Result<Vec<Piece>, Memory>
     requires { derivation_view derivation.now ≡ coding.derivation (root_view root.now) }
-    ensures { IfOk result (λ pieces. pieces.items ≡ coding.pieces (root_view root.now) target first) }
+    ensures chosen { IfOk result (λ pieces. pieces.items ≡ coding.pieces (root_view root.now) target first) }
+    ensures code { IfOk result (λ pieces. IsCodeOf (root_view root.now) (derivation_view derivation.now) target first pieces.items) }
 {
     code_of(alloc, root, derivation, target, first)
 }

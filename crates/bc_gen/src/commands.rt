@@ -180,7 +180,9 @@ impl Writer {
         condition: &Condition,
         body: &Block,
     ) -> Result<(), GenError>
-        ensures { Writes result self.old self.new (emit Plain (roots_in around.now) (forms.If condition.now.sense (exp condition.now.test) (block_of body.now)) level (exits_of around.now) self.old.next) }
+        ensures { Writes result self.old self.new
+            (emit Plain (roots_in around.now) (forms.If condition.now.sense (exp condition.now.test) (block_of body.now)) level
+            (exits_of around.now) self.old.next) }
     {
         let past = self.take(1)?;
         self.test(around, level, !condition.sense, &condition.test, past)?;
@@ -197,7 +199,9 @@ impl Writer {
         this: &Block,
         that: &Block,
     ) -> Result<(), GenError>
-        ensures { Writes result self.old self.new (emit Plain (roots_in around.now) (forms.Test (exp test.now) (block_of this.now) (block_of that.now)) level (exits_of around.now) self.old.next) }
+        ensures { Writes result self.old self.new
+            (emit Plain (roots_in around.now) (forms.Test (exp test.now) (block_of this.now) (block_of that.now)) level
+            (exits_of around.now) self.old.next) }
     {
         let other = self.take(1)?;
         let past = self.take(1)?;
@@ -217,7 +221,9 @@ impl Writer {
         condition: &Condition,
         body: &Block,
     ) -> Result<(), GenError>
-        ensures { Writes result self.old self.new (emit Plain (roots_in around.now) (forms.While condition.now.sense (exp condition.now.test) (block_of body.now)) level (exits_of around.now) self.old.next) }
+        ensures { Writes result self.old self.new
+            (emit Plain (roots_in around.now) (forms.While condition.now.sense (exp condition.now.test) (block_of body.now)) level
+            (exits_of around.now) self.old.next) }
     {
         let again = self.take(1)?;
         let past = self.take(1)?;
@@ -230,7 +236,8 @@ impl Writer {
 
     #[cycle(commands)]
     fn repeat(&mut self, around: &Around<'_>, level: u16, body: &Block) -> Result<(), GenError>
-        ensures { Writes result self.old self.new (emit Plain (roots_in around.now) (forms.Repeat (block_of body.now)) level (exits_of around.now) self.old.next) }
+        ensures { Writes result self.old self.new
+            (emit Plain (roots_in around.now) (forms.Repeat (block_of body.now)) level (exits_of around.now) self.old.next) }
     {
         let again = self.take(1)?;
         let past = self.take(1)?;
@@ -248,7 +255,9 @@ impl Writer {
         body: &Block,
         condition: &Condition,
     ) -> Result<(), GenError>
-        ensures { Writes result self.old self.new (emit Plain (roots_in around.now) (forms.RepeatWhile (block_of body.now) condition.now.sense (exp condition.now.test)) level (exits_of around.now) self.old.next) }
+        ensures { Writes result self.old self.new
+            (emit Plain (roots_in around.now) (forms.RepeatWhile (block_of body.now) condition.now.sense (exp condition.now.test)) level
+            (exits_of around.now) self.old.next) }
     {
         let again = self.take(1)?;
         let past = self.take(1)?;
@@ -270,7 +279,9 @@ impl Writer {
         by: Word,
         body: &Block,
     ) -> Result<(), GenError>
-        ensures { Writes result self.old self.new (emit Plain (roots_in around.now) (forms.For (exp start.now) (exp limit.now) by (block_of body.now)) offset (exits_of around.now) self.old.next) }
+        ensures { Writes result self.old self.new
+            (emit Plain (roots_in around.now) (forms.For (exp start.now) (exp limit.now) by (block_of body.now)) offset
+            (exits_of around.now) self.old.next) }
     {
         let again = self.take(1)?;
         let past = self.take(1)?;
@@ -299,7 +310,8 @@ impl Writer {
         value: &CoreExp,
         list: &[ListItem],
     ) -> Result<(), GenError>
-        ensures { Writes result self.old self.new (emit Plain (roots_in around.now) (forms.SwitchOn (exp value.now) (items_view list.now)) level (exits_of around.now) self.old.next) }
+        ensures { Writes result self.old self.new (emit Plain (roots_in around.now) (forms.SwitchOn (exp value.now) (items_view list.now)) level
+            (exits_of around.now) self.old.next) }
     {
         let past = self.take(1)?;
         let found = self.case_labels(list, past)?;
@@ -335,7 +347,8 @@ impl Writer {
 
     #[cycle(commands)]
     fn resultis(&mut self, around: &Around<'_>, level: u16, value: &CoreExp) -> Result<(), GenError>
-        ensures { Writes result self.old self.new (emit Plain (roots_in around.now) (forms.ResultIs (exp value.now)) level (exits_of around.now) self.old.next) }
+        ensures { Writes result self.old self.new
+            (emit Plain (roots_in around.now) (forms.ResultIs (exp value.now)) level (exits_of around.now) self.old.next) }
     {
         self.value(around, level, value)?;
         self.jump(around.resulted)
@@ -416,7 +429,8 @@ impl Writer {
         level: u16,
         item: &ListItem,
     ) -> Result<(), GenError>
-        ensures { Writes result self.old self.new (emit_items Plain (roots_in around.now) (items_before item.now forms.no_item) level (exits_of around.now) self.old.next) }
+        ensures { Writes result self.old self.new (emit_items Plain (roots_in around.now) (items_before item.now forms.no_item) level
+            (exits_of around.now) self.old.next) }
     {
         match item {
             ListItem::Command(command) => self.command(around, level, command),

@@ -1,9 +1,11 @@
 //! The items of a section.
 ghost use Rattle.std.specs.Prelude.{◌≡◌, ◌++◌, ◌∷◌, ◌≤◌, IfOk, IfErr, map, length};
+ghost use Rattle.std.specs.List.{AllZip};
 ghost use Rattle.bc_text_items.specs.declared.item.Item.TheVariants as item;
 ghost use Rattle.bc_core.specs.Level.{level_behind_parameters};
 ghost use Rattle.bc_core.specs.View.{body_of, place_of, section};
 ghost use Rattle.bc_rules_defs.specs.View.{entry as entry_view};
+ghost use Rattle.bc_cert_write.specs.Workings.{WorkedOut};
 ghost use Rattle.bc_gen_defs.specs.Bodies.{body_exits, emit_body};
 ghost use Rattle.bc_gen_defs.specs.Entries.{Plain, section_entries};
 ghost use Rattle.bc_gen_defs.specs.Section.{emit_routines, data_items, setting, setting_items, section_items, labels_suffice};
@@ -14,8 +16,9 @@ ghost use Rattle.bc_gen.specs.Writing.{Writes};
 use crate::around::Around;
 use crate::commands::behind;
 use crate::gen_error::GenError;
-use crate::parts::separated;
+use crate::parts::{Apart, separated};
 use crate::writer::Writer;
+use bc_cert_write::Workings;
 use bc_core::{Body, Core, Place, Routine};
 use bc_rules_defs::Entry;
 use bc_text_items::{GlobalNumber, Item, Segment};
@@ -29,6 +32,8 @@ pub struct Generated {
     pub items: Segment,
     /// The roots in the order of their code, a root before those of its VALOFs. Their segment is 0.
     pub entries: Vec<Entry>,
+    /// What was worked out of each entry, for its certificate.
+    pub workings: Vec<Workings>,
 }
 
 /// The items of a section, with the code of least words for each root, and an entry for each root.
@@ -40,6 +45,7 @@ pub struct Generated {
 pub fn generate(alloc: Global, core: &Core) -> Result<Generated, GenError>
     ensures items { IfOk result (λ found. found.items ≡ section_items coding (section core.now)) }
     ensures entries { IfOk result (λ found. map entry_view found.entries.items ≡ section_entries coding (section core.now)) }
+    ensures worked { IfOk result (λ found. AllZip WorkedOut (map entry_view found.entries.items) found.workings.items) }
     ensures labels { IfOk result (λ _. labels_suffice coding (section core.now)) }
     ensures refused { IfErr result (λ fault. fault ≡ GenError.TooManyLabels → ¬ labels_suffice coding (section core.now)) }
 {
@@ -52,12 +58,17 @@ pub fn generate(alloc: Global, core: &Core) -> Result<Generated, GenError>
     writer.take(places.len())?;
     let around = Around::body(core.valofs(), 0, 0);
     writer.routines(&around, places)?;
-    let (mut items, entries) = separated(alloc, writer.parts)?;
+    let Apart {
+        mut items,
+        entries,
+        workings,
+    } = separated(alloc, writer.parts)?;
     put_data(&mut items, places)?;
     put_settings(&mut items, places)?;
     Ok(Generated {
         items: Segment::new(items),
         entries,
+        workings,
     })
 }
 
@@ -81,7 +92,8 @@ impl Writer {
 
     fn routine(&mut self, around: &Around<'_>, routine: &Routine) -> Result<(), GenError>
         requires { exits_of around.now ≡ body_exits 0 }
-        ensures { Writes result self.old self.new (emit_body Plain (roots_in around.now) (body_of routine.now.body) (level_behind_parameters routine.now.parameters) self.old.next) }
+        ensures { Writes result self.old self.new
+            (emit_body Plain (roots_in around.now) (body_of routine.now.body) (level_behind_parameters routine.now.parameters) self.old.next) }
     {
         let level = behind(2, routine.parameters)?;
         match &routine.body {

@@ -8,6 +8,7 @@ mod gen_error;
 mod generation;
 mod items;
 mod lists;
+mod mark;
 mod parts;
 mod roots;
 mod writer;

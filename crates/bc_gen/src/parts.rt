@@ -1,25 +1,17 @@
 //! Code with a mark where that of each root begins.
 ghost use Rattle.std.specs.Prelude.{◌≡◌, IfOk, map};
+ghost use Rattle.std.specs.List.{AllZip};
 ghost use Rattle.bc_rules_defs.specs.View.{entry as entry_view};
+ghost use Rattle.bc_cert_write.specs.Workings.{WorkedOut};
 ghost use Rattle.bc_gen_defs.specs.Entries.{plain_items, count_items as count_of, entries_from, entry_at};
 ghost use Rattle.bc_gen.specs.Parts.{mark as mark_view, parts as parts_view};
 
-use bc_core::Root;
-use bc_rules_defs::{Derivation, Entry};
+use crate::mark::Mark;
+use bc_cert_write::Workings;
+use bc_rules_defs::Entry;
 use bc_text_items::Item;
 use bc_word::Memory;
 use std::alloc::Global;
-
-/// A root with its derivation, and what its code was made with.
-#[derive(Debug, Drop)]
-pub(crate) struct Mark {
-    pub(crate) target: u16,
-    pub(crate) first: u16,
-    pub(crate) root: Root,
-    pub(crate) derivation: Derivation,
-    /// How many items the body of each of its VALOFs has, in the order of the code.
-    pub(crate) bodies: Vec<u64>,
-}
 
 /// An item, or the place where a root's code begins.
 #[derive(Debug, Drop)]
@@ -42,27 +34,48 @@ pub(crate) fn count_items(parts: &[Part]) -> u64
     count
 }
 
-/// The items, and the entries of the roots.
-pub(crate) fn separated(alloc: Global, parts: Vec<Part>) -> Result<(Vec<Item>, Vec<Entry>), Memory>
-    ensures items { IfOk result (λ r. r.0.items ≡ plain_items (parts_view parts.items)) }
-    ensures entries { IfOk result (λ r. map entry_view r.1.items ≡ entries_from 0 (parts_view parts.items)) }
+/// A section's items apart from the entries of its roots, and the workings of each entry.
+#[derive(Drop)]
+pub(crate) struct Apart {
+    pub(crate) items: Vec<Item>,
+    pub(crate) entries: Vec<Entry>,
+    pub(crate) workings: Vec<Workings>,
+}
+
+/// The items, and the entries of the roots with their workings.
+pub(crate) fn separated(alloc: Global, parts: Vec<Part>) -> Result<Apart, Memory>
+    ensures items { IfOk result (λ r. r.items.items ≡ plain_items (parts_view parts.items)) }
+    ensures entries { IfOk result (λ r. map entry_view r.entries.items ≡ entries_from 0 (parts_view parts.items)) }
+    ensures worked { IfOk result (λ r. AllZip WorkedOut (map entry_view r.entries.items) r.workings.items) }
 {
-    let mut items = Vec::new(alloc);
-    let mut entries = Vec::new(alloc);
+    let count = count_items(&parts) as usize;
+    let roots = parts.len().saturating_sub(count);
+    let mut items = Vec::with_capacity(alloc, count)?;
+    let mut entries = Vec::with_capacity(alloc, roots)?;
+    let mut workings = Vec::with_capacity(alloc, roots)?;
     for part in parts {
         match part {
             Part::Item(item) => items.push(item)?,
-            Part::Begins(mark) => entries.push(entry(items.len() as u64, Box::into_inner(mark)))?,
+            Part::Begins(mark) => {
+                let (entry, worked) = entry(items.len() as u64, Box::into_inner(mark));
+                entries.push(entry)?;
+                workings.push(worked)?;
+            }
         }
     }
-    Ok((items, entries))
+    Ok(Apart {
+        items,
+        entries,
+        workings,
+    })
 }
 
-/// The entry of a root whose code begins at this item.
-fn entry(item: u64, mark: Mark) -> Entry
-    ensures { entry_view result ≡ entry_at item (mark_view mark) }
+/// The entry of a root whose code begins at this item, and the workings of the entry.
+fn entry(item: u64, mark: Mark) -> (Entry, Workings)
+    ensures entry { entry_view result.0 ≡ entry_at item (mark_view mark) }
+    ensures worked { WorkedOut (entry_view result.0) result.1 }
 {
-    Entry {
+    let entry = Entry {
         segment: 0,
         item,
         target: mark.target,
@@ -70,5 +83,6 @@ fn entry(item: u64, mark: Mark) -> Entry
         root: mark.root,
         derivation: mark.derivation,
         bodies: mark.bodies,
-    }
+    };
+    (entry, mark.workings)
 }

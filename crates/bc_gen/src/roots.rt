@@ -9,10 +9,12 @@ ghost use Rattle.bc_gen.specs.Surroundings.{one_piece, roots_in, bodies_of, valo
 ghost use Rattle.bc_gen.specs.Writing.{Writes};
 
 use crate::around::Around;
-use crate::choice::{chosen, label_behind, pieces_of};
+use crate::choice::{Choice, chosen, label_behind, pieces_of};
 use crate::gen_error::GenError;
-use crate::parts::{Mark, Part, count_items};
+use crate::mark::Mark;
+use crate::parts::{Part, count_items};
 use crate::writer::Writer;
+use bc_cert_write::Workings;
 use bc_core::{CoreExp, Root, copy_expression};
 use bc_rules_defs::Piece;
 use bc_text_items::Item;
@@ -82,22 +84,23 @@ impl Writer {
     ) -> Result<(), GenError>
         ensures { Writes result self.old self.new (roots_in around.now (root_view root) target self.old.next) }
     {
-        let derivation = chosen(self.alloc, &root)?;
+        let Choice { derivation, rows } = chosen(self.alloc, &root)?;
         let first = self.next;
         self.take_to(label_behind(&root, &derivation, first))?;
-        let pieces = pieces_of(self.alloc, &root, &derivation, target, first)?;
+        let code = pieces_of(self.alloc, &root, &derivation, target, first)?;
         let mut filled = Writer {
             alloc: self.alloc,
-            parts: Vec::new(self.alloc),
+            parts: Vec::with_capacity(self.alloc, code.len())?,
             next: self.next,
         };
-        let bodies = filled.fill(around, &pieces)?;
+        let bodies = filled.fill(around, &code)?;
         let mark = Mark {
             target,
             first,
             root,
             derivation,
             bodies,
+            workings: Workings { rows, code },
         };
         self.parts.push(Part::Begins(Box::new(self.alloc, mark)?))?;
         self.next = filled.next;
@@ -107,8 +110,11 @@ impl Writer {
     /// The pieces of a root with the bodies of its VALOFs filled in; the result is how many items each body has.
     #[cycle(commands)]
     fn fill(&mut self, around: &Around<'_>, pieces: &[Piece]) -> Result<Vec<u64>, GenError>
-        ensures written { let x = fill_of Plain (level_of (valofs_in around.now.valofs.now)) (bodies_of (valofs_in around.now.valofs.now) around.now.least) pieces.now self.old.next in Writes result self.old self.new (x.0, x.1) }
-        ensures counts { let x = fill_of Plain (level_of (valofs_in around.now.valofs.now)) (bodies_of (valofs_in around.now.valofs.now) around.now.least) pieces.now self.old.next in IfOk result (λ bodies. bodies.items ≡ map count_of x.2) }
+        ensures written { let x = fill_of Plain (level_of (valofs_in around.now.valofs.now))
+            (bodies_of (valofs_in around.now.valofs.now) around.now.least) pieces.now self.old.next in Writes result self.old self.new (x.0, x.1) }
+        ensures counts { let x = fill_of Plain (level_of (valofs_in around.now.valofs.now))
+            (bodies_of (valofs_in around.now.valofs.now) around.now.least) pieces.now self.old.next in
+            IfOk result (λ bodies. bodies.items ≡ map count_of x.2) }
     {
         let mut bodies = Vec::new(self.alloc);
         for i in 0..pieces.len() {
@@ -127,8 +133,11 @@ impl Writer {
         label: u16,
         bodies: &mut Vec<u64>,
     ) -> Result<(), GenError>
-        ensures written { let vs = valofs_in around.now.valofs.now in let x = one_piece (level_of vs) (bodies_of vs around.now.least) piece label self.old.next in Writes result self.old self.new (x.0, x.1) }
-        ensures counts { let vs = valofs_in around.now.valofs.now in let x = one_piece (level_of vs) (bodies_of vs around.now.least) piece label self.old.next in IfOk result (λ _. bodies.new.items ≡ bodies.old.items ++ map count_of x.2) }
+        ensures written { let vs = valofs_in around.now.valofs.now in
+            let x = one_piece (level_of vs) (bodies_of vs around.now.least) piece label self.old.next in Writes result self.old self.new (x.0, x.1) }
+        ensures counts { let vs = valofs_in around.now.valofs.now in
+            let x = one_piece (level_of vs) (bodies_of vs around.now.least) piece label self.old.next in
+            IfOk result (λ _. bodies.new.items ≡ bodies.old.items ++ map count_of x.2) }
     {
         match piece {
             Piece::Item(item) => self.put(item),
@@ -142,8 +151,10 @@ impl Writer {
     /// The body of a VALOF; the result is how many items it has.
     #[cycle(commands)]
     fn body(&mut self, around: &Around<'_>, number: u64, label: u16) -> Result<u64, GenError>
-        ensures written { Writes result self.old self.new (let vs = valofs_in around.now.valofs.now in bodies_of vs around.now.least number (level_of vs number) label self.old.next) }
-        ensures count { IfOk result (λ found. let vs = valofs_in around.now.valofs.now in found ≡ count_of (bodies_of vs around.now.least number (level_of vs number) label self.old.next).0) }
+        ensures written { Writes result self.old self.new (let vs = valofs_in around.now.valofs.now in
+            bodies_of vs around.now.least number (level_of vs number) label self.old.next) }
+        ensures count { IfOk result (λ found. let vs = valofs_in around.now.valofs.now in
+            found ≡ count_of (bodies_of vs around.now.least number (level_of vs number) label self.old.next).0) }
     {
         let before = self.parts.len();
         self.valof(around, number, label)?;
@@ -153,7 +164,8 @@ impl Writer {
     /// The body of a VALOF, whose RESULTIS jumps to this label.
     #[cycle(commands)]
     fn valof(&mut self, around: &Around<'_>, number: u64, label: u16) -> Result<(), GenError>
-        ensures { Writes result self.old self.new (let vs = valofs_in around.now.valofs.now in bodies_of vs around.now.least number (level_of vs number) label self.old.next) }
+        ensures { Writes result self.old self.new (let vs = valofs_in around.now.valofs.now in
+            bodies_of vs around.now.least number (level_of vs number) label self.old.next) }
     {
         let number = number as usize;
         if number < around.least {

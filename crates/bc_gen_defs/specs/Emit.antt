@@ -157,7 +157,12 @@ abbrev mutual
       (i.0 ++ (n.0 ++ of (Label f) ∷ (t.0 ++ (x.0 ++ of (Label (f + 2)) ∷ (u.0 ++ of (jump f) ∷ of (Label (f + 1)) ∷ [])))), u.1)
   emit of roots (commands.SwitchOn e is) s E f =
       let v = roots (Value s e) 0 (f + 1 + entries_in is) in
-      let E1 = record E { cases = f; labels = labelled is v.1 E.labels; case_of = cased is (f + 1) (defaulted is (f + 1) f); default_of = defaulted is (f + 1) f } in
+      let E1 = record E {
+        cases = f;
+        labels = labelled is v.1 E.labels;
+        case_of = cased is (f + 1) (defaulted is (f + 1) f);
+        default_of = defaulted is (f + 1) f;
+      } in
       let x = emit_items of roots is s E1 (v.1 + labels_in is) in
       (v.0 ++ (of (execute 23) ∷ of (Data (cases_in is)) ∷ of (DataLabel E1.default_of) ∷ (table_of of is E1.case_of ++ (x.0 ++ of (Label f) ∷ []))), x.1)
   emit of roots commands.Break s E f = (of (jump E.broken) ∷ [], f)

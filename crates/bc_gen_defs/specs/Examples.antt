@@ -39,7 +39,8 @@ goto_code = refl
 -- a routine that sets global 1, a static, a table and a string
 abbrev some_places : List Place
 some_places =
-    commands.Code (record { global = Some 1; parameters = 0; body = Does (block [] no_item) }) ∷ commands.Text (72 ∷ 105 ∷ []) ∷ commands.Static 7 ∷ commands.Table (8 ∷ 9 ∷ []) ∷ []
+    commands.Code (record { global = Some 1; parameters = 0; body = Does (block [] no_item) }) ∷ commands.Text (72 ∷ 105 ∷ []) ∷ commands.Static 7
+    ∷ commands.Table (8 ∷ 9 ∷ []) ∷ []
 
 pub data_code : data_items 0 some_places
     ≡ Label 2 ∷ Byte 2 ∷ Byte 72 ∷ Byte 105 ∷ Label 3 ∷ Data 7 ∷ Label 4 ∷ Data 8 ∷ Data 9 ∷ []

@@ -8,9 +8,8 @@ use Rattle.bc_core.specs.Commands.{Variable, Initial, Vector, Command, Block, bl
 use Rattle.bc_core.specs.Commands as commands
 use Rattle.bc_core.specs.Level.{cells_of, cells_of_all, cells_declared, level_in_for}
 use Rattle.bc_core.specs.Command.{step_of_for}
-use Rattle.bc_core.specs.WellFormed.{Around, Jumps, root_fits, assignment_fits, variables_fit, declarations_fit, are_distinct, labels_of, has_entries, in_a_loop, in_list, command_fits, block_fits, items_fit}
+use Rattle.bc_core.specs.WellFormed.{Around, Jumps, root_fits, assignment_fits, variables_fit, declarations_fit, are_distinct, labels_of, has_entries, in_a_loop, in_list, command_fits, block_fits, items_fit, cases_of, defaults_in, entries_differ}
 use Rattle.bc_gen_defs.specs.Emit.{Code, Roots, Exits, jump, execute, zero_item, labelled, labels_in, cased, defaulted, cases_in, entries_in, table_of, emit_variable, emit_variables, emit_declarations, end_of_for, emit, emit_block, emit_items}
-use Rattle.bc_gen_labels.specs.Cases.{cases_of, defaults_in, command_cases_differ, block_cases_differ, items_cases_differ}
 use Rattle.bc_gen_labels.proofs.Counts.{at, stands, stands_both}
 use Rattle.bc_gen_labels.proofs.Fresh.{left_true, right_true, not_true, owed_labels, owed_cases, labels_fresh, cases_fresh, no_cases, defaulted_within, cased_within}
 use Rattle.bc_gen_labels.proofs.Speaking.{In, Speaks, both, nothing, item}
@@ -92,15 +91,15 @@ module _ (A : Around) (roots : Roots Item) (r : SoundRoots A.places roots) where
       joined x y (variables_sound vs u (u + m) (left_true a b h) s (s + m) f) (declarations_sound ds (u + m) (right_true a b h) (s + m) x.1)
 
   mutual
-    command_sound : (c : Command) (J : Jumps) (u : ℕ) → command_fits A J c u ≡ true → command_cases_differ c ≡ true → (s : ℕ) (E : Exits) (f : ℕ) → Sound (Allowed A J E) none f (emit (λ i. i) roots c s E f)
-    command_sound (commands.Call e) J u h d s E f = weaker (roots (Value s e) 0 f) (λ n a. (a.places, root_names A n a.places e u h, tt)) (r (Value s e) 0 f)
-    command_sound (commands.Assign v e) J u h d s E f = weaker (roots (Assign s v e) 0 f) (λ n a. (a.places, sides_name A n a.places v e u h, tt)) (r (Assign s v e) 0 f)
-    command_sound (commands.If sense e b) J u h d s E f =
+    command_sound : (c : Command) (J : Jumps) (u : ℕ) → command_fits A J c u ≡ true → (s : ℕ) (E : Exits) (f : ℕ) → Sound (Allowed A J E) none f (emit (λ i. i) roots c s E f)
+    command_sound (commands.Call e) J u h s E f = weaker (roots (Value s e) 0 f) (λ n a. (a.places, root_names A n a.places e u h, tt)) (r (Value s e) 0 f)
+    command_sound (commands.Assign v e) J u h s E f = weaker (roots (Assign s v e) 0 f) (λ n a. (a.places, sides_name A n a.places v e u h, tt)) (r (Assign s v e) 0 f)
+    command_sound (commands.If sense e b) J u h s E f =
         let t = roots (Test s (not sense) e) f (f + 1) in
         let x = emit_block (λ i. i) roots b s E t.1 in
         let he = left_true (root_fits A e u) (block_fits A J b u) h in
         let ht = r (Test s (not sense) e) f (f + 1) in
-        let hx = block_sound b J u (right_true (root_fits A e u) (block_fits A J b u) h) d s E t.1 in
+        let hx = block_sound b J u (right_true (root_fits A e u) (block_fits A J b u) h) s E t.1 in
         let t_up : f + 1 ≤ t.1 = ht.up in
         let x_up : t.1 ≤ x.1 = hx.up in
         record {
@@ -109,13 +108,13 @@ module _ (A : Around) (roots : Roots Item) (r : SoundRoots A.places roots) where
           speaks = λ n a l m. both t.0 _ (ht.speaks n (a.places, root_names A n a.places e u he, (l, omega arith)) (omega arith) (omega arith))
               (both x.0 _ (hx.speaks n a (omega arith) m) (item (Label f) [] tt nothing));
         }
-    command_sound (commands.While sense e b) J u h d s E f =
+    command_sound (commands.While sense e b) J u h s E f =
         let t = roots (Test s (not sense) e) (f + 1) (f + 2) in
         let E1 = record E { broken = f + 1; looped = f } in
         let x = emit_block (λ i. i) roots b s E1 t.1 in
         let he = left_true (root_fits A e u) (block_fits A (in_a_loop J) b u) h in
         let ht = r (Test s (not sense) e) (f + 1) (f + 2) in
-        let hx = block_sound b (in_a_loop J) u (right_true (root_fits A e u) (block_fits A (in_a_loop J) b u) h) d s E1 t.1 in
+        let hx = block_sound b (in_a_loop J) u (right_true (root_fits A e u) (block_fits A (in_a_loop J) b u) h) s E1 t.1 in
         let t_up : f + 2 ≤ t.1 = ht.up in
         let x_up : t.1 ≤ x.1 = hx.up in
         record {
@@ -127,7 +126,7 @@ module _ (A : Around) (roots : Roots Item) (r : SoundRoots A.places roots) where
               item (Label f) _ tt (both t.0 _ (ht.speaks n (a.places, root_names A n a.places e u he, end) (omega arith) (omega arith))
               (both x.0 _ (hx.speaks n (in_loop (f + 1) f end begin a) (omega arith) m) (item (jump f) _ begin (item (Label (f + 1)) [] tt nothing))));
         }
-    command_sound (commands.Test e b c) J u h d s E f =
+    command_sound (commands.Test e b c) J u h s E f =
         let t = roots (Test s false e) f (f + 2) in
         let x = emit_block (λ i. i) roots b s E t.1 in
         let y = emit_block (λ i. i) roots c s E x.1 in
@@ -135,11 +134,9 @@ module _ (A : Around) (roots : Roots Item) (r : SoundRoots A.places roots) where
         let fb = block_fits A J b u in
         let fc = block_fits A J c u in
         let front = left_true (fe && fb) fc h in
-        let db = block_cases_differ b in
-        let dc = block_cases_differ c in
         let ht = r (Test s false e) f (f + 2) in
-        let hx = block_sound b J u (right_true fe fb front) (left_true db dc d) s E t.1 in
-        let hy = block_sound c J u (right_true (fe && fb) fc h) (right_true db dc d) s E x.1 in
+        let hx = block_sound b J u (right_true fe fb front) s E t.1 in
+        let hy = block_sound c J u (right_true (fe && fb) fc h) s E x.1 in
         let t_up : f + 2 ≤ t.1 = ht.up in
         let x_up : t.1 ≤ x.1 = hx.up in
         let y_up : x.1 ≤ y.1 = hy.up in
@@ -155,10 +152,10 @@ module _ (A : Around) (roots : Roots Item) (r : SoundRoots A.places roots) where
               (both x.0 _ (hx.speaks n a (omega arith) (omega arith)) (item (jump (f + 1)) _ end (item (Label f) _ tt
               (both y.0 _ (hy.speaks n a (omega arith) m) (item (Label (f + 1)) [] tt nothing)))));
         }
-    command_sound (commands.Repeat b) J u h d s E f =
+    command_sound (commands.Repeat b) J u h s E f =
         let E1 = record E { broken = f + 1; looped = f } in
         let x = emit_block (λ i. i) roots b s E1 (f + 2) in
-        let hx = block_sound b (in_a_loop J) u h d s E1 (f + 2) in
+        let hx = block_sound b (in_a_loop J) u h s E1 (f + 2) in
         let x_up : f + 2 ≤ x.1 = hx.up in
         record {
           up = omega arith;
@@ -168,12 +165,12 @@ module _ (A : Around) (roots : Roots Item) (r : SoundRoots A.places roots) where
               let end : In n (f + 1) = (omega arith, omega arith) in
               item (Label f) _ tt (both x.0 _ (hx.speaks n (in_loop (f + 1) f end begin a) (omega arith) m) (item (jump f) _ begin (item (Label (f + 1)) [] tt nothing)));
         }
-    command_sound (commands.RepeatWhile b sense e) J u h d s E f =
+    command_sound (commands.RepeatWhile b sense e) J u h s E f =
         let E1 = record E { broken = f + 1; looped = f + 2 } in
         let x = emit_block (λ i. i) roots b s E1 (f + 3) in
         let t = roots (Test s sense e) f x.1 in
         let he = left_true (root_fits A e u) (block_fits A (in_a_loop J) b u) h in
-        let hx = block_sound b (in_a_loop J) u (right_true (root_fits A e u) (block_fits A (in_a_loop J) b u) h) d s E1 (f + 3) in
+        let hx = block_sound b (in_a_loop J) u (right_true (root_fits A e u) (block_fits A (in_a_loop J) b u) h) s E1 (f + 3) in
         let ht = r (Test s sense e) f x.1 in
         let x_up : f + 3 ≤ x.1 = hx.up in
         let t_up : x.1 ≤ t.1 = ht.up in
@@ -187,7 +184,7 @@ module _ (A : Around) (roots : Roots Item) (r : SoundRoots A.places roots) where
               item (Label f) _ tt (both x.0 _ (hx.speaks n (in_loop (f + 1) (f + 2) end next a) (omega arith) (omega arith)) (item (Label (f + 2)) _ tt
               (both t.0 _ (ht.speaks n (a.places, root_names A n a.places e u he, begin) (omega arith) m) (item (Label (f + 1)) [] tt nothing))));
         }
-    command_sound (commands.For start limit by b) J u h d s E f =
+    command_sound (commands.For start limit by b) J u h s E f =
         let s1 = level_in_for s in
         let u1 = level_in_for u in
         let E1 = record E { broken = f + 1; looped = f + 2 } in
@@ -203,7 +200,7 @@ module _ (A : Around) (roots : Roots Item) (r : SoundRoots A.places roots) where
         let hi = r (Assign s1 start (Frame s)) 0 (f + 3) in
         let hj = r (Assign s1 limit (Frame (s + 1))) 0 i.1 in
         let ht = r (Test s1 true (end_of_for by s)) (f + 1) j.1 in
-        let hx = block_sound b (in_a_loop J) u1 (right_true (fs && fl) fb h) d s1 E1 t.1 in
+        let hx = block_sound b (in_a_loop J) u1 (right_true (fs && fl) fb h) s1 E1 t.1 in
         let hw = r (Assign s1 (step_of_for by s) (Frame s)) 0 x.1 in
         let i_up : f + 3 ≤ i.1 = hi.up in
         let j_up : i.1 ≤ j.1 = hj.up in
@@ -224,7 +221,7 @@ module _ (A : Around) (roots : Roots Item) (r : SoundRoots A.places roots) where
               (both x.0 _ (hx.speaks n (in_loop (f + 1) (f + 2) end next a) (omega arith) (omega arith)) (item (Label (f + 2)) _ tt
               (both w.0 _ (hw.speaks n (a.places, ((tt, tt), tt), tt) (omega arith) m) (item (jump f) _ begin (item (Label (f + 1)) [] tt nothing))))))));
         }
-    command_sound (commands.SwitchOn e is) J u h d s E f =
+    command_sound (commands.SwitchOn e is) J u h s E f =
         let g = f + 1 + entries_in is in
         let v = roots (Value s e) 0 g in
         let D = defaulted is (f + 1) f in
@@ -236,13 +233,14 @@ module _ (A : Around) (roots : Roots Item) (r : SoundRoots A.places roots) where
         let fe = root_fits A e u in
         let fl = are_distinct (labels_of is) in
         let fi = items_fit A (in_list is J1) is u in
-        let front = left_true (fe && fl) fi h in
+        let fd = entries_differ is in
+        let before = left_true (fe && fl && fd) fi h in
+        let front = left_true (fe && fl) fd before in
         let dc = are_distinct (cases_of is) in
         let dd = nat_le (defaults_in is) 1 in
-        let di = items_cases_differ is in
-        let few = left_true (dc && dd) di d in
+        let few = right_true (fe && fl) fd before in
         let hv = r (Value s e) 0 g in
-        let hx = items_sound is (in_list is J1) u (right_true (fe && fl) fi h) (right_true (dc && dd) di d) s E1 v1 in
+        let hx = items_sound is (in_list is J1) u (right_true (fe && fl && fd) fi h) s E1 v1 in
         let v_up : g ≤ v.1 = hv.up in
         let x_up : v1 ≤ x.1 = hx.up in
         let ol : ℕ → ℕ = λ k. owed_labels (labelled is v.1 E.labels) is k in
@@ -267,21 +265,21 @@ module _ (A : Around) (roots : Roots Item) (r : SoundRoots A.places roots) where
               (both table _ (table_speaks is K (λ w. between f g (K w) n l room (cased_within is (f + 1) f D w (omega arith) within)))
               (both x.0 _ (hx.speaks n (in_a_switch is f v.1 K D begin (omega arith) (omega arith) a) (omega arith) m) (item (Label f) [] tt nothing))))));
         }
-    command_sound commands.Break J u h d s E f = only f (jump E.broken ∷ []) (λ k. refl) (λ n a. item (jump E.broken) [] (a.broken h) nothing)
-    command_sound commands.Loop J u h d s E f = only f (jump E.looped ∷ []) (λ k. refl) (λ n a. item (jump E.looped) [] (a.looped h) nothing)
-    command_sound commands.EndCase J u h d s E f = only f (jump E.cases ∷ []) (λ k. refl) (λ n a. item (jump E.cases) [] (a.cases h) nothing)
-    command_sound commands.Return J u h d s E f = only f (zero_item ∷ execute 4 ∷ []) (λ k. refl) (λ n a. item zero_item _ tt (item (execute 4) [] tt nothing))
-    command_sound (commands.ResultIs e) J u h d s E f =
+    command_sound commands.Break J u h s E f = only f (jump E.broken ∷ []) (λ k. refl) (λ n a. item (jump E.broken) [] (a.broken h) nothing)
+    command_sound commands.Loop J u h s E f = only f (jump E.looped ∷ []) (λ k. refl) (λ n a. item (jump E.looped) [] (a.looped h) nothing)
+    command_sound commands.EndCase J u h s E f = only f (jump E.cases ∷ []) (λ k. refl) (λ n a. item (jump E.cases) [] (a.cases h) nothing)
+    command_sound commands.Return J u h s E f = only f (zero_item ∷ execute 4 ∷ []) (λ k. refl) (λ n a. item zero_item _ tt (item (execute 4) [] tt nothing))
+    command_sound (commands.ResultIs e) J u h s E f =
         let v = roots (Value s e) 0 f in
         let he = right_true J.in_valof (root_fits A e u) h in
         joined v (jump E.result ∷ [], v.1) (weaker v (λ n a. (a.places, root_names A n a.places e u he, tt)) (r (Value s e) 0 f))
         (only v.1 (jump E.result ∷ []) (λ k. refl) (λ n a. item (jump E.result) [] (a.result (left_true J.in_valof (root_fits A e u) h)) nothing))
-    command_sound commands.Finish J u h d s E f = only f (execute 22 ∷ []) (λ k. refl) (λ n a. item (execute 22) [] tt nothing)
-    command_sound (commands.Goto l) J u h d s E f = only f (jump (E.labels l) ∷ []) (λ k. refl) (λ n a. item (jump (E.labels l)) [] (a.labels l h) nothing)
-    command_sound (commands.Nested b) J u h d s E f = block_sound b J u h d s E f
+    command_sound commands.Finish J u h s E f = only f (execute 22 ∷ []) (λ k. refl) (λ n a. item (execute 22) [] tt nothing)
+    command_sound (commands.Goto l) J u h s E f = only f (jump (E.labels l) ∷ []) (λ k. refl) (λ n a. item (jump (E.labels l)) [] (a.labels l h) nothing)
+    command_sound (commands.Nested b) J u h s E f = block_sound b J u h s E f
 
-    pub block_sound : (b : Block) (J : Jumps) (u : ℕ) → block_fits A J b u ≡ true → block_cases_differ b ≡ true → (s : ℕ) (E : Exits) (f : ℕ) → Sound (Allowed A J E) none f (emit_block (λ i. i) roots b s E f)
-    block_sound (block ds is) J u h d s E f =
+    pub block_sound : (b : Block) (J : Jumps) (u : ℕ) → block_fits A J b u ≡ true → (s : ℕ) (E : Exits) (f : ℕ) → Sound (Allowed A J E) none f (emit_block (λ i. i) roots b s E f)
+    block_sound (block ds is) J u h s E f =
         let m = f + labels_in is in
         let D = emit_declarations roots ds s m in
         let E1 = record E { labels = labelled is f E.labels } in
@@ -294,7 +292,7 @@ module _ (A : Around) (roots : Roots Item) (r : SoundRoots A.places roots) where
         let front = left_true (fd && fe && fl) fi h in
         let begin = left_true (fd && fe) fl front in
         let hd = declarations_sound ds u (left_true fd fe begin) s m in
-        let hx = items_sound is (in_list is J) u1 (right_true (fd && fe && fl) fi h) d (s + cells_declared ds) E1 D.1 in
+        let hx = items_sound is (in_list is J) u1 (right_true (fd && fe && fl) fi h) (s + cells_declared ds) E1 D.1 in
         let d_up : m ≤ D.1 = hd.up in
         let x_up : D.1 ≤ x.1 = hx.up in
         let none_here = no_cases is E.case_of E.default_of (not_true (has_entries is) (right_true fd fe begin)) in
@@ -305,26 +303,24 @@ module _ (A : Around) (roots : Roots Item) (r : SoundRoots A.places roots) where
           speaks = λ n a l q. both D.0 x.0 (hd.speaks n a.places (omega arith) (omega arith)) (hx.speaks n (in_a_list is f l (omega arith) a) (omega arith) q);
         }
 
-    items_sound : (is : Items) (J : Jumps) (u : ℕ) → items_fit A J is u ≡ true → items_cases_differ is ≡ true → (s : ℕ) (E : Exits) (f : ℕ)
+    items_sound : (is : Items) (J : Jumps) (u : ℕ) → items_fit A J is u ≡ true → (s : ℕ) (E : Exits) (f : ℕ)
         → Sound (Allowed A J E) (λ k. owed_labels E.labels is k + owed_cases E.case_of E.default_of is k) f (emit_items (λ i. i) roots is s E f)
-    items_sound no_item J u h d s E f = record { up = omega arith; run = same_owed _ [] (empty f) (λ k. refl); speaks = λ n a l m. nothing }
-    items_sound (command c is) J u h d s E f =
+    items_sound no_item J u h s E f = record { up = omega arith; run = same_owed _ [] (empty f) (λ k. refl); speaks = λ n a l m. nothing }
+    items_sound (command c is) J u h s E f =
         let x = emit (λ i. i) roots c s E f in
         let y = emit_items (λ i. i) roots is s E x.1 in
         let fc = command_fits A J c u in
         let fi = items_fit A J is u in
-        let dc = command_cases_differ c in
-        let di = items_cases_differ is in
-        joined x y (command_sound c J u (left_true fc fi h) (left_true dc di d) s E f) (items_sound is J u (right_true fc fi h) (right_true dc di d) s E x.1)
-    items_sound (case v is) J u h d s E f =
+        joined x y (command_sound c J u (left_true fc fi h) s E f) (items_sound is J u (right_true fc fi h) s E x.1)
+    items_sound (case v is) J u h s E f =
         let x = emit_items (λ i. i) roots is s E f in
-        let hx = items_sound is J u h d s E f in
+        let hx = items_sound is J u h s E f in
         record { up = hx.up; run = same_owed _ _ (mark (E.case_of v) x.0 hx.run) (λ k. omega arith); speaks = λ n a l m. item (Label (E.case_of v)) x.0 tt (hx.speaks n a l m) }
-    items_sound (default is) J u h d s E f =
+    items_sound (default is) J u h s E f =
         let x = emit_items (λ i. i) roots is s E f in
-        let hx = items_sound is J u h d s E f in
+        let hx = items_sound is J u h s E f in
         record { up = hx.up; run = same_owed _ _ (mark E.default_of x.0 hx.run) (λ k. omega arith); speaks = λ n a l m. item (Label E.default_of) x.0 tt (hx.speaks n a l m) }
-    items_sound (label v is) J u h d s E f =
+    items_sound (label v is) J u h s E f =
         let x = emit_items (λ i. i) roots is s E f in
-        let hx = items_sound is J u h d s E f in
+        let hx = items_sound is J u h s E f in
         record { up = hx.up; run = same_owed _ _ (mark (E.labels v) x.0 hx.run) (λ k. omega arith); speaks = λ n a l m. item (Label (E.labels v)) x.0 tt (hx.speaks n a l m) }

@@ -3,9 +3,8 @@ use Rattle.std.proofs.Common.{◌≡◌, ◌∙◌, refl, sym, ap, ℕ, suc, ◌
 use Rattle.std.specs.Prelude.{cond, nat_le}
 use Rattle.std.proofs.lemmas.Bool.Decides.{nat_tests}
 use Rattle.bc_core.specs.Commands.{Items, no_item, command, case, default, label}
-use Rattle.bc_core.specs.WellFormed.{has, are_distinct, labels_of, has_entries}
+use Rattle.bc_core.specs.WellFormed.{has, are_distinct, labels_of, has_entries, cases_of, defaults_in}
 use Rattle.bc_gen_defs.specs.Emit.{labelled, labels_in, cased, defaulted, entries_in}
-use Rattle.bc_gen_labels.specs.Cases.{cases_of, defaults_in}
 use Rattle.bc_gen_labels.proofs.Counts.{at, below, next_below}
 
 pub left_true : (a b : Bool) → (a && b) ≡ true → a ≡ true

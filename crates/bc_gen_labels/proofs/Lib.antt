@@ -7,4 +7,3 @@ mod Runs
 mod Commands
 mod Sections
 pub mod Refusing
-pub mod Differing

@@ -14,7 +14,8 @@ use Rattle.bc_gen_defs.specs.Section.{section_items, routines_code}
 use Rattle.bc_link.specs.declared.link_error.LinkError.TheVariants.{LabelUnset, LabelTwice}
 use Rattle.bc_link.specs.Labels.{labels_of, use_of, uses_of}
 use Rattle.bc_link.specs.Refusals.{first_of, repeated_behind, first_unset, label_twice_from, label_unset_from, global_twice, too_large}
-use Rattle.bc_gen_labels.specs.Laws.{LabelsStand, LabelsStandOnce, LabelsAreThoseTaken, KeepsRules, OnlyGlobalsAndSizeAreRefused}
+use Rattle.bc_core.specs.WellFormed.{is_core}
+use Rattle.bc_gen_labels.specs.Laws.{LabelsStand, LabelsStandOnce, LabelsAreThoseTaken, OnlyGlobalsAndSizeAreRefused}
 use Rattle.bc_gen_labels.proofs.Counts.{at, below, count}
 use Rattle.bc_gen_labels.proofs.Fresh.{same_number}
 use Rattle.bc_gen_labels.proofs.Speaking.{In, Known, AllKnown}
@@ -82,7 +83,7 @@ labels_stand n is h = (
 )
 
 pub labels_stand_once : LabelsStandOnce
-labels_stand_once T choice core h = labels_stand (routines_code (coding_of choice) core).1 (section_items (coding_of choice) core) (section_labelled choice core h.0 h.1)
+labels_stand_once T choice core h = labels_stand (routines_code (coding_of choice) core).1 (section_items (coding_of choice) core) (section_labelled choice core h)
 
 counted_from : (k n : ℕ) (ls : List ℕ) → fold (λ a l. a + cond (l == k) 1 0) n ls ≡ n + count k ls
 counted_from k n [] = omega arith
@@ -101,7 +102,7 @@ pub labels_are_those_taken : LabelsAreThoseTaken
 labels_are_those_taken T choice core h k =
     let is = section_items (coding_of choice) core in
     let g = (routines_code (coding_of choice) core).1 in
-    count_is k (labels_of is) ∙ within k g (count k (labels_of is)) ((section_labelled choice core h.0 h.1).once k)
+    count_is k (labels_of is) ∙ within k g (count k (labels_of is)) ((section_labelled choice core h).once k)
 
 nothing_first : {X : Type 0} (a b : Option X) → a ≡ None → first_of a b ≡ b
 nothing_first a b h = ap (λ x. first_of x b) h
@@ -114,12 +115,12 @@ module _ {T : Table} (choice : (r : Root) → RootDerives T r) where
   abbrev segments : List Core → List (List Item)
   segments cores = map (section_items (coding_of choice)) cores
 
-  none_twice : (k : ℕ) (cores : List Core) → AllByRecursion KeepsRules cores → label_twice_from k (segments cores) ≡ None
+  none_twice : (k : ℕ) (cores : List Core) → AllByRecursion (λ core. is_core core ≡ true) cores → label_twice_from k (segments cores) ≡ None
   none_twice k [] h = refl
   none_twice k (core ∷ cores) h =
       nothing_first _ _ (ap (λ x. option_map (LabelTwice k) x) (labels_stand_once T choice core h.0).0) ∙ none_twice (k + 1) cores h.1
 
-  none_unset : (k : ℕ) (cores : List Core) → AllByRecursion KeepsRules cores → label_unset_from k (segments cores) ≡ None
+  none_unset : (k : ℕ) (cores : List Core) → AllByRecursion (λ core. is_core core ≡ true) cores → label_unset_from k (segments cores) ≡ None
   none_unset k [] h = refl
   none_unset k (core ∷ cores) h =
       nothing_first _ _ (ap (λ x. option_map (LabelUnset k) x) (labels_stand_once T choice core h.0).1) ∙ none_unset (k + 1) cores h.1

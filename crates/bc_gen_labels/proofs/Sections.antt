@@ -17,7 +17,6 @@ use Rattle.bc_rules_defs.specs.Code.{root_code, root_labels}
 use Rattle.bc_gen_defs.specs.Emit.{Code, Roots, execute, zero_item, emit_block}
 use Rattle.bc_gen_defs.specs.Bodies.{BodiesCode, coding_of, fill, label_ahead, over, body_exits, emit_valof, bodies_from, emit_body, level_of}
 use Rattle.bc_gen_defs.specs.Section.{emit_routines, data_items, setting, setting_items, routines_code, section_items}
-use Rattle.bc_gen_labels.specs.Cases.{block_cases_differ, body_cases_differ, places_cases_differ, valofs_cases_differ, cases_differ}
 use Rattle.bc_gen_labels.proofs.Counts.{at, below, next_below, stands, stands_both, standing}
 use Rattle.bc_gen_labels.proofs.Derivations.{root_standing}
 use Rattle.bc_gen_labels.proofs.Fresh.{left_true, right_true}
@@ -81,19 +80,17 @@ module _ {T : Table} (choice : (r : Root) → RootDerives T r) (levels : ℕ →
   abbrev bodies : ℕ → List Valof → BodiesCode Item
   bodies first vs = bodies_from (λ i. i) (over (coding_of choice) levels) first vs
 
-  bodies_sound : (A : Around) (first : ℕ) (vs : List Valof) → valofs_fit A vs ≡ true → valofs_cases_differ vs ≡ true → SoundBodies A.places (bodies first vs)
-  bodies_sound A first [] h d m s l f = nothing_there f
-  bodies_sound A first (v ∷ vs) h d m s l f =
+  bodies_sound : (A : Around) (first : ℕ) (vs : List Valof) → valofs_fit A vs ≡ true → SoundBodies A.places (bodies first vs)
+  bodies_sound A first [] h m s l f = nothing_there f
+  bodies_sound A first (v ∷ vs) h m s l f =
       let A1 = record A { first = A.first + 1 } in
       let inner = bodies (first + 1) vs in
       let fb = block_fits A1 jumps_in_valof v.body v.level in
       let fv = valofs_fit A1 vs in
-      let db = block_cases_differ v.body in
-      let dv = valofs_cases_differ vs in
-      let rest = bodies_sound A1 (first + 1) vs (right_true fb fv h) (right_true db dv d) in
+      let rest = bodies_sound A1 (first + 1) vs (right_true fb fv h) in
       let roots = over (coding_of choice) levels inner in
       let x = emit_block (λ i. i) roots v.body s (body_exits l) f in
-      let hx = block_sound A1 roots (roots_sound A.places levels inner rest choice) v.body jumps_in_valof v.level (left_true fb fv h) (left_true db dv d) s (body_exits l) f in
+      let hx = block_sound A1 roots (roots_sound A.places levels inner rest choice) v.body jumps_in_valof v.level (left_true fb fv h) s (body_exits l) f in
       let allowed : (n : ℕ) → (A.places < n) × In n l → Allowed A1 jumps_in_valof (body_exits l) n =
       λ n q. record { places = q.0; broken = λ i. no_jump i; looped = λ i. no_jump i; cases = λ i. no_jump i; result = λ i. q.1; labels = λ k i. no_jump i } in
       either_sound (m == first) (emit_valof (λ i. i) roots v.body m s l f) (inner m s l f)
@@ -108,36 +105,34 @@ routine_labels j (commands.Table ws ∷ ps) k = routine_labels (j + 1) ps k
 routine_labels j (commands.Text bytes ∷ ps) k = routine_labels (j + 1) ps k
 
 module _ (A : Around) (roots : Roots Item) (r : SoundRoots A.places roots) where
-  body_sound : (b : Body) (u : ℕ) → body_fits A b u ≡ true → body_cases_differ b ≡ true → (s f : ℕ) → Sound (λ n. A.places < n) none f (emit_body (λ i. i) roots b s f)
-  body_sound (Gives e) u h d s f =
+  body_sound : (b : Body) (u : ℕ) → body_fits A b u ≡ true → (s f : ℕ) → Sound (λ n. A.places < n) none f (emit_body (λ i. i) roots b s f)
+  body_sound (Gives e) u h s f =
       let v = roots (Value s e) 0 f in
       joined v (execute 4 ∷ [], v.1) (weaker v (λ n p. (p, root_names A n p e u h, tt)) (r (Value s e) 0 f))
       (only v.1 (execute 4 ∷ []) (λ k. refl) (λ n p. item (execute 4) [] tt nothing))
-  body_sound (Does b) u h d s f =
+  body_sound (Does b) u h s f =
       let x = emit_block (λ i. i) roots b s (body_exits 0) f in
       let allowed : (n : ℕ) → A.places < n → Allowed A jumps_in_routine (body_exits 0) n =
       λ n p. record { places = p; broken = λ i. no_jump i; looped = λ i. no_jump i; cases = λ i. no_jump i; result = λ i. no_jump i; labels = λ k i. no_jump i } in
-      joined x (zero_item ∷ execute 4 ∷ [], x.1) (weaker x allowed (block_sound A roots r b jumps_in_routine u h d s (body_exits 0) f))
+      joined x (zero_item ∷ execute 4 ∷ [], x.1) (weaker x allowed (block_sound A roots r b jumps_in_routine u h s (body_exits 0) f))
       (only x.1 (zero_item ∷ execute 4 ∷ []) (λ k. refl) (λ n p. item zero_item _ tt (item (execute 4) [] tt nothing)))
 
-  routines_sound : (valofs : List Valof) (ps : List Place) → places_fit A valofs ps ≡ true → places_cases_differ ps ≡ true → (j f : ℕ) → Sound (λ n. A.places < n) (λ k. routine_labels j ps k) f (emit_routines (λ i. i) roots j ps f)
-  routines_sound valofs [] h d j f = record { up = omega arith; run = same_owed _ [] (empty f) (λ k. refl); speaks = λ n q l u. nothing }
-  routines_sound valofs (commands.Code p ∷ ps) h d j f =
+  routines_sound : (valofs : List Valof) (ps : List Place) → places_fit A valofs ps ≡ true → (j f : ℕ) → Sound (λ n. A.places < n) (λ k. routine_labels j ps k) f (emit_routines (λ i. i) roots j ps f)
+  routines_sound valofs [] h j f = record { up = omega arith; run = same_owed _ [] (empty f) (λ k. refl); speaks = λ n q l u. nothing }
+  routines_sound valofs (commands.Code p ∷ ps) h j f =
       let s = level_behind_parameters p.parameters in
       let fp = place_fits A valofs (commands.Code p) in
       let fs = places_fit A valofs ps in
       let front = global_fits p.global && nat_le (frame_size valofs p) 32768 in
-      let db = body_cases_differ p.body in
-      let ds = places_cases_differ ps in
       let x = emit_body (λ i. i) roots p.body s f in
       let y = emit_routines (λ i. i) roots (j + 1) ps x.1 in
-      let hx = body_sound p.body s (right_true front (body_fits A p.body s) (left_true fp fs h)) (left_true db ds d) s f in
-      let all = joined x y hx (routines_sound valofs ps (right_true fp fs h) (right_true db ds d) (j + 1) x.1) in
+      let hx = body_sound p.body s (right_true front (body_fits A p.body s) (left_true fp fs h)) s f in
+      let all = joined x y hx (routines_sound valofs ps (right_true fp fs h) (j + 1) x.1) in
       record { up = all.up; run = mark (j + 1) (x.0 ++ y.0) all.run; speaks = λ n q l u. item (Label (j + 1)) _ tt (all.speaks n q l u) }
-  routines_sound valofs (commands.Static w ∷ ps) h d j f = routines_sound valofs ps h d (j + 1) f
-  routines_sound valofs (commands.Table ws ∷ ps) h d j f = routines_sound valofs ps h d (j + 1) f
-  routines_sound valofs (commands.Text bytes ∷ ps) h d j f =
-      routines_sound valofs ps (right_true (nat_le (length bytes) 255) (places_fit A valofs ps) h) d (j + 1) f
+  routines_sound valofs (commands.Static w ∷ ps) h j f = routines_sound valofs ps h (j + 1) f
+  routines_sound valofs (commands.Table ws ∷ ps) h j f = routines_sound valofs ps h (j + 1) f
+  routines_sound valofs (commands.Text bytes ∷ ps) h j f =
+      routines_sound valofs ps (right_true (nat_le (length bytes) 255) (places_fit A valofs ps) h) (j + 1) f
 
 words_plain : (k : ℕ) (ws : List ℕ) (xs : List Item) → stands k (map Data ws ++ xs) ≡ stands k xs
 words_plain k [] xs = refl
@@ -217,21 +212,19 @@ pub record Labelled (g : ℕ) (is : List Item) : Type 0 where
 altogether : (n x y z w c b0 b1 b2 : ℕ) → n ≡ x + w → w ≡ y + z → z ≡ 0 → x + b1 ≡ b2 + c → c + y + b0 ≡ b1 → n + b0 ≡ b2
 altogether n x y z w c b0 b1 b2 h i e j k = omega arith
 
-pub section_labelled : {T : Table} (choice : (r : Root) → RootDerives T r) (core : Core) → is_core core ≡ true → cases_differ core ≡ true
+pub section_labelled : {T : Table} (choice : (r : Root) → RootDerives T r) (core : Core) → is_core core ≡ true
     → Labelled (routines_code (coding_of choice) core).1 (section_items (coding_of choice) core)
-section_labelled choice core h d =
+section_labelled choice core h =
     let m = length core.places in
     let A : Around = record { places = m; first = 0; levels = map (λ (v : Valof). v.level) core.valofs } in
     let levels = level_of core.valofs in
     let fp = places_fit A core.valofs core.places in
     let fv = valofs_fit A core.valofs in
-    let dp = places_cases_differ core.places in
-    let dv = valofs_cases_differ core.valofs in
     let inner = bodies_from (λ i. i) (over (coding_of choice) levels) 0 core.valofs in
     let roots = over (coding_of choice) levels inner in
-    let r = roots_sound m levels inner (bodies_sound choice levels A 0 core.valofs (right_true fp fv h) (right_true dp dv d)) choice in
+    let r = roots_sound m levels inner (bodies_sound choice levels A 0 core.valofs (right_true fp fv h)) choice in
     let x = emit_routines (λ i. i) roots 0 core.places (m + 1) in
-    let hx = routines_sound A roots r core.valofs core.places (left_true fp fv h) (left_true dp dv d) 0 (m + 1) in
+    let hx = routines_sound A roots r core.valofs core.places (left_true fp fv h) 0 (m + 1) in
     let up : m + 1 ≤ x.1 = hx.up in
     let ds = data_items 0 core.places in
     let ss = setting_items 0 core.places in

@@ -1,4 +1,4 @@
--- Worked examples: where a SWITCHON has a CASE twice, a label stands twice; so the labels need this rule too.
+-- Worked examples: the labels of a section. Where a SWITCHON has a CASE twice, or a second DEFAULT, a label stands twice; no resolved section is such a one.
 use Rattle.std.specs.Prelude.{◌≡◌, ℕ, true, false, List, [], ◌∷◌, Some, refl}
 use Rattle.bc_core.specs.Tree.{Num}
 use Rattle.bc_core.specs.Commands.{block, Items, no_item, command, case, default, label, Core, Does}
@@ -10,7 +10,6 @@ use Rattle.bc_gen_defs.specs.Bodies.{Coding}
 use Rattle.bc_gen_defs.specs.Section.{section_items}
 use Rattle.bc_link.specs.Labels.{labels_of, uses_of}
 use Rattle.bc_link.specs.Refusals.{first_repeated}
-use Rattle.bc_gen_labels.specs.Cases.{cases_differ}
 
 -- roots without code
 abbrev no_code : Coding
@@ -18,7 +17,11 @@ no_code = record { pieces = λ r target first. []; labels = λ r. 0; derivation 
 
 -- a routine that is a SWITCHON
 abbrev switch : Items → Core
-switch is = record { places = commands.Code (record { global = Some 1; parameters = 0; body = Does (block [] (command (commands.SwitchOn (Num 1) is) no_item)) }) ∷ []; valofs = [] }
+switch is = record {
+  places = commands.Code
+      (record { global = Some 1; parameters = 0; body = Does (block [] (command (commands.SwitchOn (Num 1) is) no_item)) }) ∷ [];
+  valofs = [];
+}
 
 abbrev labels : Core → List ℕ
 labels core = labels_of (section_items no_code core)
@@ -33,14 +36,17 @@ spoken_of = refl
 abbrev case_twice : Core
 case_twice = switch (case 3 (case 3 no_item))
 
-pub twice_is_core : is_core case_twice ≡ true
-twice_is_core = refl
-
-pub twice_differs : cases_differ case_twice ≡ false
-twice_differs = refl
+pub twice_is_no_core : is_core case_twice ≡ false
+twice_is_no_core = refl
 
 pub label_twice : first_repeated (labels case_twice) ≡ Some 3
 label_twice = refl
 
-pub default_twice : first_repeated (labels (switch (default (default no_item)))) ≡ Some 3
-default_twice = refl
+abbrev default_twice : Core
+default_twice = switch (default (default no_item))
+
+pub two_defaults_are_no_core : is_core default_twice ≡ false
+two_defaults_are_no_core = refl
+
+pub label_twice_by_defaults : first_repeated (labels default_twice) ≡ Some 3
+label_twice_by_defaults = refl

@@ -1,46 +1,34 @@
 -- The labels of a section's items.
-use Rattle.std.specs.Prelude.{◌≡◌, ◌≤◌, ◌==◌, ◌&&◌, ℕ, true, cond, nat_le, nat_lt, List, None, map, count_by}
+use Rattle.std.specs.Prelude.{◌≡◌, ◌==◌, ◌&&◌, ℕ, true, cond, nat_le, nat_lt, List, None, map, count_by}
 use Rattle.std.specs.List.{AllByRecursion}
 use Rattle.bc_text_items.specs.declared.item.Item.{Item}
 use Rattle.bc_core.specs.Tree.{Root}
 use Rattle.bc_core.specs.Commands.{Core}
 use Rattle.bc_core.specs.WellFormed.{is_core}
-use Rattle.bc_parse_tree.specs.Tree.{Declarations}
-use Rattle.bc_parse_tree.specs.Size.{declarations_size}
-use Rattle.bc_scope_defs.specs.Faults.{section_fault}
-use Rattle.bc_scope_defs.specs.Translation.{core_of}
 use Rattle.bc_rules_defs.specs.declared.rule.Table.{Table}
 use Rattle.bc_rules_defs.specs.Rules.{RootDerives}
 use Rattle.bc_gen_defs.specs.Bodies.{coding_of}
 use Rattle.bc_gen_defs.specs.Section.{routines_code, section_items}
 use Rattle.bc_link.specs.Labels.{labels_of, uses_of}
 use Rattle.bc_link.specs.Refusals.{first_of, first_repeated, first_unset, global_twice, too_large, refusal_of}
-use Rattle.bc_gen_labels.specs.Cases.{cases_differ}
 
 -- no label stands twice among items, and each one that they speak of stands among them
 abbrev pub LabelsStand : List Item → Type 0
 LabelsStand items = (first_repeated (labels_of items) ≡ None) × (first_unset (labels_of items) (uses_of items) ≡ None)
 
--- the labels, numbers and jump targets of the section exist, and no SWITCHON has a CASE twice
-abbrev pub KeepsRules : Core → Type 0
-KeepsRules core = (is_core core ≡ true) × (cases_differ core ≡ true)
-
 -- whatever the derivations of its code
 abbrev pub LabelsStandOnce : Type 0
-LabelsStandOnce = (T : Table) (choice : (r : Root) → RootDerives T r) (core : Core) → KeepsRules core → LabelsStand (section_items (coding_of choice) core)
+LabelsStandOnce = (T : Table) (choice : (r : Root) → RootDerives T r) (core : Core) → is_core core ≡ true → LabelsStand (section_items (coding_of choice) core)
 
 -- the labels that stand are those that the section takes, from 1 on, and each stands once
 abbrev pub LabelsAreThoseTaken : Type 0
 LabelsAreThoseTaken =
-    (T : Table) (choice : (r : Root) → RootDerives T r) (core : Core) → KeepsRules core
-    → (k : ℕ) → count_by (λ l. l == k) (labels_of (section_items (coding_of choice) core)) ≡ cond (nat_le 1 k && nat_lt k (routines_code (coding_of choice) core).1) 1 0
+    (T : Table) (choice : (r : Root) → RootDerives T r) (core : Core) → is_core core ≡ true
+    → (k : ℕ) → count_by (λ l. l == k) (labels_of (section_items (coding_of choice) core))
+    ≡ cond (nat_le 1 k && nat_lt k (routines_code (coding_of choice) core).1) 1 0
 
 -- so the linker refuses such sections for a global that is set twice or for their size alone
 abbrev pub OnlyGlobalsAndSizeAreRefused : Type 0
 OnlyGlobalsAndSizeAreRefused =
-    (T : Table) (choice : (r : Root) → RootDerives T r) (cores : List Core) → AllByRecursion KeepsRules cores
+    (T : Table) (choice : (r : Root) → RootDerives T r) (cores : List Core) → AllByRecursion (λ core. is_core core ≡ true) cores
     → let segments = map (section_items (coding_of choice)) cores in refusal_of segments ≡ first_of (global_twice segments) (too_large segments)
-
--- a section without fault, with at most 524,288 definitions, commands and expressions, keeps them
-abbrev pub SectionsKeepRules : Type 0
-SectionsKeepRules = (ds : Declarations) → declarations_size ds ≤ 524288 → section_fault ds ≡ None → KeepsRules (core_of ds)

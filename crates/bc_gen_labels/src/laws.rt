@@ -1,6 +1,6 @@
 //! Laws of the labels of a section's items. Each is the contract of a function that does nothing.
 
-ghost use Rattle.bc_gen_labels.specs.Laws.{LabelsStandOnce, LabelsAreThoseTaken, OnlyGlobalsAndSizeAreRefused, SectionsKeepRules};
+ghost use Rattle.bc_gen_labels.specs.Laws.{LabelsStandOnce, LabelsAreThoseTaken, OnlyGlobalsAndSizeAreRefused};
 
 /// Among the items of a section no label stands twice, and each label that an item speaks of stands among
 /// them, whatever the derivations of its code.
@@ -16,10 +16,4 @@ pub fn labels_are_those_taken()
 /// The linker refuses such sections for a global that is set twice or for their size, and never for a label.
 pub fn only_globals_and_size_are_refused()
     ensures { OnlyGlobalsAndSizeAreRefused }
-{}
-
-/// A section without fault, with at most 524,288 definitions, commands and expressions, is such a section:
-/// its labels, numbers and jump targets exist, and no SWITCHON of it has a CASE twice.
-pub fn sections_keep_rules()
-    ensures { SectionsKeepRules }
 {}

@@ -25,7 +25,8 @@ use Rattle.bc_interpret_steps.specs.declared.rests.Rest.{Rest}
 use Rattle.bc_interpret_steps.specs.declared.sections.Callable.{Callable}
 use Rattle.bc_interpret_steps.specs.declared.state.State.{State}
 use Rattle.bc_interpret_steps.specs.Code.{stack}
-use Rattle.bc_interpret_steps.specs.Came.{state_of, ending, primitive_of}
+use Rattle.bc_interpret_steps.specs.Came.{state_of, primitive_of}
+use Rattle.bc_interpret_steps.specs.Endings.{ending}
 use Rattle.bc_interpret_steps.specs.Sections.{IsTable}
 use Rattle.bc_interpret.specs.declared.serve.Served.TheVariants as forms
 use Rattle.bc_interpret.specs.declared.run.Run.{Run}

@@ -3,7 +3,7 @@ use Rattle.std.specs.Prelude.{◌≡◌}
 use Rattle.bc_machine_defs.specs.Streams.{Content}
 use Rattle.bc_machine_defs.specs.StreamCalls.{output_of}
 use Rattle.bc_core.specs.Meaning.{Result, Ended, Going, Wild}
-use Rattle.bc_interpret_steps.specs.Came.{ending}
+use Rattle.bc_interpret_steps.specs.Endings.{ending}
 use Rattle.bc_interpret.specs.declared.run.Outcome.{Outcome}
 use Rattle.bc_interpret.specs.declared.run.Outcome.TheVariants as outcomes
 

@@ -1,4 +1,4 @@
--- The cells that parts of a routine take of its frame, and a number that looking at a part lessens.
+-- For proofs: the cells that parts of a routine take of its frame, and a number that looking at a part lessens.
 use Rattle.std.specs.Prelude.{ℕ, ◌≡◌, ◌+◌, ◌<◌, max, List, [], ◌∷◌, map, Result, IfOk}
 use Rattle.bc_core.specs.Layout.{Bodies, cells_of_exp, cells_of_args, cells_of_command, cells_of_block, cells_of_items, cells_of_declarations, cells_of_initials, cells_of_valofs}
 use Rattle.bc_core.specs.Commands as commands

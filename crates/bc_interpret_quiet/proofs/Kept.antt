@@ -20,10 +20,6 @@ kept S w rs (steps.Fails c) rs1 m h = quiet_steps_keep S w rs ∙ ap (quiet_afte
 pub kept_behind : (S : quiet.Sight) (w : QuietWork) (rs : List QuietRest) (r : QuietRest) (rs0 : List QuietRest) (p : Step) (rs1 : List QuietRest) → rs ≡ r ∷ rs0 → QuietMoves w (r ∷ rs0) → Came p (quiet_step S w (r ∷ rs0)) rs1 → Kept p S w rs rs1
 kept_behind S w rs r rs0 p rs1 e m h = subst (λ q. Kept p S w q rs1) (sym e) (kept S w (r ∷ rs0) p rs1 m h)
 
--- and at the end
-pub number_left : (S : quiet.Sight) (v : ℕ) (rs : List QuietRest) → rs ≡ [] → quiet_meant S (quiet.Give (quiet.Number v)) rs ≡ quiet.Is (quiet.Number v)
-number_left S v rs e = ap (quiet_meant S (quiet.Give (quiet.Number v))) e
-
 -- what is worth a number is that number
 pub number_is : (w : quiet.Worth ℕ) (v : ℕ) → as_number w ≡ quiet.Is (quiet.Number v) → quiet.Is v ≡ w
 number_is (quiet.Is x) v e = cc

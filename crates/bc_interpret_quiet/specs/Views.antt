@@ -1,4 +1,4 @@
--- What the values of this crate stand for.
+-- For proofs: what the values of this crate stand for.
 use Rattle.std.specs.Prelude.{ℕ, Bool, true, false, ◌≡◌, ◌<◌, List, [], ◌∷◌, slice_index_or, Option, Some, None}
 use Rattle.bc_core.specs.Tree.{Exp}
 use Rattle.bc_core.specs.Value.{has_call}

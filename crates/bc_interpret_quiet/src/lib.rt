@@ -1,5 +1,5 @@
-//! What an expression without call and VALOF is worth, worked out without native stack for the depth of the tree; and whether a call or a
-//! VALOF stands in an expression.
+//! What an expression without call and VALOF is worth, worked out along the tree down to a depth of 16, and below that with a list of what is
+//! left; and whether a call or a VALOF stands in an expression.
 #![tactic(auto)]
 
 mod calls;

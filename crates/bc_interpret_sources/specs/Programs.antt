@@ -9,7 +9,7 @@ use Rattle.bc_parse_tree.specs.Tree.{Declarations}
 use Rattle.bc_core.specs.Same.{IsAt, end_of}
 use Rattle.bc_build.specs.Compiled.{AreAccepted}
 use Rattle.bc_build.specs.Runs.{meant, started, RunsAsMeant}
-use Rattle.bc_interpret_steps.specs.Came.{ending}
+use Rattle.bc_interpret_steps.specs.Endings.{ending}
 use Rattle.bc_interpret.specs.declared.run.Outcome.{Outcome}
 use Rattle.bc_interpret.specs.declared.run.Outcome.TheVariants as outcomes
 use Rattle.bc_interpret.specs.Results.{IsResult}

@@ -1,4 +1,4 @@
--- What came of a step, as the interpreter has it.
+-- For proofs: what came of a step, as the interpreter has it.
 use Rattle.std.specs.Prelude.{ℕ, ◌≡◌, ◌+◌, Bool, true, false, List, Option, Some, None}
 use Rattle.bc_machine_defs.specs.Streams.{Content}
 use Rattle.bc_core.specs.Store.{Dead, cell_at}
@@ -21,7 +21,7 @@ use Rattle.bc_interpret_steps.specs.declared.forms.Work.{Work}
 use Rattle.bc_interpret_steps.specs.declared.forms.Work.TheVariants as works
 use Rattle.bc_interpret_steps.specs.declared.forms.Primitive.{Primitive}
 use Rattle.bc_interpret_steps.specs.declared.forms.Primitive.TheVariants as primitive_forms
-use Rattle.bc_interpret_steps.specs.declared.forms.Ending.{Ending}
+use Rattle.bc_interpret_steps.specs.Endings.{ending}
 use Rattle.bc_interpret_steps.specs.declared.forms.Ending.TheVariants as endings
 use Rattle.bc_interpret_steps.specs.declared.forms.Exit.{Exit}
 use Rattle.bc_interpret_steps.specs.declared.forms.Progress.{Progress}
@@ -33,10 +33,6 @@ use Rattle.bc_interpret_steps.specs.Code.{work_of, exit_of, stack, given}
 
 abbrev pub state_of : State → Content → outcomes.State
 state_of st streams = record { cells = st.store; streams = streams; turns = st.turns }
-
-abbrev pub ending : Ending → outcomes.Ending
-ending endings.Finished = outcomes.Finished
-ending endings.ZeroDivide = outcomes.ZeroDivide
 
 abbrev pub primitive_of : Primitive → primitives.Primitive
 primitive_of (primitive_forms.Select side) = primitives.Select side

@@ -2,6 +2,7 @@ pub mod Along
 pub mod Arrived
 pub mod Assigns
 pub mod Came
+pub mod Endings
 pub mod Code
 pub mod Sections
 pub mod Stepped

@@ -1,4 +1,4 @@
--- What a step came to, with the end of the whole run.
+-- For proofs: what a step came to, with the end of the whole run.
 use Rattle.std.specs.Prelude.{ℕ, ◌≡◌, List, [], Vec, Result, OnOk, IfOk}
 use Rattle.std.specs.declared.alloc.Global.{Global}
 use Rattle.bc_core.specs.Map.{Placed}
@@ -23,8 +23,8 @@ Stepped program w rs old p rs1 vs1 new = Moves w rs × Came (step program w rs) 
 -- The same of what a call leaves to come next, if memory sufficed. For proofs: what came of a step that is given what is left to do,
 abbrev pub Proceeds :
     {A E : Type 0}
-    → (List machine.Rest → machine.Step) → (before : Vec Rest Global) → (old : State) → Result A E → Progress
-    → (after : Vec Rest Global) → (new : State) → Type 0
+    → (List machine.Rest → machine.Step) → (before : Vec Rest Global) → (old : State) → Result A E → Progress → (after : Vec Rest Global) → (new : State)
+    → Type 0
 Proceeds f before old result p after new = OnOk result (Goes f before.items old p after.items new)
 
 -- an answer that is taken by what is left to do first,

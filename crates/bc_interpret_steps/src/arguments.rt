@@ -53,8 +53,8 @@ fn give_argument<'c>(
     stacks: &mut Stacks<'c>,
     state: &State,
 ) -> Result<Given<'c>, Memory>
-    ensures { IfOk result (λ given. IsGivenOne arguments.entry first.now behind.now stacks.old.rests.items state.now given
-        stacks.new.next stacks.new.rests.items) }
+    ensures { IfOk result (λ given.
+        IsGivenOne arguments.entry first.now behind.now stacks.old.rests.items state.now given stacks.new.next stacks.new.rests.items) }
 {
     match worth_at(&arguments.spot, first, &mut stacks.room, state)? {
         Some(Worth::Is(v)) => {

@@ -35,8 +35,8 @@ pub(crate) fn perform<'c>(
     stacks: &mut Stacks<'c>,
     state: &mut State,
 ) -> Result<(), Memory>
-    ensures { Proceeds (machine.perform_step (spot_of spot.entry) (command_view command.now) s) stacks.old.rests state.old result
-        stacks.new.next stacks.new.rests state.new }
+    ensures { Proceeds (machine.perform_step (spot_of spot.entry)
+        (command_view command.now) s) stacks.old.rests state.old result stacks.new.next stacks.new.rests state.new }
 {
     match command {
         Command::Call(call) => Ok(behind_value(ValueRest::Drops, spot, call, s, stacks, state)?),
@@ -136,8 +136,8 @@ fn behind_value<'c>(
     stacks: &mut Stacks<'c>,
     state: &State,
 ) -> Result<(), Memory>
-    ensures { Proceeds (λ rs. machine.evaluate (spot_of spot.entry) (exp e.now) s (value_rest rest.entry ∷ rs)) stacks.old.rests state.now result
-        stacks.new.next
+    ensures { Proceeds (λ rs. machine.evaluate (spot_of spot.entry) (exp e.now) s
+        (value_rest rest.entry ∷ rs)) stacks.old.rests state.now result stacks.new.next
         stacks.new.rests state.now }
 {
     put(Rest::Value(rest), &mut stacks.rests)?;
@@ -154,8 +154,8 @@ fn test_which<'c>(
     state: &State,
 ) -> Result<(), Memory>
     ensures { Proceeds (λ rs. machine.decide (spot_of spot.entry) (exp test.now) s
-        (truth_rest (truth_rests.Chooses spot.entry branches.entry.0 branches.entry.1 s) ∷ rs)) stacks.old.rests state.now result
-        stacks.new.next stacks.new.rests state.now }
+        (truth_rest (truth_rests.Chooses spot.entry branches.entry.0 branches.entry.1 s)
+        ∷ rs)) stacks.old.rests state.now result stacks.new.next stacks.new.rests state.now }
 {
     let (this, that) = branches;
     put(
@@ -198,8 +198,8 @@ pub(crate) fn enter_either<'c>(
     state: &mut State,
 ) -> Result<(), Memory>
     ensures { Proceeds (λ rs. choose t (machine.enter (spot_of spot.entry) (block_of branches.entry.0.now) s rs)
-        (machine.enter (spot_of spot.entry) (block_of branches.entry.1.now) s rs)) stacks.old.rests state.old result
-        stacks.new.next stacks.new.rests state.new }
+        (machine.enter (spot_of spot.entry)
+        (block_of branches.entry.1.now) s rs)) stacks.old.rests state.old result stacks.new.next stacks.new.rests state.new }
 {
     let (this, that) = branches;
     if t {
@@ -350,8 +350,8 @@ pub(crate) fn repeat<'c>(
     s: u32,
     stacks: &mut Stacks<'c>,
 ) -> Result<(), Memory>
-    ensures { (st : StateValue) → Proceeds (machine.perform_step (spot_of spot.entry) (commands.Repeat (block_of body.now)) s) stacks.old.rests st result
-        stacks.new.next
+    ensures { (st : StateValue) → Proceeds
+        (machine.perform_step (spot_of spot.entry) (commands.Repeat (block_of body.now)) s) stacks.old.rests st result stacks.new.next
         stacks.new.rests st }
 {
     put(
@@ -390,8 +390,8 @@ pub(crate) fn store<'c>(
     stacks: &mut Stacks<'c>,
     state: &mut State,
 ) -> Result<(), Memory>
-    ensures { Proceeds (machine.store (spot_of spot.entry) (exp value.now) (exp address.now) s) stacks.old.rests state.old result
-        stacks.new.next stacks.new.rests state.new }
+    ensures { Proceeds (machine.store (spot_of spot.entry) (exp value.now)
+        (exp address.now) s) stacks.old.rests state.old result stacks.new.next stacks.new.rests state.new }
 {
     match assign_at_once(&spot, value, address, &mut stacks.room, state)? {
         Some(Assigned::Done) => {
@@ -467,8 +467,8 @@ pub(crate) fn enter<'c>(
     stacks: &mut Stacks<'c>,
     state: &mut State,
 ) -> Result<(), Memory>
-    ensures { Proceeds (machine.enter (spot_of spot.entry) (block_of block.now) s) stacks.old.rests state.old result
-        stacks.new.next stacks.new.rests state.new }
+    ensures { Proceeds (machine.enter (spot_of spot.entry)
+        (block_of block.now) s) stacks.old.rests state.old result stacks.new.next stacks.new.rests state.new }
 {
     let level = above(s, cells_declared(&block.declarations)?)?;
     Ok(declare(
@@ -527,8 +527,8 @@ pub(crate) fn initialise<'c>(
     stacks: &mut Stacks<'c>,
     state: &mut State,
 ) -> Result<(), Memory>
-    ensures { Proceeds (machine.initialise_step (spot_of spot.entry) (map variable variables.now) k s) stacks.old.rests state.old result
-        stacks.new.next stacks.new.rests state.new }
+    ensures { Proceeds (machine.initialise_step (spot_of spot.entry)
+        (map variable variables.now) k s) stacks.old.rests state.old result stacks.new.next stacks.new.rests state.new }
 {
     match variables {
         [] => {
@@ -587,8 +587,8 @@ pub(crate) fn round<'c>(
     stacks: &mut Stacks<'c>,
     state: &mut State,
 ) -> Result<(), Memory>
-    ensures { Proceeds (machine.round_step (spot_of spot.entry) limit by (block_of body.now) s) stacks.old.rests state.old result
-        stacks.new.next stacks.new.rests state.new }
+    ensures { Proceeds (machine.round_step (spot_of spot.entry) limit by
+        (block_of body.now) s) stacks.old.rests state.old result stacks.new.next stacks.new.rests state.new }
 {
     let address = cell_of(spot.frame as usize, s as usize)?;
     match state.store.at(address) {

@@ -113,8 +113,8 @@ fn evaluate_parts<'c>(
     stacks: &mut Stacks<'c>,
     state: &State,
 ) -> Result<(), Memory>
-    ensures { Proceeds (machine.evaluate_parts (spot_of spot.entry) (exp e.now) s) stacks.old.rests state.now result
-        stacks.new.next stacks.new.rests state.now }
+    ensures { Proceeds (machine.evaluate_parts (spot_of spot.entry)
+        (exp e.now) s) stacks.old.rests state.now result stacks.new.next stacks.new.rests state.now }
 {
     match e {
         CoreExp::Num(_) | CoreExp::Frame(_) | CoreExp::Glob(_) | CoreExp::Place(_) => {
@@ -166,8 +166,8 @@ fn call<'c>(
     stacks: &mut Stacks<'c>,
     state: &State,
 ) -> Result<(), Memory>
-    ensures { Proceeds (machine.evaluate_parts (spot_of spot.entry) (tree.Call (args arguments.now) (exp routine.now)) s) stacks.old.rests state.now result
-        stacks.new.next
+    ensures { Proceeds (machine.evaluate_parts (spot_of spot.entry)
+        (tree.Call (args arguments.now) (exp routine.now)) s) stacks.old.rests state.now result stacks.new.next
         stacks.new.rests state.now }
 {
     let level = above(s, 2)?;
@@ -227,8 +227,8 @@ fn choice<'c>(
 
 /// Into the body of the VALOF with this number.
 fn valof<'c>(spot: Spot<'c>, number: u32, s: u32, stacks: &mut Stacks<'c>) -> Result<(), Memory>
-    ensures { (st : StateValue) → Proceeds (machine.evaluate_parts (spot_of spot.entry) (tree.Valof number) s) stacks.old.rests st result
-        stacks.new.next stacks.new.rests st }
+    ensures { (st : StateValue) → Proceeds
+        (machine.evaluate_parts (spot_of spot.entry) (tree.Valof number) s) stacks.old.rests st result stacks.new.next stacks.new.rests st }
 {
     if number < spot.first {
         stacks.next = Progress::Wild(Cause::Malformed);
@@ -278,8 +278,8 @@ fn decide_parts<'c>(
     s: u32,
     stacks: &mut Stacks<'c>,
 ) -> Result<(), Memory>
-    ensures { (st : StateValue) → Proceeds (machine.decide_parts (spot_of spot.entry) (exp e.now) s) stacks.old.rests st result
-        stacks.new.next stacks.new.rests st }
+    ensures { (st : StateValue) → Proceeds
+        (machine.decide_parts (spot_of spot.entry) (exp e.now) s) stacks.old.rests st result stacks.new.next stacks.new.rests st }
 {
     match e {
         CoreExp::Not(part) => {

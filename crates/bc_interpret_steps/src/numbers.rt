@@ -34,8 +34,8 @@ pub(crate) fn number_taken<'c>(
     stacks: &mut Stacks<'c>,
     state: &State,
 ) -> Result<(), Memory>
-    ensures { Takes (number_rest (given stacks.old.rests.items) rest.now) (machine.Number v) stacks.old.rests state.now result
-        stacks.new.next stacks.new.rests state.now }
+    ensures { Takes (number_rest (given stacks.old.rests.items) rest.now)
+        (machine.Number v) stacks.old.rests state.now result stacks.new.next stacks.new.rests state.now }
 {
     match rest {
         NumberRest::Loads => {

@@ -24,8 +24,8 @@ pub fn step<'c>(
     stacks: &mut Stacks<'c>,
     state: &mut State,
 ) -> Result<(), Memory>
-    ensures { StepsOver table.now (work_of (given stacks.old.rests.items) work.now) stacks.old.rests state.old result
-        stacks.new.next stacks.new.rests state.new }
+    ensures { StepsOver table.now (work_of
+        (given stacks.old.rests.items) work.now) stacks.old.rests state.old result stacks.new.next stacks.new.rests state.new }
 {
     match work {
         Work::Evaluate(spot, e, s) => Ok(evaluate(*spot, e, *s, stacks, state)?),

@@ -13,3 +13,4 @@ pub mod Naming
 pub mod Sound
 pub mod Complete
 pub mod Answering
+pub mod Spelled

@@ -48,5 +48,7 @@ source = record { name = codes "M"; text = codes " AB" } ∷ []
 one_token : HasTokens source 0 (token 0 1 false (Name (codes "AB")) (codes "AB") ∷ [])
 unfolding symbol_of
 one_token =
-    Next 8 0 0 0 false (codes " ") (codes "AB") [] (Name (codes "AB")) [] Whole (More (codes " ") [] (codes "AB") (Space 32 (codes "AB") refl) (Nothing (codes "AB"))) (Named (codes "AB") [] (refl, refl) tt refl) (λ e. cc) (omega arith)
+    Next 8 0 0 0 false (codes " ") (codes "AB") [] (Name (codes "AB")) [] Whole
+    (More (codes " ") [] (codes "AB") (Space 32 (codes "AB") refl) (Nothing (codes "AB"))) (Named (codes "AB") [] (refl, refl) tt refl) (λ e. cc)
+    (omega arith)
     (End 8 0 1 3 false [] (Nothing []))

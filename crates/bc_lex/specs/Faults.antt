@@ -29,10 +29,13 @@ pub data IsFaulty : List ℕ → FaultKind → ℕ → Type 0 where
   -- a string that the line's or the file's end cuts before its 256th character
   OpenString : (text after cs : List ℕ) → Spells 34 text cs → length cs < 256 → IsCut after → IsFaulty (34 ∷ (text ++ after)) faults.Unterminated 0
   -- a string with a bad escape before or at its 256th character
-  BadString : (text after cs : List ℕ) → Spells 34 text cs → length cs < 256 → IsBadEscape after → IsFaulty (34 ∷ (text ++ after)) faults.BadEscape (1 + length text)
+  BadString : (text after cs : List ℕ) → Spells 34 text cs → length cs < 256 → IsBadEscape after → IsFaulty (34 ∷ (text ++ after)) faults.BadEscape
+      (1 + length text)
   -- a character constant that begins with a bad escape
   BadConstant : (after : List ℕ) → IsBadEscape after → IsFaulty (39 ∷ after) faults.BadEscape 1
   -- anything else behind a ' than one character and a '
-  OpenConstant : (after : List ℕ) → (IsBadEscape after → ⊥) → ((text rest : List ℕ) (c : ℕ) → after ≡ text ++ 39 ∷ rest → IsCharacter 39 text c → ⊥) → IsFaulty (39 ∷ after) faults.Unterminated 0
+  OpenConstant : (after : List ℕ) → (IsBadEscape after → ⊥) → ((text rest : List ℕ) (c : ℕ) → after ≡ text ++ 39 ∷ rest → IsCharacter 39 text c → ⊥)
+      → IsFaulty (39 ∷ after) faults.Unterminated 0
   -- a byte that begins no token
-  NoToken : (b : ℕ) (after : List ℕ) → is_sign_byte b ≡ true → opens_line (b ∷ after) ≡ false → opens_block (b ∷ after) ≡ false → ((text rest : List ℕ) (s : Symbol) → b ∷ after ≡ text ++ rest → symbol_of text ≡ Some s → ⊥) → IsFaulty (b ∷ after) faults.BadCharacter 0
+  NoToken : (b : ℕ) (after : List ℕ) → is_sign_byte b ≡ true → opens_line (b ∷ after) ≡ false → opens_block (b ∷ after) ≡ false
+      → ((text rest : List ℕ) (s : Symbol) → b ∷ after ≡ text ++ rest → symbol_of text ≡ Some s → ⊥) → IsFaulty (b ∷ after) faults.BadCharacter 0

@@ -30,11 +30,14 @@ value_behind base n (b ∷ bs) = value_behind base (n * base + unwrap_or (digit_
 -- digits of a base behind the base's prefix
 pub data IsNumber : List ℕ → List ℕ → ℕ → Type 0 where
   -- 12
-  Decimal : (b : ℕ) (bs after : List ℕ) → list_all (is_digit_of 10) (b ∷ bs) ≡ true → Ends (is_digit_of 10) after → IsNumber (b ∷ bs) after (value_behind 10 0 (b ∷ bs))
+  Decimal : (b : ℕ) (bs after : List ℕ) → list_all (is_digit_of 10) (b ∷ bs) ≡ true → Ends (is_digit_of 10) after
+      → IsNumber (b ∷ bs) after (value_behind 10 0 (b ∷ bs))
   -- #17
-  Octal : (b : ℕ) (bs after : List ℕ) → list_all (is_digit_of 8) (b ∷ bs) ≡ true → Ends (is_digit_of 8) after → IsNumber (35 ∷ b ∷ bs) after (value_behind 8 0 (b ∷ bs))
+  Octal : (b : ℕ) (bs after : List ℕ) → list_all (is_digit_of 8) (b ∷ bs) ≡ true → Ends (is_digit_of 8) after
+      → IsNumber (35 ∷ b ∷ bs) after (value_behind 8 0 (b ∷ bs))
   -- #X1F
-  Hexadecimal : (b : ℕ) (bs after : List ℕ) → list_all (is_digit_of 16) (b ∷ bs) ≡ true → Ends (is_digit_of 16) after → IsNumber (35 ∷ 88 ∷ b ∷ bs) after (value_behind 16 0 (b ∷ bs))
+  Hexadecimal : (b : ℕ) (bs after : List ℕ) → list_all (is_digit_of 16) (b ∷ bs) ≡ true → Ends (is_digit_of 16) after
+      → IsNumber (35 ∷ 88 ∷ b ∷ bs) after (value_behind 16 0 (b ∷ bs))
 
 -- no letter begins a text
 abbrev pub NoLetter : List ℕ → Type 0
@@ -64,4 +67,5 @@ pub data IsLexeme : List ℕ → List ℕ → Kind → Type 0 where
   -- a sign that takes no tag
   Marked : (text after : List ℕ) (s : Symbol) → IsSign text after s → has_tag s ≡ false → IsLexeme text after (Sign s)
   -- a section bracket with its whole tag
-  Bracket : (text tag after : List ℕ) (s : Symbol) → symbol_of text ≡ Some s → has_tag s ≡ true → list_all is_name_byte tag ≡ true → Ends is_name_byte after → IsLexeme (text ++ tag) after (Sign s)
+  Bracket : (text tag after : List ℕ) (s : Symbol) → symbol_of text ≡ Some s → has_tag s ≡ true → list_all is_name_byte tag ≡ true
+      → Ends is_name_byte after → IsLexeme (text ++ tag) after (Sign s)

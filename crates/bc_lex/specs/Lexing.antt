@@ -87,7 +87,15 @@ unfoldable pub item_by : List File → ℕ → List ℕ → Place → ℕ → Ki
 item_by files file text place start x =
     if is_get x.0
     then target_of files file text start x.1 >>= (λ t. Ok (Get start t.0 t.1))
-    else Ok (Token (record { kind = x.0; text = part text start x.1; file = file; start = start; end = x.1; line_before = place.line || breaks (part text place.at start) }))
+    else Ok (Token (record {
+      kind = x.0;
+      text = part text start x.1;
+      file = file;
+      start = start;
+      end = x.1;
+      line_before = place.line
+          || breaks (part text place.at start);
+    }))
 
 abbrev pub item_on : List File → ℕ → List ℕ → Place → ℕ → Result Found LexError
 item_on files file text place start =

@@ -14,3 +14,4 @@ pub mod Lexemes
 pub mod Faults
 pub mod Tokens
 pub mod Examples
+pub mod Spelled

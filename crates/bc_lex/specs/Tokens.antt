@@ -57,37 +57,46 @@ pub data Reads (files : List File) : ℕ → ℕ → ℕ → ℕ → Bool → Li
   -- Nothing but a gap is left: no token.
   End : (levels file before at : ℕ) (line : Bool) (gap : List ℕ) → IsGap gap [] → Reads files levels file before at line gap [] Whole
   -- A gap and a token, and what follows. A line break in the gap stands before the token.
-  Next : (levels file before at : ℕ) (line : Bool) (gap text after : List ℕ) (kind : Kind) (tokens : List Lexeme) (ending : Ending) → IsGap gap (text ++ after) → IsLexeme text after kind → kind ≢ Sign symbol.Get → before < 60000
+  Next : (levels file before at : ℕ) (line : Bool) (gap text after : List ℕ) (kind : Kind) (tokens : List Lexeme) (ending : Ending)
+      → IsGap gap (text ++ after) → IsLexeme text after kind → kind ≢ Sign symbol.Get → before < 60000
       → Reads files levels file (before + 1) (at + length gap + length text) false after tokens ending
       → Reads files levels file before at line (gap ++ (text ++ after)) (token file (at + length gap) (line || breaks gap) kind text ∷ tokens) ending
   -- The token behind a gap is one too many.
-  TooMany : (levels file before at : ℕ) (line : Bool) (gap text after : List ℕ) (kind : Kind) → IsGap gap (text ++ after) → IsLexeme text after kind → kind ≢ Sign symbol.Get → 60000 ≤ before
+  TooMany : (levels file before at : ℕ) (line : Bool) (gap text after : List ℕ) (kind : Kind) → IsGap gap (text ++ after) → IsLexeme text after kind
+      → kind ≢ Sign symbol.Get → 60000 ≤ before
       → Reads files levels file before at line (gap ++ (text ++ after)) [] (Faulty (errors.TooManyTokens file (at + length gap)))
   -- Behind a gap stands something faulty.
   Fault : (levels file before at : ℕ) (line : Bool) (gap bytes : List ℕ) (kind : FaultKind) (behind : ℕ) → IsGap gap bytes → IsFaulty bytes kind behind
       → Reads files levels file before at line (gap ++ bytes) [] (Faulty (error_of kind file (at + length gap + behind)))
   -- A gap and a GET with its string: first the tokens of the named file, which begins behind a line break, then those of
   -- what follows, which does so too. The named file may hold GETs of one level less.
-  Get : (levels file before at : ℕ) (line : Bool) (gap space string after name : List ℕ) (named : ℕ) (inner tokens : List Lexeme) (ending : Ending) → IsGap gap (codes "GET" ++ (space ++ (string ++ after))) → IsGet space string after name → IsFirstNamed files name named
+  Get : (levels file before at : ℕ) (line : Bool) (gap space string after name : List ℕ) (named : ℕ) (inner tokens : List Lexeme) (ending : Ending)
+      → IsGap gap (codes "GET" ++ (space ++ (string ++ after))) → IsGet space string after name → IsFirstNamed files name named
       → Reads files levels named before 0 true (text_of files named) inner Whole
       → Reads files (suc levels) file (before + length inner) (at + length gap + 3 + length space + length string) true after tokens ending
       → Reads files (suc levels) file before at line (gap ++ (codes "GET" ++ (space ++ (string ++ after)))) (inner ++ tokens) ending
   -- The same, where the named file has a fault: this one.
-  GetFault : (levels file before at : ℕ) (line : Bool) (gap space string after name : List ℕ) (named : ℕ) (inner : List Lexeme) (e : LexError) → IsGap gap (codes "GET" ++ (space ++ (string ++ after))) → IsGet space string after name → IsFirstNamed files name named
+  GetFault : (levels file before at : ℕ) (line : Bool) (gap space string after name : List ℕ) (named : ℕ) (inner : List Lexeme) (e : LexError)
+      → IsGap gap (codes "GET" ++ (space ++ (string ++ after))) → IsGet space string after name → IsFirstNamed files name named
       → Reads files levels named before 0 true (text_of files named) inner (Faulty e)
       → Reads files (suc levels) file before at line (gap ++ (codes "GET" ++ (space ++ (string ++ after)))) inner (Faulty e)
   -- A GET where no more GETs may nest.
-  GetTooDeep : (file before at : ℕ) (line : Bool) (gap space string after name : List ℕ) (named : ℕ) → IsGap gap (codes "GET" ++ (space ++ (string ++ after))) → IsGet space string after name → IsFirstNamed files name named
+  GetTooDeep : (file before at : ℕ) (line : Bool) (gap space string after name : List ℕ) (named : ℕ)
+      → IsGap gap (codes "GET" ++ (space ++ (string ++ after))) → IsGet space string after name → IsFirstNamed files name named
       → Reads files zero file before at line (gap ++ (codes "GET" ++ (space ++ (string ++ after)))) [] (Faulty (errors.GetTooDeep file (at + length gap)))
   -- A GET whose string names no file.
-  GetUnnamed : (levels file before at : ℕ) (line : Bool) (gap space string after name : List ℕ) → IsGap gap (codes "GET" ++ (space ++ (string ++ after))) → IsGet space string after name → IsUnnamed files name
+  GetUnnamed : (levels file before at : ℕ) (line : Bool) (gap space string after name : List ℕ) → IsGap gap (codes "GET" ++ (space ++ (string ++ after)))
+      → IsGet space string after name → IsUnnamed files name
       → Reads files levels file before at line (gap ++ (codes "GET" ++ (space ++ (string ++ after)))) [] (Faulty (errors.GetMissing file (at + length gap)))
   -- A GET behind which something else than a string stands.
-  GetNoString : (levels file before at : ℕ) (line : Bool) (gap space after : List ℕ) → IsGap gap (codes "GET" ++ (space ++ after)) → Ends is_name_byte (space ++ after) → IsGap space after → IsNoString after
+  GetNoString : (levels file before at : ℕ) (line : Bool) (gap space after : List ℕ) → IsGap gap (codes "GET" ++ (space ++ after))
+      → Ends is_name_byte (space ++ after) → IsGap space after → IsNoString after
       → Reads files levels file before at line (gap ++ (codes "GET" ++ (space ++ after))) [] (Faulty (errors.GetMissing file (at + length gap)))
   -- A GET behind which a comment or a string is faulty.
-  GetFaulty : (levels file before at : ℕ) (line : Bool) (gap space bytes : List ℕ) (kind : FaultKind) (behind : ℕ) → IsGap gap (codes "GET" ++ (space ++ bytes)) → Ends is_name_byte (space ++ bytes) → IsGap space bytes → IsFaultyString bytes kind behind
-      → Reads files levels file before at line (gap ++ (codes "GET" ++ (space ++ bytes))) [] (Faulty (error_of kind file (at + length gap + 3 + length space + behind)))
+  GetFaulty : (levels file before at : ℕ) (line : Bool) (gap space bytes : List ℕ) (kind : FaultKind) (behind : ℕ)
+      → IsGap gap (codes "GET" ++ (space ++ bytes)) → Ends is_name_byte (space ++ bytes) → IsGap space bytes → IsFaultyString bytes kind behind
+      → Reads files levels file before at line (gap ++ (codes "GET" ++ (space ++ bytes))) []
+      (Faulty (error_of kind file (at + length gap + 3 + length space + behind)))
 
 -- the token list of a source, at most 60,000 tokens
 abbrev pub HasTokens : List File → ℕ → List Lexeme → Type 0

@@ -8,6 +8,7 @@ use crate::fault::{Fault, FaultKind};
 use crate::number::number;
 use crate::quoted::{character, string};
 use crate::run::{behind, name_bytes};
+use crate::symbols::spelled;
 use bc_lex_tokens::{Symbol, TokenKind};
 
 /// Whether a tag may follow the symbol.
@@ -24,7 +25,7 @@ fn word<'s>(bytes: &'s [u8]) -> (TokenKind<'s>, usize)
 {
     let count = name_bytes(bytes);
     let text = bytes.split_at(count).0;
-    match Symbol::spelled(text) {
+    match spelled(text) {
         Some(symbol) => (TokenKind::Symbol(symbol), count),
         None => (TokenKind::Name(text), count),
     }
@@ -39,12 +40,12 @@ fn sign(bytes: &[u8]) -> Result<(Symbol, usize), Fault>
 {
     if bytes.len() > 1 {
         let (front, rest) = bytes.split_at(2);
-        if let Some(symbol) = Symbol::spelled(front) {
+        if let Some(symbol) = spelled(front) {
             let tag = if has_tag(symbol) { name_bytes(rest) } else { 0 };
             return Ok((symbol, 2 + tag));
         }
     }
-    match Symbol::spelled(bytes.split_at(1).0) {
+    match spelled(bytes.split_at(1).0) {
         Some(symbol) => Ok((symbol, 1)),
         None => Err(Fault::here(FaultKind::BadCharacter)),
     }

@@ -11,6 +11,7 @@ mod quoted;
 mod reading;
 mod run;
 mod source;
+mod symbols;
 
 pub use bc_lex_tokens::{Symbol, Token, TokenKind};
 pub use error::LexError;

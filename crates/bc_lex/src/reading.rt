@@ -188,7 +188,8 @@ fn read_file<'s>(
     tokens: &mut Vec<Token<'s>>,
 ) -> Result<(), LexError>
     requires { file < length sources.now }
-    ensures { ReadsAs (λ _. lexemes_of tokens.new.items) result (file_to_end (deeper_of (files_of sources.now) levels) (files_of sources.now) file line (lexemes_of tokens.old.items)) }
+    ensures { ReadsAs (λ _. lexemes_of tokens.new.items) result (file_to_end (deeper_of (files_of sources.now) levels) (files_of sources.now) file line
+        (lexemes_of tokens.old.items)) }
 {
     let mut place = Place { at: 0, line };
     // Each turn goes on by a byte at least.

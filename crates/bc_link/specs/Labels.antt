@@ -34,7 +34,8 @@ pub labels_in_order : labels_of (Label 7 ∷ Data 3 ∷ Label 1 ∷ []) ≡ 7 �
 labels_in_order = refl
 
 -- `DL4 L5 LL6 G1L2`: `L5` is the number 5
-pub uses_in_order : uses_of (DataLabel 4 ∷ Operation functions.Load false bases.Number 5 ∷ Operation functions.Load false bases.Label 6 ∷ Global 1 2 ∷ []) ≡ 4 ∷ 6 ∷ 2 ∷ []
+pub uses_in_order : uses_of (DataLabel 4 ∷ Operation functions.Load false bases.Number 5 ∷ Operation functions.Load false bases.Label 6 ∷ Global 1 2 ∷ [])
+    ≡ 4 ∷ 6 ∷ 2 ∷ []
 uses_in_order = refl
 
 pub first_pair_wins : label_address ((1, 520) ∷ (1, 600) ∷ []) 1 ≡ 520

@@ -17,7 +17,8 @@ IsSegment segments k segment = slice_get segments k ≡ Some segment
 
 -- the image has that place for it
 abbrev pub PlacesAreStarts : Type 0
-PlacesAreStarts = (segments : List (List Item)) (k : ℕ) (segment : List Item) → IsSegment segments k segment → slice_get (places_from 520 segments) k ≡ Some (place_at (start_of segments k) segment)
+PlacesAreStarts = (segments : List (List Item)) (k : ℕ) (segment : List Item) → IsSegment segments k segment → slice_get (places_from 520 segments) k
+    ≡ Some (place_at (start_of segments k) segment)
 
 -- the range of a segment lies behind the globals and in front of the stack
 abbrev pub RangesLieBetween : Type 0
@@ -32,7 +33,8 @@ RangesAreDisjoint = (segments : List (List Item)) (j k : ℕ) (segment : List It
 -- the words of a segment stand at its start, with the addresses of its labels
 abbrev pub WordsStandAtStarts : Type 0
 WordsStandAtStarts = (segments : List (List Item)) (k : ℕ) (segment : List Item) → IsSegment segments k segment
-    → take (size_of_all segment) (drop (start_of segments k) (store_of segments)) ≡ assembled (label_address (label_places (start_of segments k) segment)) segment
+    → take (size_of_all segment) (drop (start_of segments k) (store_of segments))
+    ≡ assembled (label_address (label_places (start_of segments k) segment)) segment
 
 -- boot stands at 0, the cells of the globals at 8, and the store has 65,536 words where the segments leave room for them
 abbrev pub StoreIsWhole : Type 0

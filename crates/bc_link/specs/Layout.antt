@@ -27,7 +27,8 @@ places_from start (segment ∷ segments) = place_at start segment ∷ places_fro
 -- ---- Worked examples
 
 -- two segments, `1 D7` and `D8 2 DL2`
-pub two_places : places_from 520 ((Label 1 ∷ Data 7 ∷ []) ∷ (Data 8 ∷ Label 2 ∷ DataLabel 2 ∷ []) ∷ []) ≡ (record { start = 520; labels = (1, 520) ∷ [] }) ∷ (record { start = 521; labels = (2, 522) ∷ [] }) ∷ []
+pub two_places : places_from 520 ((Label 1 ∷ Data 7 ∷ []) ∷ (Data 8 ∷ Label 2 ∷ DataLabel 2 ∷ []) ∷ []) ≡ (record { start = 520; labels = (1, 520) ∷ [] })
+    ∷ (record { start = 521; labels = (2, 522) ∷ [] }) ∷ []
 two_places = refl
 
 pub two_bases : stack_base_of ((Label 1 ∷ Data 7 ∷ []) ∷ (Data 8 ∷ Label 2 ∷ DataLabel 2 ∷ []) ∷ []) ≡ 523

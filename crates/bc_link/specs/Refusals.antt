@@ -32,7 +32,8 @@ globals_set (item ∷ items) = globals_set items
 abbrev pub first_unset : List ℕ → List ℕ → Option ℕ
 first_unset labels uses = find (λ m. not (list_any (λ y. m == y) labels)) uses
 
--- a label that stands twice in a segment: the first, in the order of segments and items, at the item that repeats; `k` is the number of the first of these segments
+-- a label that stands twice in a segment: the first, in the order of segments and items, at the item that repeats; `k` is the number of the first of
+-- these segments
 abbrev pub label_twice_from : ℕ → List (List Item) → Option LinkError
 label_twice_from k [] = None
 label_twice_from k (segment ∷ segments) = first_of (option_map (LabelTwice k) (first_repeated (labels_of segment))) (label_twice_from (k + 1) segments)
@@ -51,7 +52,8 @@ too_large segments = cond (nat_le (stack_base_of segments) 65472) None (Some Too
 -- a label that is spoken of and stands nowhere in its segment: the first
 abbrev pub label_unset_from : ℕ → List (List Item) → Option LinkError
 label_unset_from k [] = None
-label_unset_from k (segment ∷ segments) = first_of (option_map (LabelUnset k) (first_unset (labels_of segment) (uses_of segment))) (label_unset_from (k + 1) segments)
+label_unset_from k (segment ∷ segments) = first_of (option_map (LabelUnset k) (first_unset (labels_of segment) (uses_of segment)))
+    (label_unset_from (k + 1) segments)
 
 -- the refusal, where there is one
 abbrev pub refusal_of : List (List Item) → Option LinkError

@@ -29,7 +29,8 @@ fn note_globals(
     seen: &mut IndexSet<GlobalNumber>,
     items: &[Item],
 ) -> Result<Option<GlobalNumber>, Memory>
-    ensures { IfOk result (λ global. (rest : List ℕ) → repeated_behind seen.old.keys (globals_set items.now ++ rest) ≡ first_of global (repeated_behind seen.new.keys rest)) }
+    ensures { IfOk result (λ global. (rest : List ℕ) → repeated_behind seen.old.keys (globals_set items.now ++ rest)
+        ≡ first_of global (repeated_behind seen.new.keys rest)) }
 {
     for item in items {
         if let Item::Global { number, .. } = item {

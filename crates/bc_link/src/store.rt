@@ -91,7 +91,8 @@ fn push_next(
     item: &Item,
     labels: &LabelTable,
 ) -> Result<Option<u8>, Memory>
-    ensures { IfOk result (λ next. (rest : List Item) → words.new.items ++ assembled (label_address labels.now) (with_waiting next rest) ≡ words.old.items ++ assembled (label_address labels.now) (with_waiting waiting (item.now ∷ rest))) }
+    ensures { IfOk result (λ next. (rest : List Item) → words.new.items ++ assembled (label_address labels.now) (with_waiting next rest) ≡ words.old.items
+        ++ assembled (label_address labels.now) (with_waiting waiting (item.now ∷ rest))) }
 {
     match (waiting, item) {
         (None, Item::Byte(byte)) => Ok(Some(*byte)),

@@ -36,7 +36,9 @@ impl<R: Read> FileInput<R> {
     /// its end for good.
     fn next_byte(&mut self) -> Result<Option<u8>, DeviceFault>
         ensures byte { IsSome (R.remaining self.old.reader) → IfOk result (λ byte. byte ≡ next_byte self.old.ended (file_input R.remaining self.old).rest) }
-        ensures ok { IsSome (R.remaining self.old.reader) → OnOk result (file_input R.remaining self.new ≡ record (file_input R.remaining self.old) { rest = behind_byte self.old.ended (file_input R.remaining self.old).rest }) }
+        ensures ok { IsSome (R.remaining self.old.reader)
+            → OnOk result (file_input R.remaining self.new
+            ≡ record (file_input R.remaining self.old) { rest = behind_byte self.old.ended (file_input R.remaining self.old).rest }) }
         ensures err { IsSome (R.remaining self.old.reader) → OnErr result (file_input R.remaining self.new ≡ file_input R.remaining self.old) }
         ensures known { IsSome (R.remaining self.old.reader) → IsSome (R.remaining self.new.reader) }
     {
@@ -144,7 +146,8 @@ impl<W: Write> Outputs<W> {
     fn tables(alloc: Global, outputs: Vec<Named<W>>) -> Result<Outputs<W>, Memory>
     where
         W: Drop,
-        ensures content { IfOk result (λ tables. file_outputs tables.names.items (map W.contents tables.writers.items) ≡ fresh_outputs W.contents outputs.items) }
+        ensures content { IfOk result (λ tables. file_outputs tables.names.items (map W.contents tables.writers.items)
+            ≡ fresh_outputs W.contents outputs.items) }
         ensures writers { IfOk result (λ tables. tables.writers.items ≡ devices outputs.items) }
     {
         let mut names = Vec::with_capacity(alloc, outputs.len())?;
@@ -183,7 +186,8 @@ impl<R: Read, W: Write> FileStreams<R, W> {
         W: Drop,
         ensures refused { IfErr result (λ fault. fault ≢ faults.Memory → refusal_of (given_names inputs.items) (given_names outputs.items) ≡ Some fault) }
         ensures accepted { OnOk result (refusal_of (given_names inputs.items) (given_names outputs.items) ≡ None) }
-        ensures content { IfOk result (λ streams. file_content R.remaining W.contents streams ≡ opened (fresh_inputs R.remaining inputs.items) (fresh_outputs W.contents outputs.items)) }
+        ensures content { IfOk result (λ streams. file_content R.remaining W.contents streams ≡ opened (fresh_inputs R.remaining inputs.items)
+            (fresh_outputs W.contents outputs.items)) }
         ensures told { IfOk result (λ streams. AllTell R.remaining inputs.items → AllTell W.contents outputs.items → AllTold R.remaining W.contents streams) }
         // Where what the readers tell are bytes, as it always is of a reader that goes on to its end, the streams are known.
         ensures known { IfOk result (λ streams. AllTell R.remaining inputs.items → HoldBytes (fresh_inputs R.remaining inputs.items)
@@ -223,7 +227,8 @@ impl<R: Read, W: Write> FileStreams<R, W> {
     /// `DeviceFault` comes where one failed.
     #[tactic(auto, unfolding(crate::specs::Rose::Rose))]
     pub fn close(&mut self) -> Result<(), DeviceFault>
-        ensures content { AllTold R.remaining W.contents self.old → file_content R.remaining W.contents self.new ≡ file_content R.remaining W.contents self.old }
+        ensures content { AllTold R.remaining W.contents self.old → file_content R.remaining W.contents self.new
+            ≡ file_content R.remaining W.contents self.old }
         ensures known { AllTold R.remaining W.contents self.old → AllTold R.remaining W.contents self.new }
         ensures failed { OnErr result (Rose (file_failures self.old) (file_failures self.new)) }
         ensures counted { file_failures self.old ≤ file_failures self.new }

@@ -56,7 +56,10 @@ unfolding runs step started
 one_less = refl
 
 -- `L0 X6` divides by 0, and the division isn't carried out
-divides : runs 9 (start (0 ∷ 57350 ∷ []) 2 small) ≡ (record { registers = record { a = 0; b = 0; c = 1; p = 2 }; store = 0 ∷ 57350 ∷ []; streams = small }, ZeroDivide)
+divides : runs 9 (start (0 ∷ 57350 ∷ []) 2 small) ≡ (
+  record { registers = record { a = 0; b = 0; c = 1; p = 2 }; store = 0 ∷ 57350 ∷ []; streams = small },
+  ZeroDivide,
+)
 unfolding runs step
 divides = refl
 

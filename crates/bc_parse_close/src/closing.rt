@@ -163,7 +163,8 @@ fn put_token<'s>(
     token: &Token<'s>,
     at: usize,
 ) -> Result<bool, CloseFault>
-    ensures { Gives (λ ends. state list.new opened.new.items ends) result (after_token (lists list.old) (token_step at (tags opened.old.items) is_behind_end (lexeme_of token.now))) }
+    ensures { Gives (λ ends. state list.new opened.new.items ends) result
+        (after_token (lists list.old) (token_step at (tags opened.old.items) is_behind_end (lexeme_of token.now))) }
 {
     match token.kind {
         TokenKind::Symbol(Symbol::OpenSection) => {

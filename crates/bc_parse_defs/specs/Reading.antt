@@ -346,8 +346,10 @@ module _ (E : Reader) where
   -- one more step behind an operand, with the level that the whole then has
   unfoldable pub suffix_read : ℕ → ℕ → ℕ → Following → Exp → ℕ → ℕ → Result (Piece (Exp × ℕ)) Fault
   suffix_read nest round begin Ends left height place = Err (Expected place)
-  suffix_read nest round begin (Operator o after) left height place = with_operator nest round o left height place after >>= λ p. Ok (piece (p.tree, level_of o) p.height p.rest)
-  suffix_read nest round begin (Arguments after) left height place = with_arguments nest round left height place after >>= λ p. Ok (piece (p.tree, 12) p.height p.rest)
+  suffix_read nest round begin (Operator o after) left height place = with_operator nest round o left height place after >>= λ p. Ok
+      (piece (p.tree, level_of o) p.height p.rest)
+  suffix_read nest round begin (Arguments after) left height place = with_arguments nest round left height place after >>= λ p. Ok
+      (piece (p.tree, 12) p.height p.rest)
   suffix_read nest round begin (Choice after) left height place = with_choice nest round left height begin after >>= λ p. Ok (piece (p.tree, 1) p.height p.rest)
 
   unfoldable pub grow_turn : ℕ → ℕ → ℕ → ℕ → Piece (Exp × ℕ) → Result (Piece (Exp × ℕ) × Bool) Fault
@@ -413,8 +415,10 @@ module _ (E : Reader) where
   -- REPEAT words behind a command
   unfoldable pub repeated : ℕ → ℕ → RepeatWord → Piece Command → List Part → Result (Piece Command × Bool) Fault
   repeated nest round repeat_word.Repeat s ts = Ok (piece (tree.Repeat s.tree) (s.height + 1) ts, false)
-  repeated nest round repeat_word.While s ts = E (nest - 1) round 1 ts >>= λ e. Ok (piece (tree.RepeatWhile s.tree e.tree) (max s.height e.height + 1) e.rest, false)
-  repeated nest round repeat_word.Until s ts = E (nest - 1) round 1 ts >>= λ e. Ok (piece (tree.RepeatUntil s.tree e.tree) (max s.height e.height + 1) e.rest, false)
+  repeated nest round repeat_word.While s ts =
+      E (nest - 1) round 1 ts >>= λ e. Ok (piece (tree.RepeatWhile s.tree e.tree) (max s.height e.height + 1) e.rest, false)
+  repeated nest round repeat_word.Until s ts =
+      E (nest - 1) round 1 ts >>= λ e. Ok (piece (tree.RepeatUntil s.tree e.tree) (max s.height e.height + 1) e.rest, false)
 
   unfoldable pub repeat_turn : ℕ → ℕ → Piece Command → Result (Piece Command × Bool) Fault
   repeat_turn nest round s =
@@ -428,7 +432,8 @@ module _ (E : Reader) where
   -- labels in front of a command
   unfoldable pub label_read : ℕ → ℕ → Piece Labels → LabelStart → Result (Piece Labels × Bool) Fault
   label_read nest round s NoLabel = Ok (s, true)
-  label_read nest round s (CaseLabel ts) = E nest round 2 ts >>= λ k. expect_of sign.Colon k.rest >>= λ rest. Ok (piece (add_label s.tree (tree.Case k.tree)) (max s.height k.height) rest, false)
+  label_read nest round s (CaseLabel ts) = E nest round 2 ts >>= λ k. expect_of sign.Colon k.rest >>= λ rest. Ok
+      (piece (add_label s.tree (tree.Case k.tree)) (max s.height k.height) rest, false)
   label_read nest round s (DefaultLabel ts) = expect_of sign.Colon ts >>= λ rest. Ok (piece (add_label s.tree tree.Default) s.height rest, false)
   label_read nest round s (NameLabel n ts) = Ok (piece (add_label s.tree (tree.Named n)) s.height ts, false)
 
@@ -476,7 +481,8 @@ module _ (E : Reader) (C : CommandReader) (D : DefinitionReader) where
 
   unfoldable pub declaration_read : ℕ → ℕ → DeclarationWord → List Part → Result (Piece Declaration) Fault
   declaration_read nest round declaration_word.Let ts = definitions_read nest round ts >>= λ ds. Ok (piece (tree.Let ds.tree) ds.height ds.rest)
-  declaration_read nest round (declaration_word.Constants s) ts = expect_of sign.OpenSection ts >>= λ rest. entries_read E nest round rest >>= λ es. Ok (piece (tree.Constants s es.tree) es.height es.rest)
+  declaration_read nest round (declaration_word.Constants s) ts = expect_of sign.OpenSection ts >>= λ rest. entries_read E nest round rest >>= λ es. Ok
+      (piece (tree.Constants s es.tree) es.height es.rest)
 
   -- a declaration or an item
   unfoldable pub part_read : Places → ℕ → ℕ → Piece (Declarations × Items) → Result (Piece (Declarations × Items)) Fault
@@ -508,7 +514,8 @@ module _ (E : Reader) (C : CommandReader) (D : DefinitionReader) where
   body_of_block nest round b =
       on (word_in repeat_word_of b.rest)
       (Ok b)
-      (λ w. if nat_lt b.height nest then (repeats_read E nest round (piece (tree.Compound b.tree) (b.height + 1) b.rest) >>= λ c. Ok (piece (as_body c.tree c.height).0 (as_body c.tree c.height).1 c.rest)) else Err (TooDeep (length b.rest)))
+      (λ w. if nat_lt b.height nest then (repeats_read E nest round (piece (tree.Compound b.tree) (b.height + 1) b.rest) >>= λ c. Ok
+      (piece (as_body c.tree c.height).0 (as_body c.tree c.height).1 c.rest)) else Err (TooDeep (length b.rest)))
 
   unfoldable pub body_read : ℕ → ℕ → List Part → Result (Piece Block) Fault
   body_read nest round ts =
@@ -543,7 +550,8 @@ module _ (E : Reader) (C : CommandReader) (D : DefinitionReader) where
       (on (call_in xs.tree) (Err (Expected (length xs.rest))) (λ c. Ok (piece (tree.Do c.0 c.1) (xs.height + 1) xs.rest)))
       (λ after.
       exps_read E (nest - 1) round 1 (count xs.tree) after >>= λ es.
-      if count es.tree == count xs.tree then Ok (piece (tree.Assign xs.tree es.tree) (max xs.height es.height + 1) es.rest) else Err (Expected (length es.rest)))
+      if count es.tree == count xs.tree then Ok (piece (tree.Assign xs.tree es.tree) (max xs.height es.height + 1) es.rest) else Err
+      (Expected (length es.rest)))
 
   unfoldable pub simple_read : ℕ → ℕ → SimpleWord → List Part → Result (Piece Command) Fault
   simple_read nest round simple_word.Block ts = block_read (nest - 1) round ts >>= λ b. Ok (piece (tree.Compound b.tree) (b.height + 1) b.rest)
@@ -652,7 +660,8 @@ unfoldable mutual
 
   pub definition_of : ℕ → DefinitionReader
   definition_of zero nest round ts = Err (TooDeep (length ts))
-  definition_of (suc n) nest round ts = if nat_lt 0 nest then defined_read (exp_of n) (command_of n) (definition_of n) nest round ts else Err (TooDeep (length ts))
+  definition_of (suc n) nest round ts = if nat_lt 0 nest then defined_read (exp_of n) (command_of n) (definition_of n) nest round ts else Err
+      (TooDeep (length ts))
 
 -- a section, at most 200 trees deep, with at most 400 round brackets open at once
 unfoldable pub section_of : List Part → Result Declarations Fault

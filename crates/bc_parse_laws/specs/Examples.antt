@@ -29,22 +29,26 @@ assigned e = tree.Assign (more (tree.Name x) none) (more e none)
 
 -- A-B-C
 differences : command_spelling (assigned (tree.Dyadic dyadic.Subtract (tree.Dyadic dyadic.Subtract a b) c))
-    ≡ Name x ∷ A sign.Assign ∷ A sign.OpenBracket ∷ A sign.OpenBracket ∷ Name (65 ∷ []) ∷ A sign.Minus ∷ Name (66 ∷ []) ∷ A sign.CloseBracket ∷ A sign.Minus ∷ Name (67 ∷ []) ∷ A sign.CloseBracket ∷ []
+    ≡ Name x ∷ A sign.Assign ∷ A sign.OpenBracket ∷ A sign.OpenBracket ∷ Name (65 ∷ []) ∷ A sign.Minus ∷ Name (66 ∷ []) ∷ A sign.CloseBracket
+    ∷ A sign.Minus ∷ Name (67 ∷ []) ∷ A sign.CloseBracket ∷ []
 differences = refl
 
 -- !A!B
 loads : command_spelling (assigned (tree.Monadic monadic.Load (tree.Dyadic dyadic.Index a b)))
-    ≡ Name x ∷ A sign.Assign ∷ A sign.OpenBracket ∷ A sign.Indirection ∷ A sign.OpenBracket ∷ Name (65 ∷ []) ∷ A sign.Indirection ∷ Name (66 ∷ []) ∷ A sign.CloseBracket ∷ A sign.CloseBracket ∷ []
+    ≡ Name x ∷ A sign.Assign ∷ A sign.OpenBracket ∷ A sign.Indirection ∷ A sign.OpenBracket ∷ Name (65 ∷ []) ∷ A sign.Indirection ∷ Name (66 ∷ [])
+    ∷ A sign.CloseBracket ∷ A sign.CloseBracket ∷ []
 loads = refl
 
 -- A & NOT B=C
 and_not : command_spelling (assigned (tree.Dyadic dyadic.And a (tree.Monadic monadic.Not (tree.Dyadic dyadic.Equal b c))))
-    ≡ Name x ∷ A sign.Assign ∷ A sign.OpenBracket ∷ Name (65 ∷ []) ∷ A sign.LogicalAnd ∷ A sign.OpenBracket ∷ A sign.Not ∷ A sign.OpenBracket ∷ Name (66 ∷ []) ∷ A sign.Equal ∷ Name (67 ∷ []) ∷ A sign.CloseBracket ∷ A sign.CloseBracket ∷ A sign.CloseBracket ∷ []
+    ≡ Name x ∷ A sign.Assign ∷ A sign.OpenBracket ∷ Name (65 ∷ []) ∷ A sign.LogicalAnd ∷ A sign.OpenBracket ∷ A sign.Not ∷ A sign.OpenBracket
+    ∷ Name (66 ∷ []) ∷ A sign.Equal ∷ Name (67 ∷ []) ∷ A sign.CloseBracket ∷ A sign.CloseBracket ∷ A sign.CloseBracket ∷ []
 and_not = refl
 
 -- A=1 -> B, C
 chosen : command_spelling (assigned (tree.Condition (tree.Dyadic dyadic.Equal a (tree.Number 1)) b c))
-    ≡ Name x ∷ A sign.Assign ∷ A sign.OpenBracket ∷ A sign.OpenBracket ∷ Name (65 ∷ []) ∷ A sign.Equal ∷ Number 1 ∷ A sign.CloseBracket ∷ A sign.Arrow ∷ Name (66 ∷ []) ∷ A sign.Comma ∷ Name (67 ∷ []) ∷ A sign.CloseBracket ∷ []
+    ≡ Name x ∷ A sign.Assign ∷ A sign.OpenBracket ∷ A sign.OpenBracket ∷ Name (65 ∷ []) ∷ A sign.Equal ∷ Number 1 ∷ A sign.CloseBracket ∷ A sign.Arrow
+    ∷ Name (66 ∷ []) ∷ A sign.Comma ∷ Name (67 ∷ []) ∷ A sign.CloseBracket ∷ []
 chosen = refl
 
 abbrev only : Command → Block
@@ -52,7 +56,8 @@ only d = block no_declarations (item (Labelled no_labels d) no_items)
 
 -- IF A=B C()
 tested : command_spelling (tree.If (tree.Dyadic dyadic.Equal a b) (only (tree.Do c none)))
-    ≡ A sign.If ∷ Name (65 ∷ []) ∷ A sign.Equal ∷ Name (66 ∷ []) ∷ A sign.Do ∷ A sign.OpenSection ∷ Name (67 ∷ []) ∷ A sign.OpenBracket ∷ A sign.CloseBracket ∷ A sign.CloseSection ∷ []
+    ≡ A sign.If ∷ Name (65 ∷ []) ∷ A sign.Equal ∷ Name (66 ∷ []) ∷ A sign.Do ∷ A sign.OpenSection ∷ Name (67 ∷ []) ∷ A sign.OpenBracket
+    ∷ A sign.CloseBracket ∷ A sign.CloseSection ∷ []
 tested = refl
 
 -- brackets

@@ -20,11 +20,13 @@ SpellingIsSpelled = (ds : Declarations) (ts : List Part) → SpellsSection ds ts
 -- the canonical spelling of a section that the grammar has a spelling for is read as that section, if it nests at most 200 deep, opens
 -- at most 400 round brackets at once, and has no REPEAT word behind a VALOF's body
 abbrev pub SpellingIsRead : Type 0
-SpellingIsRead = (ds : Declarations) (ts : List Part) → SpellsSection ds ts → declarations_height ds ≤ 200 → most_open 0 (section_spelling ds) ≤ 400 → RepeatsNoValof (section_spelling ds) → section_of (section_spelling ds) ≡ Ok ds
+SpellingIsRead = (ds : Declarations) (ts : List Part) → SpellsSection ds ts → declarations_height ds ≤ 200 → most_open 0 (section_spelling ds) ≤ 400
+    → RepeatsNoValof (section_spelling ds) → section_of (section_spelling ds) ≡ Ok ds
 
 -- the closed list of a canonical spelling's tokens is that spelling
 abbrev pub SpellingIsClosed : Type 0
-SpellingIsClosed = (ds : Declarations) (ts : List Lexeme) → IsSpelling ds ts → (ps : List Placed) × (closed_list ts ≡ Ok ps) × (parts_in ps ≡ section_spelling ds)
+SpellingIsClosed = (ds : Declarations) (ts : List Lexeme) → IsSpelling ds ts → (ps : List Placed) × (closed_list ts ≡ Ok ps)
+    × (parts_in ps ≡ section_spelling ds)
 
 -- each pair of round brackets of a canonical spelling holds at most one operator outside its inner brackets
 abbrev pub BracketsHoldOne : Type 0

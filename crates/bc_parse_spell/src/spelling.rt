@@ -359,7 +359,8 @@ fn done<'s>(out: &mut Vec<TokenKind<'s>>, body: &Block<'s>) -> Result<(), Memory
 /// The items of a SWITCHON.
 #[cycle(spelling)]
 fn cases<'s>(out: &mut Vec<TokenKind<'s>>, list: &[Item<'s>]) -> Result<(), Memory>
-    ensures { Adds result out.old out.new (A sign.Into ∷ A sign.OpenSection ∷ (behind_first (items_spelling (items_view list.now)) ++ A sign.CloseSection ∷ [])) }
+    ensures { Adds result out.old out.new (A sign.Into ∷ A sign.OpenSection ∷ (behind_first (items_spelling (items_view list.now)) ++ A sign.CloseSection
+        ∷ [])) }
 {
     sign(out, Symbol::Into)?;
     sign(out, Symbol::OpenSection)?;

@@ -66,7 +66,8 @@ abbrev mutual
   declarations_spelling (declaration d ds) = A sign.Semicolon ∷ (declaration_spelling d ++ declarations_spelling ds)
 
   pub declaration_spelling : Declaration → List Part
-  declaration_spelling (tree.Constants s es) = A (storage_sign s) ∷ A sign.OpenSection ∷ (behind_first (entries_spelling (entry_sign s) es) ++ A sign.CloseSection ∷ [])
+  declaration_spelling (tree.Constants s es) = A (storage_sign s) ∷ A sign.OpenSection
+      ∷ (behind_first (entries_spelling (entry_sign s) es) ++ A sign.CloseSection ∷ [])
   declaration_spelling (tree.Let ds) = A sign.Let ∷ behind_first (definitions_spelling ds)
 
   -- names with their constants, each behind a semicolon
@@ -123,8 +124,10 @@ abbrev mutual
   command_spelling (tree.Until e b) = A sign.Until ∷ (whole e ++ A sign.Do ∷ block_spelling b)
   command_spelling (tree.Test e b d) = A sign.Test ∷ (whole e ++ A sign.Do ∷ (block_spelling b ++ A sign.Else ∷ block_spelling d))
   command_spelling (tree.For n a z b) = A sign.For ∷ Name n ∷ A sign.Equal ∷ (whole a ++ A sign.To ∷ (whole z ++ A sign.Do ∷ block_spelling b))
-  command_spelling (tree.ForBy n a z k b) = A sign.For ∷ Name n ∷ A sign.Equal ∷ (whole a ++ A sign.To ∷ (whole z ++ A sign.By ∷ (part_of k (whole k) ++ A sign.Do ∷ block_spelling b)))
-  command_spelling (tree.SwitchOn e is) = A sign.SwitchOn ∷ (whole e ++ A sign.Into ∷ A sign.OpenSection ∷ (behind_first (items_spelling is) ++ A sign.CloseSection ∷ []))
+  command_spelling (tree.ForBy n a z k b) = A sign.For ∷ Name n ∷ A sign.Equal
+      ∷ (whole a ++ A sign.To ∷ (whole z ++ A sign.By ∷ (part_of k (whole k) ++ A sign.Do ∷ block_spelling b)))
+  command_spelling (tree.SwitchOn e is) = A sign.SwitchOn
+      ∷ (whole e ++ A sign.Into ∷ A sign.OpenSection ∷ (behind_first (items_spelling is) ++ A sign.CloseSection ∷ []))
 
 -- a section's canonical spelling
 abbrev pub section_spelling : Declarations → List Part

@@ -28,11 +28,13 @@ assigned e = tree.Assign (more (tree.Name (codes "X")) none) (more e none)
 abbrev difference : Exp
 difference = tree.Dyadic dyadics.Subtract (tree.Dyadic dyadics.Subtract a b) c
 
-difference_spelled : SpellsCommand (assigned difference) (Name (codes "X") ∷ A sign.Assign ∷ Name (codes "A") ∷ A sign.Minus ∷ Name (codes "B") ∷ A sign.Minus ∷ Name (codes "C") ∷ [])
+difference_spelled : SpellsCommand (assigned difference) (Name (codes "X") ∷ A sign.Assign ∷ Name (codes "A") ∷ A sign.Minus ∷ Name (codes "B")
+    ∷ A sign.Minus ∷ Name (codes "C") ∷ [])
 difference_spelled = simple (assign refl (one (of_level name)) (one (of_level (dyadic (lit≤ tt) (dyadic (lit≤ tt) name (of_level name)) (of_level name)))))
 
 difference_canonical : command_spelling (assigned difference)
-    ≡ Name (codes "X") ∷ A sign.Assign ∷ A sign.OpenBracket ∷ A sign.OpenBracket ∷ Name (codes "A") ∷ A sign.Minus ∷ Name (codes "B") ∷ A sign.CloseBracket ∷ A sign.Minus ∷ Name (codes "C") ∷ A sign.CloseBracket ∷ []
+    ≡ Name (codes "X") ∷ A sign.Assign ∷ A sign.OpenBracket ∷ A sign.OpenBracket ∷ Name (codes "A") ∷ A sign.Minus ∷ Name (codes "B") ∷ A sign.CloseBracket
+    ∷ A sign.Minus ∷ Name (codes "C") ∷ A sign.CloseBracket ∷ []
 difference_canonical = refl
 
 -- ---- `X := A * - B * C`: a monadic operator may stand where an operand begins, and takes what its own level allows
@@ -44,7 +46,8 @@ product_spelled : Spells 1 product (Name (codes "A") ∷ A sign.Multiply ∷ A s
 product_spelled = of_level (dyadic (lit≤ tt) name (prefixed (of_level (dyadic (lit≤ tt) name (of_level name)))))
 
 product_canonical : command_spelling (assigned product)
-    ≡ Name (codes "X") ∷ A sign.Assign ∷ A sign.OpenBracket ∷ Name (codes "A") ∷ A sign.Multiply ∷ A sign.OpenBracket ∷ A sign.Minus ∷ A sign.OpenBracket ∷ Name (codes "B") ∷ A sign.Multiply ∷ Name (codes "C") ∷ A sign.CloseBracket ∷ A sign.CloseBracket ∷ A sign.CloseBracket ∷ []
+    ≡ Name (codes "X") ∷ A sign.Assign ∷ A sign.OpenBracket ∷ Name (codes "A") ∷ A sign.Multiply ∷ A sign.OpenBracket ∷ A sign.Minus ∷ A sign.OpenBracket
+    ∷ Name (codes "B") ∷ A sign.Multiply ∷ Name (codes "C") ∷ A sign.CloseBracket ∷ A sign.CloseBracket ∷ A sign.CloseBracket ∷ []
 product_canonical = refl
 
 -- ---- `IF A = B C()`: a body that is one command is the block of that command; a condition stands alone in its place
@@ -52,15 +55,20 @@ product_canonical = refl
 abbrev choice : Command
 choice = tree.If (tree.Dyadic dyadics.Equal a b) (block no_declarations (item (Labelled no_labels (tree.Do c none)) no_items))
 
-choice_spelled : SpellsCommand choice (A sign.If ∷ Name (codes "A") ∷ A sign.Equal ∷ Name (codes "B") ∷ Name (codes "C") ∷ A sign.OpenBracket ∷ A sign.CloseBracket ∷ [])
-choice_spelled = if_do (of_level (dyadic (lit≤ tt) name (of_level name))) (do_body false false (body_command (simple (run (of_level (call name no_arguments))))))
+choice_spelled : SpellsCommand choice (A sign.If ∷ Name (codes "A") ∷ A sign.Equal ∷ Name (codes "B") ∷ Name (codes "C") ∷ A sign.OpenBracket
+    ∷ A sign.CloseBracket ∷ [])
+choice_spelled = if_do (of_level (dyadic (lit≤ tt) name (of_level name)))
+    (do_body false false (body_command (simple (run (of_level (call name no_arguments))))))
 
 choice_canonical : command_spelling choice
-    ≡ A sign.If ∷ Name (codes "A") ∷ A sign.Equal ∷ Name (codes "B") ∷ A sign.Do ∷ A sign.OpenSection ∷ Name (codes "C") ∷ A sign.OpenBracket ∷ A sign.CloseBracket ∷ A sign.CloseSection ∷ []
+    ≡ A sign.If ∷ Name (codes "A") ∷ A sign.Equal ∷ Name (codes "B") ∷ A sign.Do ∷ A sign.OpenSection ∷ Name (codes "C") ∷ A sign.OpenBracket
+    ∷ A sign.CloseBracket ∷ A sign.CloseSection ∷ []
 choice_canonical = refl
 
 -- ---- labels without a command are kept, and a constant is no expression that stands alone
 
-cases_canonical : command_spelling (tree.SwitchOn a (item (Labels_alone (label (tree.Case (tree.Monadic monadics.Negate (tree.Number 1))) (label tree.Default no_labels))) no_items))
-    ≡ A sign.SwitchOn ∷ Name (codes "A") ∷ A sign.Into ∷ A sign.OpenSection ∷ A sign.Case ∷ A sign.OpenBracket ∷ A sign.Minus ∷ Number 1 ∷ A sign.CloseBracket ∷ A sign.Colon ∷ A sign.Default ∷ A sign.Colon ∷ A sign.CloseSection ∷ []
+cases_canonical : command_spelling
+    (tree.SwitchOn a (item (Labels_alone (label (tree.Case (tree.Monadic monadics.Negate (tree.Number 1))) (label tree.Default no_labels))) no_items))
+    ≡ A sign.SwitchOn ∷ Name (codes "A") ∷ A sign.Into ∷ A sign.OpenSection ∷ A sign.Case ∷ A sign.OpenBracket ∷ A sign.Minus ∷ Number 1
+    ∷ A sign.CloseBracket ∷ A sign.Colon ∷ A sign.Default ∷ A sign.Colon ∷ A sign.CloseSection ∷ []
 cases_canonical = refl

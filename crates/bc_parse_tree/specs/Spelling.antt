@@ -76,7 +76,8 @@ mutual
   -- where a level is wanted; a monadic operator may stand wherever an operand begins
   pub data Spells : ℕ → Exp → List Part → Type 0 where
     of_level : {level : ℕ} {e : Exp} {ts : List Part} → IsOfLevel level e ts → Spells level e ts
-    prefixed : {level : ℕ} {m : code_monadic.Monadic} {e : Exp} {ts : List Part} → Spells (operand_level m) e ts → Spells level (tree.Monadic m e) (A (monadic_sign m) ∷ ts)
+    prefixed : {level : ℕ} {m : code_monadic.Monadic} {e : Exp} {ts : List Part} → Spells (operand_level m) e ts
+        → Spells level (tree.Monadic m e) (A (monadic_sign m) ∷ ts)
 
   -- by an expression that is itself of this level, or tighter
   pub data IsOfLevel : ℕ → Exp → List Part → Type 0 where
@@ -89,9 +90,12 @@ mutual
     bracketed : {level : ℕ} {e : Exp} {ts : List Part} → Spells 1 e ts → IsOfLevel level e (in_round ts)
     table : {level : ℕ} {ks : Exps} {ts : List Part} → SpellsExps 2 ks ts → IsOfLevel level (tree.Table ks) (A sign.Table ∷ ts)
     valof : {level : ℕ} {b : Block} {ts : List Part} → SpellsBody b ts → IsOfLevel level (tree.Valof b) (A sign.ValueOf ∷ ts)
-    call : {level : ℕ} {f : Exp} {es : Exps} {ts us : List Part} → IsOfLevel 12 f ts → SpellsArguments es us → IsOfLevel level (tree.Call f es) (ts ++ in_round us)
-    monadic : {level : ℕ} {m : code_monadic.Monadic} {e : Exp} {ts : List Part} → level ≤ own_level m → Spells (operand_level m) e ts → IsOfLevel level (tree.Monadic m e) (A (monadic_sign m) ∷ ts)
-    dyadic : {level : ℕ} {o : code_dyadic.Dyadic} {l r : Exp} {ts us : List Part} → level ≤ level_of o → IsOfLevel (left_level o) l ts → Spells (level_of o + 1) r us
+    call : {level : ℕ} {f : Exp} {es : Exps} {ts us : List Part} → IsOfLevel 12 f ts → SpellsArguments es us
+        → IsOfLevel level (tree.Call f es) (ts ++ in_round us)
+    monadic : {level : ℕ} {m : code_monadic.Monadic} {e : Exp} {ts : List Part} → level ≤ own_level m → Spells (operand_level m) e ts
+        → IsOfLevel level (tree.Monadic m e) (A (monadic_sign m) ∷ ts)
+    dyadic : {level : ℕ} {o : code_dyadic.Dyadic} {l r : Exp} {ts us : List Part} → level ≤ level_of o → IsOfLevel (left_level o) l ts
+        → Spells (level_of o + 1) r us
         → IsOfLevel level (tree.Dyadic o l r) (ts ++ A (dyadic_sign o) ∷ us)
     condition : {level : ℕ} {c x y : Exp} {ts us vs : List Part} → level ≤ 1 → IsOfLevel 2 c ts → Spells 1 x us → Spells 1 y vs
         → IsOfLevel level (tree.Condition c x y) (ts ++ A sign.Arrow ∷ (us ++ A sign.Comma ∷ vs))
@@ -99,7 +103,8 @@ mutual
   -- expressions of a level, at least one, with commas between them
   pub data SpellsExps : ℕ → Exps → List Part → Type 0 where
     one : {level : ℕ} {e : Exp} {ts : List Part} → Spells level e ts → SpellsExps level (more e none) ts
-    next : {level : ℕ} {e : Exp} {es : Exps} {ts us : List Part} → SpellsExps level es ts → Spells level e us → SpellsExps level (add_exp es e) (ts ++ A sign.Comma ∷ us)
+    next : {level : ℕ} {e : Exp} {es : Exps} {ts us : List Part} → SpellsExps level es ts → Spells level e us
+        → SpellsExps level (add_exp es e) (ts ++ A sign.Comma ∷ us)
 
   pub data SpellsArguments : Exps → List Part → Type 0 where
     no_arguments : SpellsArguments none []
@@ -109,13 +114,16 @@ mutual
     section : {ds : Declarations} {ts : List Part} → SpellsPlaces ds no_items ts → SpellsSection ds ts
 
   pub data SpellsBlock : Block → List Part → Type 0 where
-    block_brackets : {ds : Declarations} {is : Items} {ts : List Part} → SpellsPlaces ds is ts → SpellsBlock (block ds is) (A sign.OpenSection ∷ (ts ++ A sign.CloseSection ∷ []))
+    block_brackets : {ds : Declarations} {is : Items} {ts : List Part} → SpellsPlaces ds is ts
+        → SpellsBlock (block ds is) (A sign.OpenSection ∷ (ts ++ A sign.CloseSection ∷ []))
 
   -- declarations, then items, with semicolons between them; a place between semicolons may be empty
   pub data SpellsPlaces : Declarations → Items → List Part → Type 0 where
     ended : {ds : Declarations} {is : Items} {ts : List Part} → SpellsEnded ds is ts → SpellsPlaces ds is ts
-    last_declaration : {ds : Declarations} {d : Declaration} {ts us : List Part} → SpellsEnded ds no_items ts → SpellsDeclaration d us → SpellsPlaces (add_declaration ds d) no_items (ts ++ us)
-    last_item : {ds : Declarations} {is : Items} {i : Item} {ts us : List Part} → SpellsEnded ds is ts → SpellsItem i us → SpellsPlaces ds (add_item is i) (ts ++ us)
+    last_declaration : {ds : Declarations} {d : Declaration} {ts us : List Part} → SpellsEnded ds no_items ts → SpellsDeclaration d us
+        → SpellsPlaces (add_declaration ds d) no_items (ts ++ us)
+    last_item : {ds : Declarations} {is : Items} {i : Item} {ts us : List Part} → SpellsEnded ds is ts → SpellsItem i us
+        → SpellsPlaces ds (add_item is i) (ts ++ us)
 
   -- the same, each with its semicolon
   pub data SpellsEnded : Declarations → Items → List Part → Type 0 where
@@ -123,32 +131,40 @@ mutual
     gap : {ds : Declarations} {is : Items} {ts : List Part} {s : Part} → SpellsEnded ds is ts → IsSeparator s → SpellsEnded ds is (ts ++ s ∷ [])
     declared : {ds : Declarations} {d : Declaration} {ts us : List Part} {s : Part} → SpellsEnded ds no_items ts → SpellsDeclaration d us → IsSeparator s
         → SpellsEnded (add_declaration ds d) no_items (ts ++ (us ++ s ∷ []))
-    placed : {ds : Declarations} {is : Items} {i : Item} {ts us : List Part} {s : Part} → SpellsEnded ds is ts → SpellsItem i us → IsSeparator s → SpellsEnded ds (add_item is i) (ts ++ (us ++ s ∷ []))
+    placed : {ds : Declarations} {is : Items} {i : Item} {ts us : List Part} {s : Part} → SpellsEnded ds is ts → SpellsItem i us → IsSeparator s
+        → SpellsEnded ds (add_item is i) (ts ++ (us ++ s ∷ []))
 
   pub data SpellsDeclaration : Declaration → List Part → Type 0 where
-    constants : {s : Storage} {es : Entries} {ts : List Part} → SpellsEntries es ts → SpellsDeclaration (tree.Constants s es) (A (storage_sign s) ∷ A sign.OpenSection ∷ (ts ++ A sign.CloseSection ∷ []))
+    constants : {s : Storage} {es : Entries} {ts : List Part} → SpellsEntries es ts
+        → SpellsDeclaration (tree.Constants s es) (A (storage_sign s) ∷ A sign.OpenSection ∷ (ts ++ A sign.CloseSection ∷ []))
     definitions : {ds : Definitions} {ts : List Part} → SpellsDefinitions ds ts → SpellsDeclaration (tree.Let ds) (A sign.Let ∷ ts)
 
   -- names with their constants, with semicolons between them
   pub data SpellsEntries : Entries → List Part → Type 0 where
     all_entries_ended : {es : Entries} {ts : List Part} → EndedEntries es ts → SpellsEntries es ts
-    last_entry : {es : Entries} (n : List ℕ) {s : Symbol} {k : Exp} {ts us : List Part} → EndedEntries es ts → IsConstantSign s → Spells 2 k us → SpellsEntries (add_entry es n k) (ts ++ (Name n ∷ A s ∷ us))
+    last_entry : {es : Entries} (n : List ℕ) {s : Symbol} {k : Exp} {ts us : List Part} → EndedEntries es ts → IsConstantSign s → Spells 2 k us
+        → SpellsEntries (add_entry es n k) (ts ++ (Name n ∷ A s ∷ us))
 
   pub data EndedEntries : Entries → List Part → Type 0 where
     no_entry : EndedEntries no_entries []
     entry_gap : {es : Entries} {ts : List Part} {s : Part} → EndedEntries es ts → IsSeparator s → EndedEntries es (ts ++ s ∷ [])
-    entered : {es : Entries} (n : List ℕ) {s : Symbol} {t : Part} {k : Exp} {ts us : List Part} → EndedEntries es ts → IsConstantSign s → Spells 2 k us → IsSeparator t
+    entered : {es : Entries} (n : List ℕ) {s : Symbol} {t : Part} {k : Exp} {ts us : List Part} → EndedEntries es ts → IsConstantSign s → Spells 2 k us
+        → IsSeparator t
         → EndedEntries (add_entry es n k) (ts ++ ((Name n ∷ A s ∷ us) ++ t ∷ []))
 
   pub data SpellsDefinitions : Definitions → List Part → Type 0 where
     one_definition : {d : Definition} {ts : List Part} → SpellsDefinition d ts → SpellsDefinitions (definition d no_definitions) ts
-    next_definition : {d : Definition} {ds : Definitions} {ts us : List Part} → SpellsDefinitions ds ts → SpellsDefinition d us → SpellsDefinitions (add_definition ds d) (ts ++ A sign.And ∷ us)
+    next_definition : {d : Definition} {ds : Definitions} {ts us : List Part} → SpellsDefinitions ds ts → SpellsDefinition d us
+        → SpellsDefinitions (add_definition ds d) (ts ++ A sign.And ∷ us)
 
   pub data SpellsDefinition : Definition → List Part → Type 0 where
-    variables : {ns : List (List ℕ)} {es : Exps} {ts : List Part} → length ns ≡ count es → SpellsExps 1 es ts → SpellsDefinition (tree.Variables ns es) (named ns ++ A sign.Equal ∷ ts)
+    variables : {ns : List (List ℕ)} {es : Exps} {ts : List Part} → length ns ≡ count es → SpellsExps 1 es ts
+        → SpellsDefinition (tree.Variables ns es) (named ns ++ A sign.Equal ∷ ts)
     vector : {n : List ℕ} {k : Exp} {ts : List Part} → Spells 2 k ts → SpellsDefinition (tree.Vector n k) (Name n ∷ A sign.Equal ∷ A sign.Vector ∷ ts)
-    function : {n : List ℕ} {ps : List (List ℕ)} {e : Exp} {ts : List Part} → Spells 1 e ts → SpellsDefinition (tree.Function n ps e) (Name n ∷ (in_round (named ps) ++ A sign.Equal ∷ ts))
-    routine : {n : List ℕ} {ps : List (List ℕ)} {b : Block} {ts : List Part} → SpellsBody b ts → SpellsDefinition (tree.Routine n ps b) (Name n ∷ (in_round (named ps) ++ A sign.Be ∷ ts))
+    function : {n : List ℕ} {ps : List (List ℕ)} {e : Exp} {ts : List Part} → Spells 1 e ts
+        → SpellsDefinition (tree.Function n ps e) (Name n ∷ (in_round (named ps) ++ A sign.Equal ∷ ts))
+    routine : {n : List ℕ} {ps : List (List ℕ)} {b : Block} {ts : List Part} → SpellsBody b ts
+        → SpellsDefinition (tree.Routine n ps b) (Name n ∷ (in_round (named ps) ++ A sign.Be ∷ ts))
 
   pub data SpellsItem : Item → List Part → Type 0 where
     labelled : {ls : Labels} {c : Command} {ts us : List Part} → SpellsLabels ls ts → SpellsCommand c us → SpellsItem (Labelled ls c) (ts ++ us)
@@ -156,9 +172,11 @@ mutual
 
   pub data SpellsLabels : Labels → List Part → Type 0 where
     no_more : SpellsLabels no_labels []
-    case : {ls : Labels} {k : Exp} {ts us : List Part} → SpellsLabels ls ts → Spells 2 k us → SpellsLabels (add_label ls (tree.Case k)) (ts ++ A sign.Case ∷ (us ++ A sign.Colon ∷ []))
+    case : {ls : Labels} {k : Exp} {ts us : List Part} → SpellsLabels ls ts → Spells 2 k us
+        → SpellsLabels (add_label ls (tree.Case k)) (ts ++ A sign.Case ∷ (us ++ A sign.Colon ∷ []))
     default : {ls : Labels} {ts : List Part} → SpellsLabels ls ts → SpellsLabels (add_label ls tree.Default) (ts ++ A sign.Default ∷ A sign.Colon ∷ [])
-    named_label : {ls : Labels} (n : List ℕ) {ts : List Part} → SpellsLabels ls ts → SpellsLabels (add_label ls (tree.Named n)) (ts ++ Name n ∷ A sign.Colon ∷ [])
+    named_label : {ls : Labels} (n : List ℕ) {ts : List Part} → SpellsLabels ls ts
+        → SpellsLabels (add_label ls (tree.Named n)) (ts ++ Name n ∷ A sign.Colon ∷ [])
 
   pub data SpellsBody : Block → List Part → Type 0 where
     body_command : {c : Command} {ts : List Part} → SpellsCommand c ts → SpellsBody (body c) ts
@@ -169,7 +187,8 @@ mutual
 
   -- a command that REPEAT may follow
   pub data SpellsSimple : Command → List Part → Type 0 where
-    assign : {xs es : Exps} {ts us : List Part} → count xs ≡ count es → SpellsExps 1 xs ts → SpellsExps 1 es us → SpellsSimple (tree.Assign xs es) (ts ++ A sign.Assign ∷ us)
+    assign : {xs es : Exps} {ts us : List Part} → count xs ≡ count es → SpellsExps 1 xs ts → SpellsExps 1 es us
+        → SpellsSimple (tree.Assign xs es) (ts ++ A sign.Assign ∷ us)
     run : {f : Exp} {es : Exps} {ts : List Part} → Spells 1 (tree.Call f es) ts → SpellsSimple (tree.Do f es) ts
     compound : {b : Block} {ts : List Part} → SpellsBlock b ts → SpellsSimple (tree.Compound b) ts
     break : SpellsSimple tree.Break (A sign.Break ∷ [])
@@ -180,8 +199,10 @@ mutual
     result_is : {e : Exp} {ts : List Part} → Spells 1 e ts → SpellsSimple (tree.ResultIs e) (A sign.ResultIs ∷ ts)
     goto : {n : List ℕ} → SpellsSimple (tree.Goto n) (A sign.Goto ∷ Name n ∷ [])
     repeat : {c : Command} {ts : List Part} → SpellsSimple c ts → SpellsSimple (tree.Repeat c) (ts ++ A sign.Repeat ∷ [])
-    repeat_while : {c : Command} {e : Exp} {ts us : List Part} → SpellsSimple c ts → Spells 1 e us → SpellsSimple (tree.RepeatWhile c e) (ts ++ A sign.RepeatWhile ∷ us)
-    repeat_until : {c : Command} {e : Exp} {ts us : List Part} → SpellsSimple c ts → Spells 1 e us → SpellsSimple (tree.RepeatUntil c e) (ts ++ A sign.RepeatUntil ∷ us)
+    repeat_while : {c : Command} {e : Exp} {ts us : List Part} → SpellsSimple c ts → Spells 1 e us
+        → SpellsSimple (tree.RepeatWhile c e) (ts ++ A sign.RepeatWhile ∷ us)
+    repeat_until : {c : Command} {e : Exp} {ts us : List Part} → SpellsSimple c ts → Spells 1 e us
+        → SpellsSimple (tree.RepeatUntil c e) (ts ++ A sign.RepeatUntil ∷ us)
 
   pub data SpellsCommand : Command → List Part → Type 0 where
     simple : {c : Command} {ts : List Part} → SpellsSimple c ts → SpellsCommand c ts
@@ -189,7 +210,8 @@ mutual
     unless_do : {e : Exp} {b : Block} {ts us : List Part} → Spells 1 e ts → SpellsDo b us → SpellsCommand (tree.Unless e b) (A sign.Unless ∷ (ts ++ us))
     while_do : {e : Exp} {b : Block} {ts us : List Part} → Spells 1 e ts → SpellsDo b us → SpellsCommand (tree.While e b) (A sign.While ∷ (ts ++ us))
     until_do : {e : Exp} {b : Block} {ts us : List Part} → Spells 1 e ts → SpellsDo b us → SpellsCommand (tree.Until e b) (A sign.Until ∷ (ts ++ us))
-    test : {e : Exp} {b d : Block} {ts us vs : List Part} → Spells 1 e ts → SpellsDo b us → SpellsBody d vs → SpellsCommand (tree.Test e b d) (A sign.Test ∷ (ts ++ (us ++ A sign.Else ∷ vs)))
+    test : {e : Exp} {b d : Block} {ts us vs : List Part} → Spells 1 e ts → SpellsDo b us → SpellsBody d vs
+        → SpellsCommand (tree.Test e b d) (A sign.Test ∷ (ts ++ (us ++ A sign.Else ∷ vs)))
     for : {n : List ℕ} {a z : Exp} {b : Block} {ts us vs : List Part} → Spells 1 a ts → Spells 1 z us → SpellsDo b vs
         → SpellsCommand (tree.For n a z b) (A sign.For ∷ Name n ∷ A sign.Equal ∷ (ts ++ A sign.To ∷ (us ++ vs)))
     for_by : {n : List ℕ} {a z k : Exp} {b : Block} {ts us ws vs : List Part} → Spells 1 a ts → Spells 1 z us → Spells 2 k ws → SpellsDo b vs

@@ -121,28 +121,36 @@ command_step (Command-F.SwitchOn e is) = pure.SwitchOn e (items_of is.items)
 
 -- what each tree stands for
 abbrev pub exp_view : code.Exp → Exp
-exp_view = fold-Exp Command Declaration Definition Exp Label Block (List ℕ × Exp) Item command_step declaration_step definition_step exp_step label_step block_step constant_step item_step
+exp_view = fold-Exp Command Declaration Definition Exp Label Block
+    (List ℕ × Exp) Item command_step declaration_step definition_step exp_step label_step block_step constant_step item_step
 
 abbrev pub command_view : code_command.Command → Command
-command_view = fold-Command Command Declaration Definition Exp Label Block (List ℕ × Exp) Item command_step declaration_step definition_step exp_step label_step block_step constant_step item_step
+command_view = fold-Command Command Declaration Definition Exp Label Block
+    (List ℕ × Exp) Item command_step declaration_step definition_step exp_step label_step block_step constant_step item_step
 
 abbrev pub block_view : code_block.Block → Block
-block_view = fold-Block Command Declaration Definition Exp Label Block (List ℕ × Exp) Item command_step declaration_step definition_step exp_step label_step block_step constant_step item_step
+block_view = fold-Block Command Declaration Definition Exp Label Block
+    (List ℕ × Exp) Item command_step declaration_step definition_step exp_step label_step block_step constant_step item_step
 
 abbrev pub declaration_view : code_declaration.Declaration → Declaration
-declaration_view = fold-Declaration Command Declaration Definition Exp Label Block (List ℕ × Exp) Item command_step declaration_step definition_step exp_step label_step block_step constant_step item_step
+declaration_view = fold-Declaration Command Declaration Definition Exp Label Block
+    (List ℕ × Exp) Item command_step declaration_step definition_step exp_step label_step block_step constant_step item_step
 
 abbrev pub definition_view : code_definition.Definition → Definition
-definition_view = fold-Definition Command Declaration Definition Exp Label Block (List ℕ × Exp) Item command_step declaration_step definition_step exp_step label_step block_step constant_step item_step
+definition_view = fold-Definition Command Declaration Definition Exp Label Block
+    (List ℕ × Exp) Item command_step declaration_step definition_step exp_step label_step block_step constant_step item_step
 
 abbrev pub label_view : code_label.Label → Label
-label_view = fold-Label Command Declaration Definition Exp Label Block (List ℕ × Exp) Item command_step declaration_step definition_step exp_step label_step block_step constant_step item_step
+label_view = fold-Label Command Declaration Definition Exp Label Block
+    (List ℕ × Exp) Item command_step declaration_step definition_step exp_step label_step block_step constant_step item_step
 
 abbrev pub item_view : code_item.Item → Item
-item_view = fold-Item Command Declaration Definition Exp Label Block (List ℕ × Exp) Item command_step declaration_step definition_step exp_step label_step block_step constant_step item_step
+item_view = fold-Item Command Declaration Definition Exp Label Block
+    (List ℕ × Exp) Item command_step declaration_step definition_step exp_step label_step block_step constant_step item_step
 
 abbrev pub constant_view : code_constant.Constant → List ℕ × Exp
-constant_view = fold-Constant Command Declaration Definition Exp Label Block (List ℕ × Exp) Item command_step declaration_step definition_step exp_step label_step block_step constant_step item_step
+constant_view = fold-Constant Command Declaration Definition Exp Label Block
+    (List ℕ × Exp) Item command_step declaration_step definition_step exp_step label_step block_step constant_step item_step
 
 -- what lists of trees stand for
 abbrev pub exps_view : List code.Exp → Exps

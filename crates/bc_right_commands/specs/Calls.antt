@@ -18,7 +18,8 @@ pub record RoutineStands (S : Moment) (section : Placed) (r : Routine) (v : ℕ)
   pub right : RootsRight section.address (level_of section.core.valofs) S over
   pub levelled : BodyLevelled (level_of section.core.valofs) r.body (level_behind_parameters r.parameters)
   pub valofs : ValofsLevelled (level_of section.core.valofs) section.core.valofs
-  pub stands : Stands section.address S v (emit_body (λ i. i) (over (bodies_from (λ i. i) over 0 section.core.valofs)) r.body (level_behind_parameters r.parameters) first).0 end
+  pub stands : Stands section.address S v (emit_body (λ i. i) (over (bodies_from (λ i. i) over 0 section.core.valofs)) r.body
+      (level_behind_parameters r.parameters) first).0 end
 
 abbrev pub ProgramStands : Moment → List Placed → Type 0
 ProgramStands S program = (v : ℕ) (section : Placed) (r : Routine) → callee program v ≡ Some (OfSection section r) → RoutineStands S section r v

@@ -27,7 +27,8 @@ pub record SectionStands (S : Moment) (section : Placed) : Type 0 where
   pub right : RootsRight section.address (level_of section.core.valofs) S over
   pub places : PlacesLevelled (level_of section.core.valofs) section.core.places
   pub valofs : ValofsLevelled (level_of section.core.valofs) section.core.valofs
-  pub stands : Stands section.address S begin (emit_routines (λ i. i) (over (bodies_from (λ i. i) over 0 section.core.valofs)) 0 section.core.places first).0 end
+  pub stands : Stands section.address S begin
+      (emit_routines (λ i. i) (over (bodies_from (λ i. i) over 0 section.core.valofs)) 0 section.core.places first).0 end
 
 abbrev pub AllStand : Moment → List Placed → Type 0
 AllStand S [] = Unit {0}

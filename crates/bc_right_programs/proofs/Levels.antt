@@ -7,7 +7,7 @@ use Rattle.bc_core.specs.Tree as tree
 use Rattle.bc_core.specs.Commands.{Variable, Initial, Vector, Command, Block, block, Items, no_item, command, case, default, label, Routine, Body, Gives, Does, Valof, Core}
 use Rattle.bc_core.specs.Commands as commands
 use Rattle.bc_core.specs.Level.{side_level, cells_of_all, cells_declared, level_in_for, level_behind_parameters}
-use Rattle.bc_core.specs.WellFormed.{nodes, most_nodes, Around, stands_at, exp_fits, args_fit, root_fits, assignment_fits, variables_fit, declarations_fit, Jumps, in_a_loop, in_list, jumps_in_routine, jumps_in_valof, has_entries, are_distinct, labels_of, command_fits, block_fits, items_fit, body_fits, place_fits, places_fit, valofs_fit, is_core, global_fits}
+use Rattle.bc_core.specs.WellFormed.{nodes, entries_differ, most_nodes, Around, stands_at, exp_fits, args_fit, root_fits, assignment_fits, variables_fit, declarations_fit, Jumps, in_a_loop, in_list, jumps_in_routine, jumps_in_valof, has_entries, are_distinct, labels_of, command_fits, block_fits, items_fit, body_fits, place_fits, places_fit, valofs_fit, is_core, global_fits}
 use Rattle.bc_core.specs.Layout.{frame_size}
 use Rattle.bc_gen_defs.specs.Bodies.{level_of}
 use Rattle.bc_right_steps.specs.Premises.{Levelled, AllLevelled}
@@ -84,8 +84,9 @@ module _ (levels : ℕ → ℕ) (A : Around) (agrees : Agrees levels A) where
         (sides_levelled start (Frame s) s1 l.0, sides_levelled limit (Frame (s + 1)) s1 l.1, block_levelled (in_a_loop J) b s1 k.1)
     command_levelled J (commands.SwitchOn e is) s h =
         let J1 = in_list is (record J { in_cases = true }) in
-        let k = both_true (root_fits A e s && are_distinct (labels_of is)) (items_fit A J1 is s) h in
-        let l = both_true (root_fits A e s) (are_distinct (labels_of is)) k.0 in
+        let k = both_true (root_fits A e s && are_distinct (labels_of is) && entries_differ is) (items_fit A J1 is s) h in
+        let j = both_true (root_fits A e s && are_distinct (labels_of is)) (entries_differ is) k.0 in
+        let l = both_true (root_fits A e s) (are_distinct (labels_of is)) j.0 in
         (root_levelled e s l.0, items_levelled J1 is s k.1)
     command_levelled J (commands.ResultIs e) s h = let k = both_true J.in_valof (root_fits A e s) h in root_levelled e s k.1
     command_levelled J (commands.Nested b) s h = block_levelled J b s h

@@ -129,7 +129,11 @@ with_recursion = record {
         parameters = 1;
         body = Gives (Cond (Bin Equal (at 2) (Num 0)) (Num 0) (Bin Add (at 2) (Call (argument (Bin Subtract (at 2) (Num 1)) no_argument) (Place 1))));
       }) ∷
-      Code (record { global = Some 1; parameters = 0; body = Does (block [] (command (print (Bin Add (Call (argument (Num 3) no_argument) (Place 1)) (Num 48))) no_item)) }) ∷ [];
+      Code (record {
+        global = Some 1;
+        parameters = 0;
+        body = Does (block [] (command (print (Bin Add (Call (argument (Num 3) no_argument) (Place 1)) (Num 48))) no_item));
+      }) ∷ [];
   valofs = [];
 }
 
@@ -156,7 +160,11 @@ recursion_does = refl
 -- WRCH('A'); WRCH(1/0)
 abbrev with_division : Core
 with_division = record {
-  places = Code (record { global = Some 1; parameters = 0; body = Does (block [] (command (print (Num 65)) (command (print (Bin Divide (Num 1) (Num 0))) no_item))) }) ∷ [];
+  places = Code (record {
+    global = Some 1;
+    parameters = 0;
+    body = Does (block [] (command (print (Num 65)) (command (print (Bin Divide (Num 1) (Num 0))) no_item)));
+  }) ∷ [];
   valofs = [];
 }
 

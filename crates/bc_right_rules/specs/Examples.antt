@@ -167,7 +167,8 @@ f_first = refl
 
 -- `L5 SG2 L3 X4` at 30
 abbrev f_code : List ℕ
-f_code = assembled (λ l. 0) (Operation functions.Load false bases.Number 5 ∷ Operation functions.Store false bases.G 2 ∷ Operation functions.Load false bases.Number 3 ∷ Operation functions.Execute false bases.Number 4 ∷ [])
+f_code = assembled (λ l. 0) (Operation functions.Load false bases.Number 5 ∷ Operation functions.Store false bases.G 2
+    ∷ Operation functions.Load false bases.Number 3 ∷ Operation functions.Execute false bases.Number 4 ∷ [])
 
 -- the globals from 8 on, code at 20, f at 30, and a frame at 40
 abbrev after_calls : (n : ℕ) → List ℕ → ℕ
@@ -220,7 +221,8 @@ sums_means = refl
 
 -- `LIP2 A5 X4` at 30 and `LIP2 A1 X4` at 33
 abbrev adds_to : ℕ → List ℕ
-adds_to n = assembled (λ l. 0) (Operation functions.Load true bases.P 2 ∷ Operation functions.Add false bases.Number n ∷ Operation functions.Execute false bases.Number 4 ∷ [])
+adds_to n = assembled (λ l. 0) (Operation functions.Load true bases.P 2 ∷ Operation functions.Add false bases.Number n
+    ∷ Operation functions.Execute false bases.Number 4 ∷ [])
 
 -- A after n instructions of this code at 9 + 2, with g and h behind it, and the frame at 50
 abbrev of_calls : (n : ℕ) → List ℕ → ℕ

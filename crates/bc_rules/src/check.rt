@@ -122,7 +122,8 @@ fn single(table: Table, trees: &[Derivation], a: Part) -> Option<bool>
 #[cycle(deriving)]
 #[tactic(auto, using(crate::proofs::Fitting::misfit_two, crate::proofs::Fitting::pair_no_first, crate::proofs::Fitting::pair_no_second, crate::proofs::Fitting::pair_both))]
 fn pair(table: Table, trees: &[Derivation], a: Part, b: Part) -> Option<bool>
-    ensures { result ≡ found (parts_fit table (two_parts a.entry.aim (exp a.entry.of.now) b.entry.aim (exp b.entry.of.now)) (derivations trees.now)) (parts_call (two_parts a.entry.aim (exp a.entry.of.now) b.entry.aim (exp b.entry.of.now))) }
+    ensures { result ≡ found (parts_fit table (two_parts a.entry.aim (exp a.entry.of.now) b.entry.aim (exp b.entry.of.now)) (derivations trees.now))
+        (parts_call (two_parts a.entry.aim (exp a.entry.of.now) b.entry.aim (exp b.entry.of.now))) }
 {
     if trees.len() != 2 {
         return None;
@@ -135,7 +136,9 @@ fn pair(table: Table, trees: &[Derivation], a: Part, b: Part) -> Option<bool>
 #[cycle(deriving)]
 #[tactic(auto, using(crate::proofs::Fitting::misfit_three, crate::proofs::Fitting::triple_no_first, crate::proofs::Fitting::triple_no_second, crate::proofs::Fitting::triple_no_third, crate::proofs::Fitting::triple_all))]
 fn triple(table: Table, trees: &[Derivation], a: Part, b: Part, c: Part) -> Option<bool>
-    ensures { result ≡ found (parts_fit table (three_parts a.entry.aim (exp a.entry.of.now) b.entry.aim (exp b.entry.of.now) c.entry.aim (exp c.entry.of.now)) (derivations trees.now)) (parts_call (three_parts a.entry.aim (exp a.entry.of.now) b.entry.aim (exp b.entry.of.now) c.entry.aim (exp c.entry.of.now))) }
+    ensures { result ≡ found (parts_fit table (three_parts a.entry.aim (exp a.entry.of.now) b.entry.aim (exp b.entry.of.now) c.entry.aim
+        (exp c.entry.of.now)) (derivations trees.now))
+        (parts_call (three_parts a.entry.aim (exp a.entry.of.now) b.entry.aim (exp b.entry.of.now) c.entry.aim (exp c.entry.of.now))) }
 {
     if trees.len() != 3 {
         return None;

@@ -56,7 +56,8 @@ pub fn code_of(
 
 /// Writes the code of a root's derivation.
 fn write_root(w: &mut Writer, root: &Root, d: &Derivation, target: u16) -> Result<(), Memory>
-    ensures { OnOk result (Writes w.old w.new (root_code_by (root_of root.now) (tree d.now) target w.old.next) (root_labels_by (root_of root.now) (tree d.now))) }
+    ensures { OnOk result (Writes w.old w.new (root_code_by (root_of root.now) (tree d.now) target w.old.next)
+        (root_labels_by (root_of root.now) (tree d.now))) }
 {
     match root {
         Root::Value { level, expression } => {
@@ -110,7 +111,8 @@ struct Assignment<'a> {
 /// Writes the code of an assignment's derivation.
 #[tactic(auto, using(crate::proofs::Written::assignment_writes))]
 fn assign(w: &mut Writer, d: &Derivation, of: Assignment, place: Place) -> Result<(), Memory>
-    ensures { OnOk result (Writes w.old w.new (root_code_by (Assign place.level (exp of.entry.value.now) (exp of.entry.address.now)) (tree d.now) place.target w.old.next) (root_labels_by (Assign place.level (exp of.entry.value.now) (exp of.entry.address.now)) (tree d.now))) }
+    ensures { OnOk result (Writes w.old w.new (root_code_by (Assign place.level (exp of.entry.value.now) (exp of.entry.address.now))
+        (tree d.now) place.target w.old.next) (root_labels_by (Assign place.level (exp of.entry.value.now) (exp of.entry.address.now)) (tree d.now))) }
 {
     let to = To {
         rule: d.rule,
@@ -136,7 +138,9 @@ struct To<'a> {
 /// Writes the code of an assignment's rule over its parts.
 #[tactic(auto, using(crate::proofs::Written::nothing))]
 fn write_sides(w: &mut Writer, trees: &[Derivation], to: To, of: Parts) -> Result<(), Memory>
-    ensures { OnOk result (Writes w.old w.new (code_of_sides to.entry.rule (exp to.entry.address.now) (parts of.entry) (derivations trees.now) to.entry.place.level to.entry.place.target w.old.next) (labels_of_sides (parts of.entry) (derivations trees.now))) }
+    ensures { OnOk result (Writes w.old w.new
+        (code_of_sides to.entry.rule (exp to.entry.address.now) (parts of.entry)
+        (derivations trees.now) to.entry.place.level to.entry.place.target w.old.next) (labels_of_sides (parts of.entry) (derivations trees.now))) }
 {
     match of {
         Parts::Single(a) => one_side(w, trees, to, a),
@@ -147,7 +151,9 @@ fn write_sides(w: &mut Writer, trees: &[Derivation], to: To, of: Parts) -> Resul
 
 #[tactic(auto, using(crate::proofs::Written::side_writes, crate::proofs::Written::side_writes_not))]
 fn one_side(w: &mut Writer, trees: &[Derivation], to: To, a: Part) -> Result<(), Memory>
-    ensures { OnOk result (Writes w.old w.new (code_of_sides to.entry.rule (exp to.entry.address.now) (single_of a.entry.aim (exp a.entry.of.now)) (derivations trees.now) to.entry.place.level to.entry.place.target w.old.next) (labels_of_sides (single_of a.entry.aim (exp a.entry.of.now)) (derivations trees.now))) }
+    ensures { OnOk result (Writes w.old w.new (code_of_sides to.entry.rule (exp to.entry.address.now) (single_of a.entry.aim (exp a.entry.of.now))
+        (derivations trees.now) to.entry.place.level to.entry.place.target w.old.next)
+        (labels_of_sides (single_of a.entry.aim (exp a.entry.of.now)) (derivations trees.now))) }
 {
     if trees.len() != 1 {
         return Ok(());
@@ -159,7 +165,10 @@ fn one_side(w: &mut Writer, trees: &[Derivation], to: To, a: Part) -> Result<(),
 
 #[tactic(auto, using(crate::proofs::Written::sides_write, crate::proofs::Written::sides_write_not))]
 fn two_sides(w: &mut Writer, trees: &[Derivation], to: To, of: Sides) -> Result<(), Memory>
-    ensures { OnOk result (Writes w.old w.new (code_of_sides to.entry.rule (exp to.entry.address.now) (pair_of of.entry.a.aim (exp of.entry.a.of.now) of.entry.b.aim (exp of.entry.b.of.now)) (derivations trees.now) to.entry.place.level to.entry.place.target w.old.next) (labels_of_sides (pair_of of.entry.a.aim (exp of.entry.a.of.now) of.entry.b.aim (exp of.entry.b.of.now)) (derivations trees.now))) }
+    ensures { OnOk result (Writes w.old w.new
+        (code_of_sides to.entry.rule (exp to.entry.address.now) (pair_of of.entry.a.aim (exp of.entry.a.of.now) of.entry.b.aim (exp of.entry.b.of.now))
+        (derivations trees.now) to.entry.place.level to.entry.place.target w.old.next)
+        (labels_of_sides (pair_of of.entry.a.aim (exp of.entry.a.of.now) of.entry.b.aim (exp of.entry.b.of.now)) (derivations trees.now))) }
 {
     if trees.len() != 2 {
         return Ok(());

@@ -81,7 +81,8 @@ struct CallOf<'a> {
 #[cycle(writing)]
 #[tactic(auto, using(crate::proofs::Written::tree_writes))]
 pub fn write(w: &mut Writer, d: &Derivation, part: Part, place: Place) -> Result<(), Memory>
-    ensures { OnOk result (Writes w.old w.new (code_by (derivation d.now) part.entry.aim (exp part.entry.of.now) place.level place.target w.old.next) (labels_by (derivation d.now) part.entry.aim (exp part.entry.of.now))) }
+    ensures { OnOk result (Writes w.old w.new (code_by (derivation d.now) part.entry.aim (exp part.entry.of.now) place.level place.target w.old.next)
+        (labels_by (derivation d.now) part.entry.aim (exp part.entry.of.now))) }
 {
     let node = Node {
         rule: d.rule,
@@ -97,7 +98,8 @@ pub fn write(w: &mut Writer, d: &Derivation, part: Part, place: Place) -> Result
 #[cycle(writing)]
 #[tactic(auto, using(crate::proofs::Written::none_writes))]
 fn write_parts(w: &mut Writer, trees: &[Derivation], node: Node, of: Parts) -> Result<(), Memory>
-    ensures { OnOk result (Writes w.old w.new (code_of_parts node.entry.rule node.entry.aim (exp node.entry.of.now) (parts of.entry) (derivations trees.now) node.entry.level node.entry.target w.old.next) (labels_of_parts node.entry.rule (parts of.entry) (derivations trees.now))) }
+    ensures { OnOk result (Writes w.old w.new (code_of_parts node.entry.rule node.entry.aim (exp node.entry.of.now) (parts of.entry)
+        (derivations trees.now) node.entry.level node.entry.target w.old.next) (labels_of_parts node.entry.rule (parts of.entry) (derivations trees.now))) }
 {
     match of {
         Parts::NoRule => Ok(()),
@@ -111,7 +113,8 @@ fn write_parts(w: &mut Writer, trees: &[Derivation], node: Node, of: Parts) -> R
 
 #[tactic(auto, using(crate::proofs::Written::leaf_writes, crate::proofs::Written::leaf_writes_not))]
 fn no_parts(w: &mut Writer, trees: &[Derivation], node: Node, valof: bool) -> Result<(), Memory>
-    ensures { OnOk result (Writes w.old w.new (code_of_parts node.entry.rule node.entry.aim (exp node.entry.of.now) (leaf_of valof) (derivations trees.now) node.entry.level node.entry.target w.old.next) (labels_of_parts node.entry.rule (leaf_of valof) (derivations trees.now))) }
+    ensures { OnOk result (Writes w.old w.new (code_of_parts node.entry.rule node.entry.aim (exp node.entry.of.now) (leaf_of valof)
+        (derivations trees.now) node.entry.level node.entry.target w.old.next) (labels_of_parts node.entry.rule (leaf_of valof) (derivations trees.now))) }
 {
     if !trees.is_empty() {
         return Ok(());
@@ -128,7 +131,10 @@ fn no_parts(w: &mut Writer, trees: &[Derivation], node: Node, valof: bool) -> Re
 #[cycle(writing)]
 #[tactic(auto, using(crate::proofs::Written::single_writes, crate::proofs::Written::single_writes_not))]
 fn one_part(w: &mut Writer, trees: &[Derivation], node: Node, a: Part) -> Result<(), Memory>
-    ensures { OnOk result (Writes w.old w.new (code_of_parts node.entry.rule node.entry.aim (exp node.entry.of.now) (single_of a.entry.aim (exp a.entry.of.now)) (derivations trees.now) node.entry.level node.entry.target w.old.next) (labels_of_parts node.entry.rule (single_of a.entry.aim (exp a.entry.of.now)) (derivations trees.now))) }
+    ensures { OnOk result (Writes w.old w.new
+        (code_of_parts node.entry.rule node.entry.aim (exp node.entry.of.now) (single_of a.entry.aim (exp a.entry.of.now))
+        (derivations trees.now) node.entry.level node.entry.target w.old.next)
+        (labels_of_parts node.entry.rule (single_of a.entry.aim (exp a.entry.of.now)) (derivations trees.now))) }
 {
     if trees.len() != 1 {
         return Ok(());
@@ -154,7 +160,11 @@ fn one_part(w: &mut Writer, trees: &[Derivation], node: Node, a: Part) -> Result
 #[cycle(writing)]
 #[tactic(auto, using(crate::proofs::Written::pair_writes, crate::proofs::Written::pair_writes_not))]
 fn two_parts(w: &mut Writer, trees: &[Derivation], node: Node, of: Sides) -> Result<(), Memory>
-    ensures { OnOk result (Writes w.old w.new (code_of_parts node.entry.rule node.entry.aim (exp node.entry.of.now) (pair_of of.entry.a.aim (exp of.entry.a.of.now) of.entry.b.aim (exp of.entry.b.of.now)) (derivations trees.now) node.entry.level node.entry.target w.old.next) (labels_of_parts node.entry.rule (pair_of of.entry.a.aim (exp of.entry.a.of.now) of.entry.b.aim (exp of.entry.b.of.now)) (derivations trees.now))) }
+    ensures { OnOk result (Writes w.old w.new
+        (code_of_parts node.entry.rule node.entry.aim (exp node.entry.of.now)
+        (pair_of of.entry.a.aim (exp of.entry.a.of.now) of.entry.b.aim (exp of.entry.b.of.now))
+        (derivations trees.now) node.entry.level node.entry.target w.old.next)
+        (labels_of_parts node.entry.rule (pair_of of.entry.a.aim (exp of.entry.a.of.now) of.entry.b.aim (exp of.entry.b.of.now)) (derivations trees.now))) }
 {
     if trees.len() != 2 {
         return Ok(());
@@ -180,7 +190,12 @@ fn two_parts(w: &mut Writer, trees: &[Derivation], node: Node, of: Sides) -> Res
 #[cycle(writing)]
 #[tactic(auto, using(crate::proofs::Written::triple_writes, crate::proofs::Written::triple_writes_not))]
 fn three_parts(w: &mut Writer, trees: &[Derivation], node: Node, of: Three) -> Result<(), Memory>
-    ensures { OnOk result (Writes w.old w.new (code_of_parts node.entry.rule node.entry.aim (exp node.entry.of.now) (triple_of of.entry.a.aim (exp of.entry.a.of.now) of.entry.b.aim (exp of.entry.b.of.now) of.entry.c.aim (exp of.entry.c.of.now)) (derivations trees.now) node.entry.level node.entry.target w.old.next) (labels_of_parts node.entry.rule (triple_of of.entry.a.aim (exp of.entry.a.of.now) of.entry.b.aim (exp of.entry.b.of.now) of.entry.c.aim (exp of.entry.c.of.now)) (derivations trees.now))) }
+    ensures { OnOk result (Writes w.old w.new
+        (code_of_parts node.entry.rule node.entry.aim (exp node.entry.of.now)
+        (triple_of of.entry.a.aim (exp of.entry.a.of.now) of.entry.b.aim (exp of.entry.b.of.now) of.entry.c.aim (exp of.entry.c.of.now))
+        (derivations trees.now) node.entry.level node.entry.target w.old.next)
+        (labels_of_parts node.entry.rule (triple_of of.entry.a.aim (exp of.entry.a.of.now) of.entry.b.aim (exp of.entry.b.of.now) of.entry.c.aim
+        (exp of.entry.c.of.now)) (derivations trees.now))) }
 {
     if trees.len() != 3 {
         return Ok(());
@@ -204,7 +219,10 @@ fn three_parts(w: &mut Writer, trees: &[Derivation], node: Node, of: Three) -> R
 
 #[cycle(writing)]
 fn call(w: &mut Writer, trees: &[Derivation], node: Node, of: CallOf) -> Result<(), Memory>
-    ensures { OnOk result (Writes w.old w.new (code_of_parts node.entry.rule node.entry.aim (exp node.entry.of.now) (called 0 (args of.entry.arguments.now) (exp of.entry.routine.now)) (derivations trees.now) node.entry.level node.entry.target w.old.next) (labels_of_parts node.entry.rule (called 0 (args of.entry.arguments.now) (exp of.entry.routine.now)) (derivations trees.now))) }
+    ensures { OnOk result (Writes w.old w.new
+        (code_of_parts node.entry.rule node.entry.aim (exp node.entry.of.now) (called 0 (args of.entry.arguments.now) (exp of.entry.routine.now))
+        (derivations trees.now) node.entry.level node.entry.target w.old.next)
+        (labels_of_parts node.entry.rule (called 0 (args of.entry.arguments.now) (exp of.entry.routine.now)) (derivations trees.now))) }
 {
     let aim = Aim::Gets(Mode::Any);
     let mut level = more(node.level, 2)?;

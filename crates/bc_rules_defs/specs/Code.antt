@@ -74,8 +74,10 @@ abbrev mutual
   code (v17 {op = op} a b) s t f = code a (s + 1) t f ++ SP s ∷ code b (s + 1) t (f + labels a) ++ SP (s + 1) ∷ LIP s ∷ LIP (s + 1) ∷ X (number_of op) ∷ []
   code (v18 a b) s t f = code a (s + 1) t f ++ SP s ∷ code b (s + 1) t (f + labels a) ++ AIP s ∷ []
   code (v19 a b) s t f = code a (s + 1) t f ++ SP s ∷ code b (s + 1) t (f + labels a) ++ X 2 ∷ AIP s ∷ []
-  code (v20 c x y) s t f = code c s f (f + 2) ++ code x s t (f + 2 + labels c) ++ J (f + 1) ∷ label f ∷ code y s t (f + 2 + labels c + labels x) ++ label (f + 1) ∷ []
-  code (v21 c y x) s t f = code c s f (f + 2) ++ code y s t (f + 2 + labels c) ++ J (f + 1) ∷ label f ∷ code x s t (f + 2 + labels c + labels y) ++ label (f + 1) ∷ []
+  code (v20 c x y) s t f = code c s f (f + 2) ++ code x s t (f + 2 + labels c) ++ J (f + 1) ∷ label f ∷ code y s t (f + 2 + labels c + labels x)
+      ++ label (f + 1) ∷ []
+  code (v21 c y x) s t f = code c s f (f + 2) ++ code y s t (f + 2 + labels c) ++ J (f + 1) ∷ label f ∷ code x s t (f + 2 + labels c + labels y)
+      ++ label (f + 1) ∷ []
   code (v22 {es = es} ds r) s t f = all_code ds (s + 2) t f ++ code r (s + 2 + count es) t (f + all_labels ds) ++ K s ∷ []
   code (v22_valof {n = n}) s t f = Body n ∷ label f ∷ []
   code (j1 d) s t f = code d s t f

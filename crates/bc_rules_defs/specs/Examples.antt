@@ -124,7 +124,8 @@ zeros_code = refl
 abbrev labelled : RootDerives One (Test 5 false (Bin Or (at 2) (Cond (at 3) (Valof 0) (at 4))))
 labelled = test (j5 (j6 refl get) (j6 refl (v20 (j6 refl get) v22_valof get)))
 
-pub labelled_code : root_code labelled 9 1 ≡ LIP 2 ∷ jump_if true 1 ∷ LIP 3 ∷ jump_if false 2 ∷ Body 0 ∷ label 4 ∷ J 3 ∷ label 2 ∷ LIP 4 ∷ label 3 ∷ jump_if false 9 ∷ label 1 ∷ []
+pub labelled_code : root_code labelled 9 1 ≡ LIP 2 ∷ jump_if true 1 ∷ LIP 3 ∷ jump_if false 2 ∷ Body 0 ∷ label 4 ∷ J 3 ∷ label 2 ∷ LIP 4 ∷ label 3
+    ∷ jump_if false 9 ∷ label 1 ∷ []
 labelled_code = refl
 
 pub labelled_count : root_labels labelled ≡ 4

@@ -1,4 +1,5 @@
 pub mod Free
+pub mod Names
 pub mod Rules
 pub mod Piece
 pub mod Code

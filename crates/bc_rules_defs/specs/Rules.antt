@@ -29,17 +29,20 @@ mutual
     v4 : {T : Table} {e : Exp} {m : Mode} → Derives T e (Gets m) → Derives T (Not e) (Gets m)
     -- a + b, where b or a is an operand
     v6 : {T : Table} {a b : Exp} {m : Mode} {o : Operand} → operand_of b ≡ Some o → Derives T a (Gets m) → Derives T (Bin Add a b) (Gets m)
-    v7 : {T : Table} {a b : Exp} {m : Mode} {o : Operand} → operand_of a ≡ Some o → IsTrue (are_free a b) → Derives T b (Gets m) → Derives T (Bin Add a b) (Gets m)
+    v7 : {T : Table} {a b : Exp} {m : Mode} {o : Operand} → operand_of a ≡ Some o → IsTrue (are_free a b) → Derives T b (Gets m)
+        → Derives T (Bin Add a b) (Gets m)
     -- c + 0, c - 0, 0 + c
     v8 : {T : Table} {op : Op} {a b c : Exp} {m : Mode} → without_zero op a b ≡ Some c → Derives T c (Gets m) → Derives T (Bin op a b) (Gets m)
     -- a - n
     v9 : {T : Table} {a : Exp} {n : ℕ} {m : Mode} → Derives T a (Gets m) → Derives T (Bin Subtract a (Num n)) (Gets m)
     -- a - b, where b or a is an operand
     v10 : {T : Table} {a b : Exp} {m : Mode} {o : Operand} → operand_of b ≡ Some o → Derives T a (Gets m) → Derives T (Bin Subtract a b) (Gets m)
-    v11 : {T : Table} {a b : Exp} {m : Mode} {o : Operand} → operand_of a ≡ Some o → IsTrue (are_free a b) → Derives T b (Gets m) → Derives T (Bin Subtract a b) (Gets m)
+    v11 : {T : Table} {a b : Exp} {m : Mode} {o : Operand} → operand_of a ≡ Some o → IsTrue (are_free a b) → Derives T b (Gets m)
+        → Derives T (Bin Subtract a b) (Gets m)
     -- a op b, the second part pushed
     v12 : {T : Table} {op : Op} {a b : Exp} → Derives T a (Gets Any) → Derives T b (Gets Push) → Derives T (Bin op a b) (Gets Any)
-    v13 : {T : Table} {op q : Op} {a b : Exp} → mirror_of op ≡ Some q → IsTrue (are_free a b) → Derives T b (Gets Any) → Derives T a (Gets Push) → Derives T (Bin op a b) (Gets Any)
+    v13 : {T : Table} {op q : Op} {a b : Exp} → mirror_of op ≡ Some q → IsTrue (are_free a b) → Derives T b (Gets Any) → Derives T a (Gets Push)
+        → Derives T (Bin op a b) (Gets Any)
     v14 : {T : Table} {a b : Exp} → IsTrue (are_free a b) → Derives T b (Gets Any) → Derives T a (Gets Push) → Derives T (Bin Subtract a b) (Gets Any)
     -- a op b, the first part held in a cell
     v15 : {T : Table} {op q : Op} {a b : Exp} → mirror_of op ≡ Some q → Derives T a (Gets Any) → Derives T b (Gets Any) → Derives T (Bin op a b) (Gets Any)
@@ -81,7 +84,8 @@ pub data RootDerives : Table → Root → Type 0 where
   test : {T : Table} {s : ℕ} {sense : Bool} {e : Exp} → Derives T e (Jumps sense) → RootDerives T (Test s sense e)
   -- an assignment of v to the cell at a: where a is an operand, and where it is none
   a1 : {T : Table} {s : ℕ} {v a : Exp} {o : Operand} → operand_of a ≡ Some o → Derives T v (Gets Any) → RootDerives T (Assign s v a)
-  a2 : {T : Table} {s : ℕ} {v a : Exp} → operand_of a ≡ None → IsTrue (are_free v a) → Derives T a (Gets Any) → Derives T v (Gets Any) → RootDerives T (Assign s v a)
+  a2 : {T : Table} {s : ℕ} {v a : Exp} → operand_of a ≡ None → IsTrue (are_free v a) → Derives T a (Gets Any) → Derives T v (Gets Any)
+      → RootDerives T (Assign s v a)
   a3 : {T : Table} {s : ℕ} {v a : Exp} → operand_of a ≡ None → Derives T v (Gets Any) → Derives T a (Gets Any) → RootDerives T (Assign s v a)
 
 -- Trees of rule names: a rule, and the trees of its parts.

@@ -19,4 +19,12 @@ derivations [] = no_part
 derivations (d ∷ ds) = part (derivation d) (derivations ds)
 
 abbrev pub entry : code.Entry → Entry
-entry e = record { segment = e.segment; item = e.item; target = e.target; first = e.first; root = root e.root; derivation = derivation e.derivation; bodies = e.bodies.items }
+entry e = record {
+  segment = e.segment;
+  item = e.item;
+  target = e.target;
+  first = e.first;
+  root = root e.root;
+  derivation = derivation e.derivation;
+  bodies = e.bodies.items;
+}

@@ -4,10 +4,12 @@
 mod derivation;
 mod entry;
 pub mod laws;
+mod names;
 mod piece;
 mod rule;
 
 pub use derivation::Derivation;
 pub use entry::Entry;
+pub use names::RULES;
 pub use piece::Piece;
 pub use rule::{Aim, Mode, Rule, Table};

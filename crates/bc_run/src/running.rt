@@ -104,7 +104,8 @@ pub fn run_text<R: Read + Drop, S: Streams>(
     streams: &mut S,
     steps: u64,
 ) -> Result<End, RunFault>
-    ensures run { IfOk result (IsRunOf (R.Read.remaining text) steps (S.known streams.old) (S.known streams.new) (S.content streams.old) (S.content streams.new) (S.failures streams.old) (S.failures streams.new)) }
+    ensures run { IfOk result (IsRunOf (R.Read.remaining text) steps (S.known streams.old) (S.known streams.new) (S.content streams.old)
+        (S.content streams.new) (S.failures streams.old) (S.failures streams.new)) }
     ensures fault { IfErr result (IsRunFault (R.Read.remaining text)) }
     ensures untouched { OnErr result (streams.new ≡ streams.old) }
 {

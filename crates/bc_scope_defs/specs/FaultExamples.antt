@@ -55,7 +55,8 @@ hides = refl
 -- `LET G(X) BE $( LET H() BE X := 1; H() $)`, and with a parameter X of H
 abbrev nested_routine : List (List ℕ) → Declarations
 nested_routine ps =
-    declarations (lets (tree.Routine g (x ∷ []) (body (lets (tree.Routine f ps (commands (set x (number 1) ∷ [])) ∷ []) ∷ []) (plain (do_call f []) ∷ [])) ∷ []) ∷ [])
+    declarations (lets (tree.Routine g (x ∷ []) (body (lets (tree.Routine f ps (commands (set x (number 1) ∷ [])) ∷ []) ∷ []) (plain (do_call f []) ∷ []))
+    ∷ []) ∷ [])
 
 dynamic_free : section_fault (nested_routine []) ≡ Some (ADynamicFree x)
 dynamic_free = refl
@@ -319,7 +320,8 @@ label_inside : fault_in (body [] (plain (tree.Compound (body [] (labelled l tree
 label_inside = refl
 
 -- a label of the enclosing routine, one outside of a VALOF, a name that is no label, and a label that is set
-label_of_another : fault_in (body [] (labelled l (tree.Compound (body (lets (tree.Routine f [] (commands (tree.Goto l ∷ [])) ∷ []) ∷ []) (plain (do_call f []) ∷ []))) ∷ []))
+label_of_another : fault_in (body []
+    (labelled l (tree.Compound (body (lets (tree.Routine f [] (commands (tree.Goto l ∷ [])) ∷ []) ∷ []) (plain (do_call f []) ∷ []))) ∷ []))
     ≡ Some (ADynamicFree l)
 label_of_another = refl
 

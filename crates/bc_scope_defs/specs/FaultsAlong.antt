@@ -52,9 +52,11 @@ abbrev mutual
   definition_fault ns E at (tree.Vector n k) s =
       or_else (all_twice_fault ns (n ∷ [])) (or_else (or_else (fault true E at k 0) (not_constant E k)) (unless E.inside AMisplaced))
   definition_fault ns E at (tree.Function n ps e) s =
-      or_else (all_twice_fault ns (n ∷ [])) (or_else (all_twice_fault [] ps) (fault false (in_parameters ps E) (behind_place at) e (level_behind_parameters (length ps))))
+      or_else (all_twice_fault ns (n ∷ []))
+      (or_else (all_twice_fault [] ps) (fault false (in_parameters ps E) (behind_place at) e (level_behind_parameters (length ps))))
   definition_fault ns E at (tree.Routine n ps b) s =
-      or_else (all_twice_fault ns (n ∷ [])) (or_else (all_twice_fault [] ps) (block_fault allowed_in_routine (in_parameters ps E) (behind_place at) b (level_behind_parameters (length ps))))
+      or_else (all_twice_fault ns (n ∷ []))
+      (or_else (all_twice_fault [] ps) (block_fault allowed_in_routine (in_parameters ps E) (behind_place at) b (level_behind_parameters (length ps))))
 
   pub definitions_fault : (before : List Name) → Env → Numbers → Definitions → (s : ℕ) → Option Fault
   definitions_fault ns E at no_definitions s = None
@@ -74,7 +76,8 @@ abbrev mutual
   block_fault W E at (block ds is) s =
       let behind_it = behind_declarations at ds in
       or_else (declarations_fault E at ds s)
-      (items_fault false none_met W (in_list behind_it.label is (in_declarations E at s ds)) (behind_labels behind_it (labels_in is)) is (level_behind E at s ds))
+      (items_fault false none_met W (in_list behind_it.label is (in_declarations E at s ds)) (behind_labels behind_it (labels_in is)) is
+      (level_behind E at s ds))
 
   pub label_fault : (cases : Bool) → Met → Env → Numbers → Label → Option Fault
   label_fault cases M E at (tree.Case k) = or_else (or_else (fault true E at k 0) (not_constant E k)) (case_fault cases M (constant E k))
@@ -95,7 +98,8 @@ abbrev mutual
   command_fault W E at (tree.Assign xs es) s =
       let ss = side_levels E xs s in
       or_else (sides_fault E at xs ss) (or_else (sides_fault E (behind_all at xs) es ss) (unless (all_have_cells E xs) ANotAssignable))
-  command_fault W E at (tree.Do f es) s = or_else (fault false E at f (routine_level s (count es))) (arguments_fault false E (behind at f) es (argument_level s))
+  command_fault W E at (tree.Do f es) s =
+      or_else (fault false E at f (routine_level s (count es))) (arguments_fault false E (behind at f) es (argument_level s))
   command_fault W E at (tree.Compound b) s = block_fault W E at b s
   command_fault W E at tree.Break s = unless W.in_loop AMisplaced
   command_fault W E at tree.Loop s = unless W.in_loop AMisplaced
@@ -112,7 +116,8 @@ abbrev mutual
   command_fault W E at (tree.While e b) s = or_else (fault false E at e s) (block_fault (in_a_loop W) E (behind at e) b s)
   command_fault W E at (tree.Until e b) s = or_else (fault false E at e s) (block_fault (in_a_loop W) E (behind at e) b s)
   command_fault W E at (tree.Test e b c) s =
-      let behind_test = behind at e in or_else (fault false E at e s) (or_else (block_fault W E behind_test b s) (block_fault W E (behind_block behind_test b) c s))
+      let behind_test = behind at e in
+      or_else (fault false E at e s) (or_else (block_fault W E behind_test b s) (block_fault W E (behind_block behind_test b) c s))
   command_fault W E at (tree.For n a z b) s =
       let behind_start = behind at a in
       let s1 = level_in_for s in
@@ -120,7 +125,8 @@ abbrev mutual
   command_fault W E at (tree.ForBy n a z k b) s =
       let behind_start = behind at a in
       let s1 = level_in_for s in
-      or_else (fault false E at a s1) (or_else (fault false E behind_start z s1) (or_else (or_else (fault true E (behind behind_start z) k 0) (not_constant E k))
+      or_else (fault false E at a s1)
+      (or_else (fault false E behind_start z s1) (or_else (or_else (fault true E (behind behind_start z) k 0) (not_constant E k))
       (block_fault (in_a_loop W) (in_for E n s) (behind behind_start z) b s1)))
   command_fault W E at (tree.SwitchOn e is) s =
       let behind_value = behind at e in

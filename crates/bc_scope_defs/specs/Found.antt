@@ -53,7 +53,14 @@ global_of _ = None
 
 abbrev pub routine : (before names : Env) → Numbers → Name → List Name → RoutineBody → Thing
 routine B E at n ps b =
-    ARoutine (record { label = at.place; global = global_of (meant_by B n); parameters = length ps; names = in_parameters ps E; numbers = behind_place at; body = b })
+    ARoutine (record {
+      label = at.place;
+      global = global_of (meant_by B n);
+      parameters = length ps;
+      names = in_parameters ps E;
+      numbers = behind_place at;
+      body = b;
+    })
 
 abbrev pub words_of_table : Env → Exps → List ℕ
 words_of_table E none = []
@@ -70,7 +77,8 @@ found_in_entries s at (entry n k es) E = found_entry s at (constant E k) ++ foun
 abbrev mutual
   pub found : Env → Numbers → Exp → (s : ℕ) → List Thing
   found E at (tree.Valof b) s =
-      AValof (record { number = at.valof; names = in_valof E; numbers = behind_valof at; body = b; level = s }) ∷ found_in_block (in_valof E) (behind_valof at) b s
+      AValof (record { number = at.valof; names = in_valof E; numbers = behind_valof at; body = b; level = s })
+      ∷ found_in_block (in_valof E) (behind_valof at) b s
   found E at (tree.Monadic m e) s = found E at e s
   found E at (tree.Dyadic o l r) s = found E at l (operand_level s) ++ found E (behind at l) r (operand_level s)
   found E at (tree.Condition c x y) s =
@@ -97,8 +105,10 @@ abbrev mutual
   pub found_in_definition : (before names : Env) → Numbers → Definition → (s : ℕ) → List Thing
   found_in_definition B E at (tree.Variables ns es) s = found_in_initials E at es s
   found_in_definition B E at (tree.Vector n k) s = []
-  found_in_definition B E at (tree.Function n ps e) s = routine B E at n ps (Gives e) ∷ found (in_parameters ps E) (behind_place at) e (level_behind_parameters (length ps))
-  found_in_definition B E at (tree.Routine n ps b) s = routine B E at n ps (Does b) ∷ found_in_block (in_parameters ps E) (behind_place at) b (level_behind_parameters (length ps))
+  found_in_definition B E at (tree.Function n ps e) s = routine B E at n ps (Gives e)
+      ∷ found (in_parameters ps E) (behind_place at) e (level_behind_parameters (length ps))
+  found_in_definition B E at (tree.Routine n ps b) s = routine B E at n ps (Does b) ∷ found_in_block (in_parameters ps E) (behind_place at) b
+      (level_behind_parameters (length ps))
 
   pub found_in_definitions : (before names : Env) → Numbers → Definitions → (s : ℕ) → List Thing
   found_in_definitions B E at no_definitions s = []

@@ -44,7 +44,8 @@ no_case : run (commands (tree.SwitchOn (number 3) (items (with_case 1 (print (nu
 no_case = refl
 
 falls_through : run (commands (tree.SwitchOn (number 2)
-    (items (with_case 1 (print (number 65)) ∷ with_case 2 (print (number 66)) ∷ with_case 3 (print (number 67)) ∷ plain tree.EndCase ∷ with_case 4 (print (number 68)) ∷ [])) ∷ [])) ≡ printed (66 ∷ 67 ∷ [])
+    (items (with_case 1 (print (number 65)) ∷ with_case 2 (print (number 66)) ∷ with_case 3 (print (number 67)) ∷ plain tree.EndCase
+    ∷ with_case 4 (print (number 68)) ∷ [])) ∷ [])) ≡ printed (66 ∷ 67 ∷ [])
 falls_through = refl
 
 -- `IF NOT 1` doesn't hold; as a value NOT 1 is -2
@@ -59,7 +60,8 @@ valofs = refl
 
 -- statics and strings begin with their words: the first of "AB" is 2 and 65
 static_and_string : runs (declarations (constants storage.Global ((start, number 1) ∷ (wrch, number 14) ∷ []) ∷ constants storage.Static ((x, number 66) ∷ [])
-    ∷ lets (tree.Routine start [] (commands (print (two dyadic.Index (tree.Text (codes "\"AB\"")) (number 0)) ∷ print (of x) ∷ [])) ∷ []) ∷ [])) 100 ≡ printed (65 ∷ 66 ∷ [])
+    ∷ lets (tree.Routine start [] (commands (print (two dyadic.Index (tree.Text (codes "\"AB\"")) (number 0)) ∷ print (of x) ∷ [])) ∷ []) ∷ [])) 100
+    ≡ printed (65 ∷ 66 ∷ [])
 static_and_string = refl
 
 -- `WRCH('A'); $( $) REPEAT` goes on when its turns are spent

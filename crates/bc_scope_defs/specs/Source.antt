@@ -130,7 +130,8 @@ label_number _ = 0
 -- a FOR over the variable at this address: its start and limit are worked out once, the limit is held beside the store
 abbrev pub run_for : (by address : ℕ) → (start limit : Run ℕ) → Run Exit → Run Exit
 run_for by a start limit body =
-    with_cells 1 a (for_loop by (then_do start (λ w. write (a % 65536) w)) limit (read (a % 65536)) (then_do (read (a % 65536)) (λ i. write (a % 65536) ((i + by) % 65536))) body)
+    with_cells 1 a (for_loop by (then_do start (λ w. write (a % 65536) w)) limit (read (a % 65536))
+    (then_do (read (a % 65536)) (λ i. write (a % 65536) ((i + by) % 65536))) body)
 
 abbrev mutual
   pub worth : Around → Env → Numbers → Exp → (p s : ℕ) → Worth
@@ -200,7 +201,8 @@ abbrev mutual
   run_block A E at (block ds is) p s =
       let behind_it = behind_declarations at ds in
       let k = behind_it.label in
-      declare A E at ds p s (listed (has_label_in k is) (run_items A (in_list k is (in_declarations E at s ds)) k (behind_labels behind_it (labels_in is)) is p (level_behind E at s ds)) Beginning)
+      declare A E at ds p s (listed (has_label_in k is)
+      (run_items A (in_list k is (in_declarations E at s ds)) k (behind_labels behind_it (labels_in is)) is p (level_behind E at s ds)) Beginning)
 
   -- the items of a list from an entry on; the next label of the list has number k
   pub run_items : Around → Env → (k : ℕ) → Numbers → Items → (p s : ℕ) → Entry → Run Exit
@@ -242,11 +244,13 @@ abbrev mutual
   run_command A E at (tree.For n a z b) p s =
       let s1 = level_in_for s in
       let behind_start = behind at a in
-      run_for 1 (p + s) (worth A E at a p s1).content.value (worth A E behind_start z p s1).content.value (run_block A (in_for E n s) (behind behind_start z) b p s1)
+      run_for 1 (p + s) (worth A E at a p s1).content.value (worth A E behind_start z p s1).content.value
+      (run_block A (in_for E n s) (behind behind_start z) b p s1)
   run_command A E at (tree.ForBy n a z k b) p s =
       let s1 = level_in_for s in
       let behind_start = behind at a in
-      run_for (constant E k) (p + s) (worth A E at a p s1).content.value (worth A E behind_start z p s1).content.value (run_block A (in_for E n s) (behind behind_start z) b p s1)
+      run_for (constant E k) (p + s) (worth A E at a p s1).content.value (worth A E behind_start z p s1).content.value
+      (run_block A (in_for E n s) (behind behind_start z) b p s1)
   run_command A E at (tree.SwitchOn e is) p s =
       let behind_value = behind at e in
       let k = behind_value.label in

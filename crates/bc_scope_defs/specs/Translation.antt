@@ -144,7 +144,8 @@ abbrev mutual
   core_block E at (tree.block ds is) s =
       let behind_it = behind_declarations at ds in
       let k = behind_it.label in
-      block (core_declarations E at s ds) (core_items (in_list k is (in_declarations E at s ds)) k (behind_labels behind_it (labels_in is)) is (level_behind E at s ds))
+      block (core_declarations E at s ds) (core_items (in_list k is (in_declarations E at s ds)) k (behind_labels behind_it (labels_in is)) is
+      (level_behind E at s ds))
 
   -- the next label of the list has number k
   pub core_items : Env → (k : ℕ) → Numbers → tree.Items → (s : ℕ) → Items

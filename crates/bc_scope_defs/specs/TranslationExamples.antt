@@ -71,7 +71,8 @@ not_folded : translated (two dyadic.Add (number 1) (tree.Monadic monadic.Negate 
 not_folded = refl
 
 -- in a call the routine's VALOF is numbered before those of the arguments
-numbered : translated (tree.Call (tree.Valof (commands [])) (list (tree.Valof (commands []) ∷ []))) ≡ core.Call (core.argument (core.Valof 1) core.no_argument) (core.Valof 0)
+numbered : translated (tree.Call (tree.Valof (commands [])) (list (tree.Valof (commands []) ∷ [])))
+    ≡ core.Call (core.argument (core.Valof 1) core.no_argument) (core.Valof 0)
 numbered = refl
 
 -- both sides of an assignment stand at s where the address is an operand, as of `X`, `!X` and `(@X)!1`, and else, as of
@@ -148,31 +149,34 @@ counting_frame : frames counting ≡ 7 ∷ []
 counting_frame = refl
 
 -- a name that is hidden comes back
-comes_back : core_of (alone (body (variable x (number 1) ∷ []) (plain (tree.Compound (body (variable x (number 2) ∷ []) (plain (set x (number 3)) ∷ []))) ∷ plain (set x (number 4)) ∷ []))) ≡ record {
-  places =
-      routine None (c.block ((c.Initial (core.Num 1) ∷ []) ∷ []) (these
-      (c.Nested (c.block ((c.Initial (core.Num 2) ∷ []) ∷ []) (these (c.Assign (core.Num 3) (core.Frame 3) ∷ [])))
-      ∷ c.Assign (core.Num 4) (core.Frame 2) ∷ []))) ∷ [];
-  valofs = [];
-}
+comes_back : core_of (alone (body (variable x (number 1) ∷ []) (plain (tree.Compound (body (variable x (number 2) ∷ []) (plain (set x (number 3)) ∷ [])))
+    ∷ plain (set x (number 4)) ∷ []))) ≡ record {
+      places =
+          routine None (c.block ((c.Initial (core.Num 1) ∷ []) ∷ []) (these
+          (c.Nested (c.block ((c.Initial (core.Num 2) ∷ []) ∷ []) (these (c.Assign (core.Num 3) (core.Frame 3) ∷ [])))
+          ∷ c.Assign (core.Num 4) (core.Frame 2) ∷ []))) ∷ [];
+      valofs = [];
+    }
 comes_back = refl
 
 -- two routines of one LET that call each other
-call_each_other : core_of (declarations (lets (tree.Routine f [] (commands (do_call g [] ∷ [])) ∷ tree.Routine g [] (commands (do_call f [] ∷ [])) ∷ []) ∷ [])) ≡ record {
-  places =
-      routine None (c.block [] (these (c.Call (core.Call core.no_argument (core.Place 2)) ∷ [])))
-      ∷ routine None (c.block [] (these (c.Call (core.Call core.no_argument (core.Place 1)) ∷ []))) ∷ [];
-  valofs = [];
-}
+call_each_other : core_of (declarations (lets (tree.Routine f [] (commands (do_call g [] ∷ [])) ∷ tree.Routine g [] (commands (do_call f [] ∷ [])) ∷ [])
+    ∷ [])) ≡ record {
+      places =
+          routine None (c.block [] (these (c.Call (core.Call core.no_argument (core.Place 2)) ∷ [])))
+          ∷ routine None (c.block [] (these (c.Call (core.Call core.no_argument (core.Place 1)) ∷ []))) ∷ [];
+      valofs = [];
+    }
 call_each_other = refl
 
 -- a nested routine whose name means a global sets it, and makes no new name; it is a place behind the one around it
-sets_a_global : core_of (declarations (constants storage.Global ((f, number 100) ∷ []) ∷ lets (tree.Routine start [] (body (lets (tree.Routine f [] (commands []) ∷ []) ∷ []) (plain (do_call f []) ∷ [])) ∷ []) ∷ [])) ≡ record {
-  places =
-      routine None (c.block ([] ∷ []) (these (c.Call (core.Call core.no_argument (core.Load (core.Glob 100))) ∷ [])))
-      ∷ routine (Some 100) (c.block [] c.no_item) ∷ [];
-  valofs = [];
-}
+sets_a_global : core_of (declarations (constants storage.Global ((f, number 100) ∷ [])
+    ∷ lets (tree.Routine start [] (body (lets (tree.Routine f [] (commands []) ∷ []) ∷ []) (plain (do_call f []) ∷ [])) ∷ []) ∷ [])) ≡ record {
+      places =
+          routine None (c.block ([] ∷ []) (these (c.Call (core.Call core.no_argument (core.Load (core.Glob 100))) ∷ [])))
+          ∷ routine (Some 100) (c.block [] c.no_item) ∷ [];
+      valofs = [];
+    }
 sets_a_global = refl
 
 -- `LET V = VEC 3 AND X = 1`: V stands at 2, its cells at 3 to 6, X at 7
@@ -186,7 +190,8 @@ behind_a_vector = refl
 places_in_order : core_of (declarations
     (constants storage.Manifest ((a, tree.Monadic monadic.Negate (number 1)) ∷ (b, opposite (of a)) ∷ [])
     ∷ constants storage.Static ((x, two dyadic.Add (of b) (number 2)) ∷ [])
-    ∷ lets (tree.Routine start [] (commands (set x (tree.Table (list (of a ∷ number 3 ∷ []))) ∷ set x (tree.Text (codes "\"A*N\"")) ∷ [])) ∷ []) ∷ [])) ≡ record {
+    ∷ lets (tree.Routine start [] (commands (set x (tree.Table (list (of a ∷ number 3 ∷ []))) ∷ set x (tree.Text (codes "\"A*N\"")) ∷ [])) ∷ []) ∷ []))
+    ≡ record {
       places =
           c.Static 2
           ∷ routine None (c.block [] (these (c.Assign (core.Place 3) (core.Place 1) ∷ c.Assign (core.Place 4) (core.Place 1) ∷ [])))
@@ -218,7 +223,8 @@ section_translated : core_of section ≡ record {
         parameters = 0;
         body = c.Does (c.block ((c.Initial (core.Num 1) ∷ c.Initial (core.Num 2) ∷ []) ∷ [])
             (c.command (c.Nested (c.block [] (c.command (c.Assign (at 3) (core.Frame 2)) (c.command (c.Assign (core.Frame 2) (at 3)) c.no_item))))
-            (c.command (c.Call (core.Call (core.argument (core.Call (core.argument (at 2) core.no_argument) (core.Place 1)) core.no_argument) (core.Load (core.Glob 14))))
+            (c.command (c.Call (core.Call (core.argument (core.Call (core.argument (at 2) core.no_argument) (core.Place 1)) core.no_argument)
+            (core.Load (core.Glob 14))))
             c.no_item)));
       })
       ∷ [];

@@ -27,6 +27,7 @@ use Rattle.bc_scope_laws.proofs.Small.{small, few, nodes_of_addresses, nodes_of_
 use Rattle.bc_scope_laws.proofs.Items.{label_among, label_kept, levels}
 use Rattle.bc_scope_laws.proofs.SideLevels.{levels_kept}
 use Rattle.bc_scope_laws.proofs.Table.{same_number, other_number}
+use Rattle.bc_scope_laws.proofs.Entries.{entered}
 use Rattle.bc_scope_laws.proofs.Fits.{AllThings, first, second, Stands, MeantFits, Sound, sound_more, sound_definitions, sound_pending, sound_entries, none_left, none_right, no_fault, FormFits, exp_fit}
 
 -- with twice as many nodes a root is no larger than allowed
@@ -473,4 +474,5 @@ mutual
       let items = core_items E1 k at1 is s in
       let he = exp_fit A E at e s so (first (Stands A) (found E at e s) of_items h) in
       let hs = items_stand A true faults.none_met (faults.in_a_switch W) (fitting.labels_of items ++ L) E1 k at1 is s (omega arith) (sound_in_list E1 k at1 is s E so) (second (Stands A) (found E at e s) of_items h) (none_right _ _ n) in
-      λ i. root_fit A (forms E at e).content s (exp_size e) (small E at e).1 (omega arith) he.1 i && distinct E1 k at1 is s i && hs i
+      λ i. root_fit A (forms E at e).content s (exp_size e) (small E at e).1 (omega arith) he.1 i && distinct E1 k at1 is s i
+      && entered (faults.in_a_switch W) E1 k at1 is s (none_right _ _ n) i && hs i

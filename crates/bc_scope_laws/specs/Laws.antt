@@ -37,12 +37,14 @@ SectionsKeepTheirMeaning =
 abbrev pub ExpressionsKeepTheirMeaning : Type 0
 ExpressionsKeepTheirMeaning =
     (A : Around) (E : Env) (at : Numbers) (e : Exp) (p s : ℕ)
-    → (worth A E at e p s).content ≡ sense (context A.place A.call (valofs_from A.place A.call at.valof (valofs_of (found E at e s)))) (forms E at e).content p s
+    → (worth A E at e p s).content ≡ sense (context A.place A.call (valofs_from A.place A.call at.valof (valofs_of (found E at e s))))
+    (forms E at e).content p s
 
 abbrev pub CommandsKeepTheirMeaning : Type 0
 CommandsKeepTheirMeaning =
     (A : Around) (E : Env) (at : Numbers) (c : Command) (p s : ℕ)
-    → run_command A E at c p s ≡ perform (context A.place A.call (valofs_from A.place A.call at.valof (valofs_of (found_in_command E at c s)))) (core_command E at c s) p s
+    → run_command A E at c p s ≡ perform (context A.place A.call (valofs_from A.place A.call at.valof (valofs_of (found_in_command E at c s))))
+    (core_command E at c s) p s
 
 -- Levels and frame sizes are the section's own. The level behind declarations is that behind the cells of their
 -- translation, the sides of an assignment stand where the translated addresses say, a call has as many arguments.
@@ -121,7 +123,8 @@ pub record WidthsAskNoNumbers : Type 0 where
 
 pub record FaultsAskNoNumbers : Type 0 where
   pub of_expressions : (c : Bool) (E F : Env) → AreAlike E F → (at : Numbers) (e : Exp) (s : ℕ) → faults_along.fault c E at e s ≡ fault c F e
-  pub of_commands : (W : Allowed) (E F : Env) → AreAlike E F → (at : Numbers) (c : Command) (s : ℕ) → faults_along.command_fault W E at c s ≡ command_fault W F c
+  pub of_commands : (W : Allowed) (E F : Env) → AreAlike E F → (at : Numbers) (c : Command) (s : ℕ) → faults_along.command_fault W E at c s
+      ≡ command_fault W F c
   pub of_declarations :
       (E F : Env) → AreAlike E F → (at : Numbers) (ds : Declarations) (s : ℕ) → faults_along.declarations_fault E at ds s ≡ declarations_fault F ds
   pub of_sections : (ds : Declarations) → faults_along.section_fault ds ≡ section_fault ds

@@ -30,9 +30,12 @@ routine_setting g E at ps b =
 abbrev pub found_in_definition_by : (g : Option ℕ) → Env → Numbers → Definition → (s : ℕ) → List Thing
 found_in_definition_by g E at (tree.Variables ns es) s = found_in_initials E at es s
 found_in_definition_by g E at (tree.Vector n k) s = []
-found_in_definition_by g E at (tree.Function n ps e) s = routine_setting g E at ps (Gives e) ∷ found (in_parameters ps E) (behind_place at) e (level_behind_parameters (length ps))
-found_in_definition_by g E at (tree.Routine n ps b) s = routine_setting g E at ps (Does b) ∷ found_in_block (in_parameters ps E) (behind_place at) b (level_behind_parameters (length ps))
+found_in_definition_by g E at (tree.Function n ps e) s = routine_setting g E at ps (Gives e)
+    ∷ found (in_parameters ps E) (behind_place at) e (level_behind_parameters (length ps))
+found_in_definition_by g E at (tree.Routine n ps b) s = routine_setting g E at ps (Does b) ∷ found_in_block (in_parameters ps E) (behind_place at) b
+    (level_behind_parameters (length ps))
 
 abbrev pub found_in_definitions_by : List (Option ℕ) → Env → Numbers → Definitions → (s : ℕ) → List Thing
 found_in_definitions_by gs E at no_definitions s = []
-found_in_definitions_by gs E at (definition d ds) s = found_in_definition_by (first_global gs) E at d s ++ found_in_definitions_by (drop 1 gs) E (behind_definition at d) ds s
+found_in_definitions_by gs E at (definition d ds) s = found_in_definition_by (first_global gs) E at d s
+    ++ found_in_definitions_by (drop 1 gs) E (behind_definition at d) ds s

@@ -51,6 +51,7 @@ Gathers result before after behind things =
     IfOk result (λ _. (core_view after ≡ found_behind (core_view before) things) × (numbers_view after.at ≡ behind))
 
 -- the same, and the names that are known are then those that were known before
-abbrev pub GathersWithin : {X E : Type 0} → Result X E → (before after : Gathered) → (behind : scoping.Numbers) → List Thing → (known_before known_after : List Entry) → Type 0
+abbrev pub GathersWithin : {X E : Type 0} → Result X E → (before after : Gathered) → (behind : scoping.Numbers) → List Thing
+    → (known_before known_after : List Entry) → Type 0
 GathersWithin result before after behind things known_before known_after =
     IfOk result (λ _. (core_view after ≡ found_behind (core_view before) things) × (numbers_view after.at ≡ behind) × (known_after ≡ known_before))

@@ -80,7 +80,8 @@ abbrev pub Translates : {X Y E : Type 0} → (X → Y) → Result X E → Y → 
 Translates view result y after behind = IfOk result (λ x. (view x ≡ y) × (next_numbers after ≡ behind))
 
 -- the same, and the names that are known are then those that were known before
-abbrev pub TranslatesWithin : {X Y E : Type 0} → (X → Y) → Result X E → Y → (after : NextNumbers) → (behind : scoping.Numbers) → (known_before known_after : List names.Entry) → Type 0
+abbrev pub TranslatesWithin : {X Y E : Type 0} → (X → Y) → Result X E → Y → (after : NextNumbers) → (behind : scoping.Numbers)
+    → (known_before known_after : List names.Entry) → Type 0
 TranslatesWithin view result y after behind known_before known_after =
     IfOk result (λ x. (view x ≡ y) × (next_numbers after ≡ behind) × (known_after ≡ known_before))
 

@@ -25,7 +25,8 @@ fn side<'t, 's>(
     at: &mut NextNumbers<'t, 's>,
     list: &'t [Exp<'s>],
 ) -> Result<Vec<Formed>, Memory>
-    ensures { Translates (λ fs. formed_list fs.items) result (forms_of_all (scope_view scope.now) (next_numbers at.old) (exps_view list.now)) at.new (behind_all (next_numbers at.old) (exps_view list.now)) }
+    ensures { Translates (λ fs. formed_list fs.items) result (forms_of_all (scope_view scope.now) (next_numbers at.old) (exps_view list.now)) at.new
+        (behind_all (next_numbers at.old) (exps_view list.now)) }
 {
     let mut formed = Vec::with_capacity(scope.alloc(), list.len())?;
     for e in list {
@@ -55,7 +56,10 @@ fn single<'t, 's>(
     place: &'t Exp<'s>,
     assigned: &'t Exp<'s>,
 ) -> Result<CoreCommand, Memory>
-    ensures { Translates command_of result (Assign (forms (scope_view scope.now) (behind (next_numbers at.old) (exp_view place.now)) (exp_view assigned.now)).content (forms (scope_view scope.now) (next_numbers at.old) (exp_view place.now)).address) at.new (behind (behind (next_numbers at.old) (exp_view place.now)) (exp_view assigned.now)) }
+    ensures { Translates command_of result
+        (Assign (forms (scope_view scope.now) (behind (next_numbers at.old) (exp_view place.now)) (exp_view assigned.now)).content
+        (forms (scope_view scope.now) (next_numbers at.old) (exp_view place.now)).address) at.new
+        (behind (behind (next_numbers at.old) (exp_view place.now)) (exp_view assigned.now)) }
 {
     let place = expression(scope, at, place)?;
     Ok(CoreCommand::Assign {
@@ -72,7 +76,10 @@ fn several<'t, 's>(
     places: &'t [Exp<'s>],
     values: &'t [Exp<'s>],
 ) -> Result<CoreCommand, Memory>
-    ensures { Translates command_of result (Nested (block [] (assignments (forms_of_all (scope_view scope.now) (next_numbers at.old) (exps_view places.now)) (forms_of_all (scope_view scope.now) (behind_all (next_numbers at.old) (exps_view places.now)) (exps_view values.now))))) at.new (behind_all (behind_all (next_numbers at.old) (exps_view places.now)) (exps_view values.now)) }
+    ensures { Translates command_of result
+        (Nested (block [] (assignments (forms_of_all (scope_view scope.now) (next_numbers at.old) (exps_view places.now))
+        (forms_of_all (scope_view scope.now) (behind_all (next_numbers at.old) (exps_view places.now)) (exps_view values.now))))) at.new
+        (behind_all (behind_all (next_numbers at.old) (exps_view places.now)) (exps_view values.now)) }
 {
     let places = side(scope, at, places)?;
     let values = side(scope, at, values)?;
@@ -92,7 +99,9 @@ pub fn assigned<'t, 's>(
     places: &'t [Exp<'s>],
     values: &'t [Exp<'s>],
 ) -> Result<CoreCommand, Memory>
-    ensures { Translates command_of result (assignment (forms_of_all (scope_view scope.now) (next_numbers at.old) (exps_view places.now)) (forms_of_all (scope_view scope.now) (behind_all (next_numbers at.old) (exps_view places.now)) (exps_view values.now))) at.new (behind_all (behind_all (next_numbers at.old) (exps_view places.now)) (exps_view values.now)) }
+    ensures { Translates command_of result (assignment (forms_of_all (scope_view scope.now) (next_numbers at.old) (exps_view places.now))
+        (forms_of_all (scope_view scope.now) (behind_all (next_numbers at.old) (exps_view places.now)) (exps_view values.now))) at.new
+        (behind_all (behind_all (next_numbers at.old) (exps_view places.now)) (exps_view values.now)) }
 {
     if places.len() != 1 {
         return several(scope, at, places, values);

@@ -47,7 +47,9 @@ fn initials<'t, 's>(
     variables: &mut Vec<Variable>,
     list: &'t [Exp<'s>],
 ) -> Result<(), Memory>
-    ensures { Translates (λ _. map variable variables.new.items) result (map variable variables.old.items ++ initials_of (forms_of_all (scope_view scope.now) (next_numbers at.old) (exps_view list.now))) at.new (behind_all (next_numbers at.old) (exps_view list.now)) }
+    ensures { Translates (λ _. map variable variables.new.items) result (map variable variables.old.items
+        ++ initials_of (forms_of_all (scope_view scope.now) (next_numbers at.old) (exps_view list.now))) at.new
+        (behind_all (next_numbers at.old) (exps_view list.now)) }
 {
     for e in list {
         variables.push(Variable::Value(value(scope, at, e)?))?;
@@ -63,7 +65,9 @@ fn definition<'t, 's>(
     variables: &mut Vec<Variable>,
     tree: &'t Definition<'s>,
 ) -> Result<(), Memory>
-    ensures { Translates (λ _. map variable variables.new.items) result (map variable variables.old.items ++ core_definition_by greatest (scope_view scope.now) (next_numbers at.old) (definition_view tree.now)) at.new (behind_definition_of (next_numbers at.old) (definition_view tree.now)) }
+    ensures { Translates (λ _. map variable variables.new.items) result (map variable variables.old.items
+        ++ core_definition_by greatest (scope_view scope.now) (next_numbers at.old) (definition_view tree.now)) at.new
+        (behind_definition_of (next_numbers at.old) (definition_view tree.now)) }
 {
     match tree {
         Definition::Variables(_, values) => initials(scope, at, variables, values),
@@ -92,7 +96,8 @@ fn definitions<'t, 's>(
     at: &mut NextNumbers<'t, 's>,
     list: &'t [Definition<'s>],
 ) -> Result<Vec<Variable>, Memory>
-    ensures { Translates (λ vs. map variable vs.items) result (core_definitions_by priors.now.greatest.items (scope_view scope.now) (next_numbers at.old) (definitions_view list.now)) at.new (behind_definitions (next_numbers at.old) (definitions_view list.now)) }
+    ensures { Translates (λ vs. map variable vs.items) result (core_definitions_by priors.now.greatest.items (scope_view scope.now) (next_numbers at.old)
+        (definitions_view list.now)) at.new (behind_definitions (next_numbers at.old) (definitions_view list.now)) }
 {
     let mut variables = Vec::with_capacity(scope.alloc(), variables_in(list))?;
     let mut i = 0u64;
@@ -111,7 +116,8 @@ fn entries<'t, 's>(
     storage: Storage,
     list: &[Constant<'s>],
 ) -> Result<(), Memory>
-    ensures { IfOk result (λ _. Declares scope.old scope.new (in_entries storage (next_numbers at.old) (entries_view list.now) (scope_view scope.old)) × (next_numbers at.new ≡ behind_entries storage (next_numbers at.old) (entries_view list.now))) }
+    ensures { IfOk result (λ _. Declares scope.old scope.new (in_entries storage (next_numbers at.old) (entries_view list.now) (scope_view scope.old))
+        × (next_numbers at.new ≡ behind_entries storage (next_numbers at.old) (entries_view list.now))) }
 {
     for entry in list {
         let numbers = at.count()?;
@@ -129,7 +135,11 @@ fn declaration<'t, 's>(
     tree: &'t Declaration<'s>,
     level: u64,
 ) -> Result<u64, Memory>
-    ensures { IfOk result (λ s. (s ≡ level + cells_in (scope_view scope.old) (declaration_view tree.now)) × Declares scope.old scope.new (in_declaration (scope_view scope.old) (next_numbers at.old) level (declaration_view tree.now)) × (next_numbers at.new ≡ behind_declaration (next_numbers at.old) (declaration_view tree.now)) × (declarations_of declarations.new.items ≡ declarations_of declarations.old.items ++ core_declaration (scope_view scope.old) (next_numbers at.old) level (declaration_view tree.now))) }
+    ensures { IfOk result (λ s. (s ≡ level + cells_in (scope_view scope.old) (declaration_view tree.now))
+        × Declares scope.old scope.new (in_declaration (scope_view scope.old) (next_numbers at.old) level (declaration_view tree.now))
+        × (next_numbers at.new ≡ behind_declaration (next_numbers at.old) (declaration_view tree.now))
+        × (declarations_of declarations.new.items ≡ declarations_of declarations.old.items
+        ++ core_declaration (scope_view scope.old) (next_numbers at.old) level (declaration_view tree.now))) }
 {
     match tree {
         Declaration::Constants(storage, list) => {
@@ -157,7 +167,11 @@ fn declarations<'t, 's>(
     list: &'t [Declaration<'s>],
     level: u64,
 ) -> Result<u64, Memory>
-    ensures { IfOk result (λ s. (s ≡ level_behind (scope_view scope.old) (next_numbers at.old) level (declarations_view list.now)) × Declares scope.old scope.new (in_declarations (scope_view scope.old) (next_numbers at.old) level (declarations_view list.now)) × (next_numbers at.new ≡ behind_declarations (next_numbers at.old) (declarations_view list.now)) × (declarations_of declarations.new.items ≡ declarations_of declarations.old.items ++ core_declarations (scope_view scope.old) (next_numbers at.old) level (declarations_view list.now))) }
+    ensures { IfOk result (λ s. (s ≡ level_behind (scope_view scope.old) (next_numbers at.old) level (declarations_view list.now))
+        × Declares scope.old scope.new (in_declarations (scope_view scope.old) (next_numbers at.old) level (declarations_view list.now))
+        × (next_numbers at.new ≡ behind_declarations (next_numbers at.old) (declarations_view list.now))
+        × (declarations_of declarations.new.items ≡ declarations_of declarations.old.items
+        ++ core_declarations (scope_view scope.old) (next_numbers at.old) level (declarations_view list.now))) }
 {
     let mut behind = level;
     for tree in list {
@@ -174,7 +188,8 @@ fn labels<'s>(
     number: u64,
     trees: &[Label<'s>],
 ) -> Result<u64, Memory>
-    ensures { IfOk result (λ n. (n ≡ number + labels_of (labels_view trees.now)) × (map entry_view list.new.items ≡ map entry_view list.old.items ++ label_entries (scope_view scope.now) number (labels_view trees.now))) }
+    ensures { IfOk result (λ n. (n ≡ number + labels_of (labels_view trees.now))
+        × (map entry_view list.new.items ≡ map entry_view list.old.items ++ label_entries (scope_view scope.now) number (labels_view trees.now))) }
 {
     let mut number = number;
     for tree in trees {
@@ -196,7 +211,8 @@ fn condition<'t, 's>(
     sense: bool,
     test: &'t Exp<'s>,
 ) -> Result<Condition, Memory>
-    ensures { Translates condition_view result (sense, (forms (scope_view scope.now) (next_numbers at.old) (exp_view test.now)).content) at.new (behind (next_numbers at.old) (exp_view test.now)) }
+    ensures { Translates condition_view result (sense, (forms (scope_view scope.now) (next_numbers at.old) (exp_view test.now)).content) at.new
+        (behind (next_numbers at.old) (exp_view test.now)) }
 {
     let test = value(scope, at, test)?;
     Ok(Condition { sense, test })
@@ -233,7 +249,8 @@ pub fn block<'t, 's>(
     tree: &'t Block<'s>,
     level: u64,
 ) -> Result<CoreBlock, Memory>
-    ensures { TranslatesWithin core_block_of result (core_block (scope_view scope.old) (next_numbers at.old) (block_view tree.now) level) at.new (behind_block (next_numbers at.old) (block_view tree.now)) scope.old scope.new }
+    ensures { TranslatesWithin core_block_of result (core_block (scope_view scope.old) (next_numbers at.old) (block_view tree.now) level) at.new
+        (behind_block (next_numbers at.old) (block_view tree.now)) scope.old scope.new }
 {
     let outside = scope.mark();
     let mut opened = Vec::new(scope.alloc());
@@ -255,7 +272,10 @@ fn command_list<'t, 's>(
     trees: &'t [Item<'s>],
     level: u64,
 ) -> Result<Vec<ListItem>, Memory>
-    ensures { TranslatesWithin (λ is. items_of is.items) result (core_items (in_list (next_numbers at.old).label (items_view trees.now) (scope_view scope.old)) (next_numbers at.old).label (behind_labels (next_numbers at.old) (labels_in_of (items_view trees.now))) (items_view trees.now) level) at.new (behind_items (behind_labels (next_numbers at.old) (labels_in_of (items_view trees.now))) (items_view trees.now)) scope.old scope.new }
+    ensures { TranslatesWithin (λ is. items_of is.items) result
+        (core_items (in_list (next_numbers at.old).label (items_view trees.now) (scope_view scope.old)) (next_numbers at.old).label
+        (behind_labels (next_numbers at.old) (labels_in_of (items_view trees.now))) (items_view trees.now) level) at.new
+        (behind_items (behind_labels (next_numbers at.old) (labels_in_of (items_view trees.now))) (items_view trees.now)) scope.old scope.new }
 {
     let labels = labels_in(trees)?;
     if labels == 0 {
@@ -277,7 +297,8 @@ fn labelled_list<'t, 's>(
     trees: &'t [Item<'s>],
     level: u64,
 ) -> Result<Vec<ListItem>, Memory>
-    ensures { TranslatesWithin (λ is. items_of is.items) result (core_items (in_list number (items_view trees.now) (scope_view scope.old)) number (next_numbers at.old) (items_view trees.now) level) at.new (behind_items (next_numbers at.old) (items_view trees.now)) scope.old scope.new }
+    ensures { TranslatesWithin (λ is. items_of is.items) result (core_items (in_list number (items_view trees.now) (scope_view scope.old)) number
+        (next_numbers at.old) (items_view trees.now) level) at.new (behind_items (next_numbers at.old) (items_view trees.now)) scope.old scope.new }
 {
     let before_labels = scope.mark();
     declare_list(scope, number, trees)?;
@@ -295,7 +316,9 @@ fn items<'t, 's>(
     trees: &'t [Item<'s>],
     level: u64,
 ) -> Result<Vec<ListItem>, Memory>
-    ensures { TranslatesWithin (λ is. items_of is.items) result (core_items (scope_view scope.old) number (next_numbers at.old) (items_view trees.now) level) at.new (behind_items (next_numbers at.old) (items_view trees.now)) scope.old scope.new }
+    ensures { TranslatesWithin (λ is. items_of is.items) result
+        (core_items (scope_view scope.old) number (next_numbers at.old) (items_view trees.now) level) at.new
+        (behind_items (next_numbers at.old) (items_view trees.now)) scope.old scope.new }
 {
     let mut list = Vec::with_capacity(scope.alloc(), trees.len())?;
     let mut number = number;
@@ -315,7 +338,10 @@ fn item<'t, 's>(
     level: u64,
     list: &mut Vec<ListItem>,
 ) -> Result<u64, Memory>
-    ensures { IfOk result (λ n. (map entry_view list.new.items ≡ map entry_view list.old.items ++ (label_entries (scope_view scope.old) number (labels_before (item_view tree.now)) ++ command_entry (scope_view scope.old) (next_numbers at.old) (item_view tree.now) level)) × (next_numbers at.new ≡ behind_item (next_numbers at.old) (item_view tree.now)) × (n ≡ number + labels_of (labels_before (item_view tree.now))) × (scope.new ≡ scope.old)) }
+    ensures { IfOk result (λ n. (map entry_view list.new.items ≡ map entry_view list.old.items
+        ++ (label_entries (scope_view scope.old) number (labels_before (item_view tree.now)) ++ command_entry (scope_view scope.old) (next_numbers at.old)
+        (item_view tree.now) level)) × (next_numbers at.new ≡ behind_item (next_numbers at.old) (item_view tree.now))
+        × (n ≡ number + labels_of (labels_before (item_view tree.now))) × (scope.new ≡ scope.old)) }
 {
     let behind = labels(scope, list, number, &tree.labels)?;
     match &tree.command {
@@ -336,7 +362,9 @@ fn body<'t, 's>(
     tree: &'t Command<'s>,
     level: u64,
 ) -> Result<CoreBlock, Memory>
-    ensures { TranslatesWithin core_block_of result (block_of_one (core_command (scope_view scope.old) (next_numbers at.old) (command_view tree.now) level)) at.new (behind_command (next_numbers at.old) (command_view tree.now)) scope.old scope.new }
+    ensures { TranslatesWithin core_block_of result
+        (block_of_one (core_command (scope_view scope.old) (next_numbers at.old) (command_view tree.now) level)) at.new
+        (behind_command (next_numbers at.old) (command_view tree.now)) scope.old scope.new }
 {
     let repeated = command(scope, at, tree, level)?;
     block_of(scope.alloc(), repeated)
@@ -353,7 +381,8 @@ fn counted<'t, 's>(
     tree: &'t Block<'s>,
     level: u64,
 ) -> Result<CoreBlock, Memory>
-    ensures { TranslatesWithin core_block_of result (core_block (in_for (scope_view scope.old) variable.entry.now level) (next_numbers at.old) (block_view tree.now) (level_in_for level)) at.new (behind_block (next_numbers at.old) (block_view tree.now)) scope.old scope.new }
+    ensures { TranslatesWithin core_block_of result (core_block (in_for (scope_view scope.old) variable.entry.now level) (next_numbers at.old)
+        (block_view tree.now) (level_in_for level)) at.new (behind_block (next_numbers at.old) (block_view tree.now)) scope.old scope.new }
 {
     let before_variable = scope.mark();
     scope.declare(variable, Meant::Variable(level))?;
@@ -373,7 +402,9 @@ fn guarded<'t, 's>(
     test: &'t Exp<'s>,
     level: u64,
 ) -> Result<CoreCommand, Memory>
-    ensures { TranslatesWithin command_of result (If sense (forms (scope_view scope.old) (next_numbers at.old) (exp_view test.now)).content (core_block (scope_view scope.old) (behind (next_numbers at.old) (exp_view test.now)) (block_view tree.now) level)) at.new (behind_block (behind (next_numbers at.old) (exp_view test.now)) (block_view tree.now)) scope.old scope.new }
+    ensures { TranslatesWithin command_of result (If sense (forms (scope_view scope.old) (next_numbers at.old) (exp_view test.now)).content
+        (core_block (scope_view scope.old) (behind (next_numbers at.old) (exp_view test.now)) (block_view tree.now) level)) at.new
+        (behind_block (behind (next_numbers at.old) (exp_view test.now)) (block_view tree.now)) scope.old scope.new }
 {
     let test = condition(scope, at, sense, test)?;
     Ok(conditional(test, block(scope, at, tree, level)?))
@@ -390,7 +421,9 @@ fn guarded_loop<'t, 's>(
     test: &'t Exp<'s>,
     level: u64,
 ) -> Result<CoreCommand, Memory>
-    ensures { TranslatesWithin command_of result (While sense (forms (scope_view scope.old) (next_numbers at.old) (exp_view test.now)).content (core_block (scope_view scope.old) (behind (next_numbers at.old) (exp_view test.now)) (block_view tree.now) level)) at.new (behind_block (behind (next_numbers at.old) (exp_view test.now)) (block_view tree.now)) scope.old scope.new }
+    ensures { TranslatesWithin command_of result (While sense (forms (scope_view scope.old) (next_numbers at.old) (exp_view test.now)).content
+        (core_block (scope_view scope.old) (behind (next_numbers at.old) (exp_view test.now)) (block_view tree.now) level)) at.new
+        (behind_block (behind (next_numbers at.old) (exp_view test.now)) (block_view tree.now)) scope.old scope.new }
 {
     let test = condition(scope, at, sense, test)?;
     Ok(looped(test, block(scope, at, tree, level)?))
@@ -405,7 +438,9 @@ fn endless_loop<'t, 's>(
     tree: &'t Command<'s>,
     level: u64,
 ) -> Result<CoreCommand, Memory>
-    ensures { TranslatesWithin command_of result (Repeat (block_of_one (core_command (scope_view scope.old) (next_numbers at.old) (command_view tree.now) level))) at.new (behind_command (next_numbers at.old) (command_view tree.now)) scope.old scope.new }
+    ensures { TranslatesWithin command_of result
+        (Repeat (block_of_one (core_command (scope_view scope.old) (next_numbers at.old) (command_view tree.now) level))) at.new
+        (behind_command (next_numbers at.old) (command_view tree.now)) scope.old scope.new }
 {
     Ok(forever(body(scope, at, tree, level)?))
 }
@@ -421,7 +456,10 @@ fn tested_loop<'t, 's>(
     test: &'t Exp<'s>,
     level: u64,
 ) -> Result<CoreCommand, Memory>
-    ensures { TranslatesWithin command_of result (RepeatWhile (block_of_one (core_command (scope_view scope.old) (next_numbers at.old) (command_view tree.now) level)) sense (forms (scope_view scope.old) (behind_command (next_numbers at.old) (command_view tree.now)) (exp_view test.now)).content) at.new (behind (behind_command (next_numbers at.old) (command_view tree.now)) (exp_view test.now)) scope.old scope.new }
+    ensures { TranslatesWithin command_of result
+        (RepeatWhile (block_of_one (core_command (scope_view scope.old) (next_numbers at.old) (command_view tree.now) level)) sense
+        (forms (scope_view scope.old) (behind_command (next_numbers at.old) (command_view tree.now)) (exp_view test.now)).content) at.new
+        (behind (behind_command (next_numbers at.old) (command_view tree.now)) (exp_view test.now)) scope.old scope.new }
 {
     let body = body(scope, at, tree, level)?;
     Ok(repeated(body, condition(scope, at, sense, test)?))
@@ -437,7 +475,12 @@ fn switched<'t, 's>(
     of: &'t Exp<'s>,
     level: u64,
 ) -> Result<CoreCommand, Memory>
-    ensures { TranslatesWithin command_of result (SwitchOn (forms (scope_view scope.old) (next_numbers at.old) (exp_view of.now)).content (core_items (in_list (behind (next_numbers at.old) (exp_view of.now)).label (items_view trees.now) (scope_view scope.old)) (behind (next_numbers at.old) (exp_view of.now)).label (behind_labels (behind (next_numbers at.old) (exp_view of.now)) (labels_in_of (items_view trees.now))) (items_view trees.now) level)) at.new (behind_items (behind_labels (behind (next_numbers at.old) (exp_view of.now)) (labels_in_of (items_view trees.now))) (items_view trees.now)) scope.old scope.new }
+    ensures { TranslatesWithin command_of result (SwitchOn (forms (scope_view scope.old) (next_numbers at.old) (exp_view of.now)).content
+        (core_items (in_list (behind (next_numbers at.old) (exp_view of.now)).label (items_view trees.now) (scope_view scope.old))
+        (behind (next_numbers at.old) (exp_view of.now)).label
+        (behind_labels (behind (next_numbers at.old) (exp_view of.now)) (labels_in_of (items_view trees.now))) (items_view trees.now) level)) at.new
+        (behind_items (behind_labels (behind (next_numbers at.old) (exp_view of.now)) (labels_in_of (items_view trees.now)))
+        (items_view trees.now)) scope.old scope.new }
 {
     let of = value(scope, at, of)?;
     let list = command_list(scope, at, trees, level)?;
@@ -454,7 +497,11 @@ fn first_branch<'t, 's>(
     test: &'t Exp<'s>,
     level: u64,
 ) -> Result<Branch, Memory>
-    ensures { TranslatesWithin branch_view result ((forms (scope_view scope.old) (next_numbers at.old) (exp_view test.now)).content, core_block (scope_view scope.old) (behind (next_numbers at.old) (exp_view test.now)) (block_view tree.now) level) at.new (behind_block (behind (next_numbers at.old) (exp_view test.now)) (block_view tree.now)) scope.old scope.new }
+    ensures { TranslatesWithin branch_view result (
+      (forms (scope_view scope.old) (next_numbers at.old) (exp_view test.now)).content,
+      core_block (scope_view scope.old) (behind (next_numbers at.old) (exp_view test.now)) (block_view tree.now) level,
+    ) at.new
+        (behind_block (behind (next_numbers at.old) (exp_view test.now)) (block_view tree.now)) scope.old scope.new }
 {
     let test = value(scope, at, test)?;
     let this = block(scope, at, tree, level)?;
@@ -471,7 +518,9 @@ fn second_branch<'t, 's>(
     first: Branch,
     level: u64,
 ) -> Result<CoreCommand, Memory>
-    ensures { TranslatesWithin command_of result (Test (branch_view first).0 (branch_view first).1 (core_block (scope_view scope.old) (next_numbers at.old) (block_view tree.now) level)) at.new (behind_block (next_numbers at.old) (block_view tree.now)) scope.old scope.new }
+    ensures { TranslatesWithin command_of result
+        (Test (branch_view first).0 (branch_view first).1 (core_block (scope_view scope.old) (next_numbers at.old) (block_view tree.now) level)) at.new
+        (behind_block (next_numbers at.old) (block_view tree.now)) scope.old scope.new }
 {
     let that = block(scope, at, tree, level)?;
     let Branch { test, this } = first;
@@ -491,7 +540,11 @@ fn counted_loop<'t, 's>(
     by: Word,
     level: u64,
 ) -> Result<CoreCommand, Memory>
-    ensures { TranslatesWithin command_of result (For (forms (scope_view scope.old) (next_numbers at.old) (exp_view start.now)).content (forms (scope_view scope.old) (behind (next_numbers at.old) (exp_view start.now)) (exp_view limit.now)).content by (core_block (in_for (scope_view scope.old) variable.entry.now level) (behind (behind (next_numbers at.old) (exp_view start.now)) (exp_view limit.now)) (block_view tree.now) (level_in_for level))) at.new (behind_block (behind (behind (next_numbers at.old) (exp_view start.now)) (exp_view limit.now)) (block_view tree.now)) scope.old scope.new }
+    ensures { TranslatesWithin command_of result (For (forms (scope_view scope.old) (next_numbers at.old) (exp_view start.now)).content
+        (forms (scope_view scope.old) (behind (next_numbers at.old) (exp_view start.now)) (exp_view limit.now)).content by
+        (core_block (in_for (scope_view scope.old) variable.entry.now level)
+        (behind (behind (next_numbers at.old) (exp_view start.now)) (exp_view limit.now)) (block_view tree.now) (level_in_for level))) at.new
+        (behind_block (behind (behind (next_numbers at.old) (exp_view start.now)) (exp_view limit.now)) (block_view tree.now)) scope.old scope.new }
 {
     let start = value(scope, at, start)?;
     let limit = value(scope, at, limit)?;
@@ -507,7 +560,8 @@ fn command<'t, 's>(
     tree: &'t Command<'s>,
     level: u64,
 ) -> Result<CoreCommand, Memory>
-    ensures { TranslatesWithin command_of result (core_command (scope_view scope.old) (next_numbers at.old) (command_view tree.now) level) at.new (behind_command (next_numbers at.old) (command_view tree.now)) scope.old scope.new }
+    ensures { TranslatesWithin command_of result (core_command (scope_view scope.old) (next_numbers at.old) (command_view tree.now) level) at.new
+        (behind_command (next_numbers at.old) (command_view tree.now)) scope.old scope.new }
 {
     match tree {
         Command::Assign(places, values) => assigned(scope, at, places, values),

@@ -30,7 +30,8 @@ pub fn expression<'t, 's>(
     at: &mut NextNumbers<'t, 's>,
     e: &'t Exp<'s>,
 ) -> Result<Formed, Memory>
-    ensures { Translates formed_view result (forms (scope_view scope.now) (next_numbers at.old) (exp_view e.now)) at.new (behind (next_numbers at.old) (exp_view e.now)) }
+    ensures { Translates formed_view result (forms (scope_view scope.now) (next_numbers at.old) (exp_view e.now)) at.new
+        (behind (next_numbers at.old) (exp_view e.now)) }
 {
     match e {
         Exp::Name(name) => of_name(scope.meant_by(name)),
@@ -77,7 +78,8 @@ pub fn value<'t, 's>(
     at: &mut NextNumbers<'t, 's>,
     e: &'t Exp<'s>,
 ) -> Result<CoreExp, Memory>
-    ensures { Translates exp result (forms (scope_view scope.now) (next_numbers at.old) (exp_view e.now)).content at.new (behind (next_numbers at.old) (exp_view e.now)) }
+    ensures { Translates exp result (forms (scope_view scope.now) (next_numbers at.old) (exp_view e.now)).content at.new
+        (behind (next_numbers at.old) (exp_view e.now)) }
 {
     let formed = expression(scope, at, e)?;
     formed.content(scope.alloc())
@@ -89,7 +91,8 @@ fn boxed<'t, 's>(
     at: &mut NextNumbers<'t, 's>,
     e: &'t Exp<'s>,
 ) -> Result<Box<CoreExp>, Memory>
-    ensures { Translates (λ b. exp b.value) result (forms (scope_view scope.now) (next_numbers at.old) (exp_view e.now)).content at.new (behind (next_numbers at.old) (exp_view e.now)) }
+    ensures { Translates (λ b. exp b.value) result (forms (scope_view scope.now) (next_numbers at.old) (exp_view e.now)).content at.new
+        (behind (next_numbers at.old) (exp_view e.now)) }
 {
     let value = value(scope, at, e)?;
     Ok(Box::new(scope.alloc(), value)?)
@@ -101,7 +104,8 @@ fn arguments<'t, 's>(
     at: &mut NextNumbers<'t, 's>,
     list: &'t [Exp<'s>],
 ) -> Result<Vec<CoreExp>, Memory>
-    ensures { Translates (λ es. args es.items) result (core_arguments (scope_view scope.now) (next_numbers at.old) (exps_view list.now)) at.new (behind_all (next_numbers at.old) (exps_view list.now)) }
+    ensures { Translates (λ es. args es.items) result (core_arguments (scope_view scope.now) (next_numbers at.old) (exps_view list.now)) at.new
+        (behind_all (next_numbers at.old) (exps_view list.now)) }
 {
     let mut values = Vec::with_capacity(scope.alloc(), list.len())?;
     for e in list {
@@ -118,7 +122,10 @@ pub fn call<'t, 's>(
     routine: &'t Exp<'s>,
     values: &'t [Exp<'s>],
 ) -> Result<CoreExp, Memory>
-    ensures { Translates exp result (Call (core_arguments (scope_view scope.now) (behind (next_numbers at.old) (exp_view routine.now)) (exps_view values.now)) (forms (scope_view scope.now) (next_numbers at.old) (exp_view routine.now)).content) at.new (behind_all (behind (next_numbers at.old) (exp_view routine.now)) (exps_view values.now)) }
+    ensures { Translates exp result
+        (Call (core_arguments (scope_view scope.now) (behind (next_numbers at.old) (exp_view routine.now)) (exps_view values.now))
+        (forms (scope_view scope.now) (next_numbers at.old) (exp_view routine.now)).content) at.new
+        (behind_all (behind (next_numbers at.old) (exp_view routine.now)) (exps_view values.now)) }
 {
     let routine = boxed(scope, at, routine)?;
     let values = arguments(scope, at, values)?;

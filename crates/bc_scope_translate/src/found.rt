@@ -60,7 +60,8 @@ fn text(alloc: Global, found: &mut Gathered, spelling: &[u8]) -> Result<(), Memo
 /// A TABLE.
 #[inline(never)]
 fn table<'s>(scope: &Scope<'s>, found: &mut Gathered, values: &[Exp<'s>]) -> Result<(), Memory>
-    ensures { Gathers result found.old found.new (behind_place (numbers_view found.old.at)) (Data found.old.at.place (ATable (words_of (scope_view scope.now) (exps_view values.now))) ∷ []) }
+    ensures { Gathers result found.old found.new (behind_place (numbers_view found.old.at))
+        (Data found.old.at.place (ATable (words_of (scope_view scope.now) (exps_view values.now))) ∷ []) }
 {
     let words = words_of_table(scope, values)?;
     found.place(Place::Table(words))
@@ -83,7 +84,10 @@ fn entries<'s>(
     storage: Storage,
     list: &[Constant<'s>],
 ) -> Result<(), Memory>
-    ensures { IfOk result (λ _. (core_view found.new ≡ found_behind (core_view found.old) (found_in_entries storage (numbers_view found.old.at) (entries_view list.now) (scope_view scope.old))) × (numbers_view found.new.at ≡ behind_entries storage (numbers_view found.old.at) (entries_view list.now)) × Declares scope.old scope.new (in_entries storage (numbers_view found.old.at) (entries_view list.now) (scope_view scope.old))) }
+    ensures { IfOk result (λ _. (core_view found.new
+        ≡ found_behind (core_view found.old) (found_in_entries storage (numbers_view found.old.at) (entries_view list.now) (scope_view scope.old)))
+        × (numbers_view found.new.at ≡ behind_entries storage (numbers_view found.old.at) (entries_view list.now))
+        × Declares scope.old scope.new (in_entries storage (numbers_view found.old.at) (entries_view list.now) (scope_view scope.old))) }
 {
     for tree in list {
         let value = constant(scope, &tree.value);
@@ -100,7 +104,8 @@ fn expression<'s>(
     e: &Exp<'s>,
     level: u64,
 ) -> Result<(), Memory>
-    ensures { GathersWithin result found.old found.new (behind (numbers_view found.old.at) (exp_view e.now)) (found_in (scope_view scope.old) (numbers_view found.old.at) (exp_view e.now) level) scope.old scope.new }
+    ensures { GathersWithin result found.old found.new (behind (numbers_view found.old.at) (exp_view e.now))
+        (found_in (scope_view scope.old) (numbers_view found.old.at) (exp_view e.now) level) scope.old scope.new }
 {
     match e {
         Exp::Name(_) | Exp::Number(_) | Exp::Character(_) | Exp::True | Exp::False => Ok(()),
@@ -136,7 +141,8 @@ fn valof<'s>(
     body: &Block<'s>,
     level: u64,
 ) -> Result<(), Memory>
-    ensures { GathersWithin result found.old found.new (behind_block (behind_valof (numbers_view found.old.at)) (block_view body.now)) (found_in (scope_view scope.old) (numbers_view found.old.at) (Valof_tree (block_view body.now)) level) scope.old scope.new }
+    ensures { GathersWithin result found.old found.new (behind_block (behind_valof (numbers_view found.old.at)) (block_view body.now))
+        (found_in (scope_view scope.old) (numbers_view found.old.at) (Valof_tree (block_view body.now)) level) scope.old scope.new }
 {
     let outside = scope.mark();
     scope.enter_valof()?;
@@ -161,7 +167,8 @@ fn arguments<'s>(
     list: &[Exp<'s>],
     level: u64,
 ) -> Result<(), Memory>
-    ensures { GathersWithin result found.old found.new (behind_all (numbers_view found.old.at) (exps_view list.now)) (found_in_arguments (scope_view scope.old) (numbers_view found.old.at) (exps_view list.now) level) scope.old scope.new }
+    ensures { GathersWithin result found.old found.new (behind_all (numbers_view found.old.at) (exps_view list.now))
+        (found_in_arguments (scope_view scope.old) (numbers_view found.old.at) (exps_view list.now) level) scope.old scope.new }
 {
     let mut above = level;
     for e in list {
@@ -179,7 +186,8 @@ fn sides<'s>(
     list: &[Exp<'s>],
     levels: &[u64],
 ) -> Result<(), Memory>
-    ensures { GathersWithin result found.old found.new (behind_all (numbers_view found.old.at) (exps_view list.now)) (found_in_sides (scope_view scope.old) (numbers_view found.old.at) (exps_view list.now) levels.now) scope.old scope.new }
+    ensures { GathersWithin result found.old found.new (behind_all (numbers_view found.old.at) (exps_view list.now))
+        (found_in_sides (scope_view scope.old) (numbers_view found.old.at) (exps_view list.now) levels.now) scope.old scope.new }
 {
     let mut i = 0u64;
     for e in list {
@@ -197,7 +205,8 @@ fn initials<'s>(
     list: &[Exp<'s>],
     level: u64,
 ) -> Result<(), Memory>
-    ensures { GathersWithin result found.old found.new (behind_all (numbers_view found.old.at) (exps_view list.now)) (found_in_initials (scope_view scope.old) (numbers_view found.old.at) (exps_view list.now) level) scope.old scope.new }
+    ensures { GathersWithin result found.old found.new (behind_all (numbers_view found.old.at) (exps_view list.now))
+        (found_in_initials (scope_view scope.old) (numbers_view found.old.at) (exps_view list.now) level) scope.old scope.new }
 {
     for e in list {
         expression(scope, found, e, level)?;
@@ -214,7 +223,8 @@ fn definition<'s>(
     tree: &Definition<'s>,
     level: u64,
 ) -> Result<(), Memory>
-    ensures { GathersWithin result found.old found.new (behind_definition (numbers_view found.old.at) (definition_view tree.now)) (found_in_definition_by global (scope_view scope.old) (numbers_view found.old.at) (definition_view tree.now) level) scope.old scope.new }
+    ensures { GathersWithin result found.old found.new (behind_definition (numbers_view found.old.at) (definition_view tree.now))
+        (found_in_definition_by global (scope_view scope.old) (numbers_view found.old.at) (definition_view tree.now) level) scope.old scope.new }
 {
     match tree {
         Definition::Variables(_, values) => initials(scope, found, values, level),
@@ -238,7 +248,10 @@ fn function<'s>(
     parameters: &[&'s [u8]],
     given: &Exp<'s>,
 ) -> Result<(), Memory>
-    ensures { GathersWithin result found.old found.new (behind (behind_place (numbers_view found.old.at)) (exp_view given.now)) (routine_setting global (scope_view scope.old) (numbers_view found.old.at) (map (λ n. n.now) parameters.now) (Gives (exp_view given.now)) ∷ found_in (names_in (map (λ n. n.now) parameters.now) (scope_view scope.old)) (behind_place (numbers_view found.old.at)) (exp_view given.now) (level_behind_parameters (length (map (λ n. n.now) parameters.now)))) scope.old scope.new }
+    ensures { GathersWithin result found.old found.new (behind (behind_place (numbers_view found.old.at)) (exp_view given.now))
+        (routine_setting global (scope_view scope.old) (numbers_view found.old.at) (map (λ n. n.now) parameters.now) (Gives (exp_view given.now))
+        ∷ found_in (names_in (map (λ n. n.now) parameters.now) (scope_view scope.old)) (behind_place (numbers_view found.old.at)) (exp_view given.now)
+        (level_behind_parameters (length (map (λ n. n.now) parameters.now)))) scope.old scope.new }
 {
     let outside = scope.mark();
     declare_parameters(scope, parameters)?;
@@ -264,7 +277,10 @@ fn routine<'s>(
     parameters: &[&'s [u8]],
     body: &Block<'s>,
 ) -> Result<(), Memory>
-    ensures { GathersWithin result found.old found.new (behind_block (behind_place (numbers_view found.old.at)) (block_view body.now)) (routine_setting global (scope_view scope.old) (numbers_view found.old.at) (map (λ n. n.now) parameters.now) (Does (block_view body.now)) ∷ found_in_block (names_in (map (λ n. n.now) parameters.now) (scope_view scope.old)) (behind_place (numbers_view found.old.at)) (block_view body.now) (level_behind_parameters (length (map (λ n. n.now) parameters.now)))) scope.old scope.new }
+    ensures { GathersWithin result found.old found.new (behind_block (behind_place (numbers_view found.old.at)) (block_view body.now))
+        (routine_setting global (scope_view scope.old) (numbers_view found.old.at) (map (λ n. n.now) parameters.now) (Does (block_view body.now))
+        ∷ found_in_block (names_in (map (λ n. n.now) parameters.now) (scope_view scope.old)) (behind_place (numbers_view found.old.at))
+        (block_view body.now) (level_behind_parameters (length (map (λ n. n.now) parameters.now)))) scope.old scope.new }
 {
     let outside = scope.mark();
     declare_parameters(scope, parameters)?;
@@ -291,7 +307,9 @@ fn definitions<'s>(
     list: &[Definition<'s>],
     level: u64,
 ) -> Result<(), Memory>
-    ensures { GathersWithin result found.old found.new (behind_definitions (numbers_view found.old.at) (definitions_view list.now)) (found_in_definitions_by priors.now.globals.items (scope_view scope.old) (numbers_view found.old.at) (definitions_view list.now) level) scope.old scope.new }
+    ensures { GathersWithin result found.old found.new (behind_definitions (numbers_view found.old.at) (definitions_view list.now))
+        (found_in_definitions_by priors.now.globals.items (scope_view scope.old) (numbers_view found.old.at)
+        (definitions_view list.now) level) scope.old scope.new }
 {
     let mut i = 0u64;
     for tree in list {
@@ -309,7 +327,11 @@ fn declaration<'s>(
     tree: &Declaration<'s>,
     level: u64,
 ) -> Result<u64, Memory>
-    ensures { IfOk result (λ s. (s ≡ level + cells_in (scope_view scope.old) (declaration_view tree.now)) × Declares scope.old scope.new (in_declaration (scope_view scope.old) (numbers_view found.old.at) level (declaration_view tree.now)) × (core_view found.new ≡ found_behind (core_view found.old) (found_in_declaration (scope_view scope.old) (numbers_view found.old.at) (declaration_view tree.now) level)) × (numbers_view found.new.at ≡ behind_declaration (numbers_view found.old.at) (declaration_view tree.now))) }
+    ensures { IfOk result (λ s. (s ≡ level + cells_in (scope_view scope.old) (declaration_view tree.now))
+        × Declares scope.old scope.new (in_declaration (scope_view scope.old) (numbers_view found.old.at) level (declaration_view tree.now))
+        × (core_view found.new ≡ found_behind (core_view found.old)
+        (found_in_declaration (scope_view scope.old) (numbers_view found.old.at) (declaration_view tree.now) level))
+        × (numbers_view found.new.at ≡ behind_declaration (numbers_view found.old.at) (declaration_view tree.now))) }
 {
     match tree {
         Declaration::Constants(storage, list) => {
@@ -335,7 +357,11 @@ fn declarations<'s>(
     list: &[Declaration<'s>],
     level: u64,
 ) -> Result<u64, Memory>
-    ensures { IfOk result (λ s. (s ≡ level_behind (scope_view scope.old) (numbers_view found.old.at) level (declarations_view list.now)) × Declares scope.old scope.new (in_declarations (scope_view scope.old) (numbers_view found.old.at) level (declarations_view list.now)) × (core_view found.new ≡ found_behind (core_view found.old) (found_in_declarations (scope_view scope.old) (numbers_view found.old.at) (declarations_view list.now) level)) × (numbers_view found.new.at ≡ behind_declarations (numbers_view found.old.at) (declarations_view list.now))) }
+    ensures { IfOk result (λ s. (s ≡ level_behind (scope_view scope.old) (numbers_view found.old.at) level (declarations_view list.now))
+        × Declares scope.old scope.new (in_declarations (scope_view scope.old) (numbers_view found.old.at) level (declarations_view list.now))
+        × (core_view found.new ≡ found_behind (core_view found.old)
+        (found_in_declarations (scope_view scope.old) (numbers_view found.old.at) (declarations_view list.now) level))
+        × (numbers_view found.new.at ≡ behind_declarations (numbers_view found.old.at) (declarations_view list.now))) }
 {
     let mut behind = level;
     for tree in list {
@@ -351,7 +377,8 @@ fn block<'s>(
     tree: &Block<'s>,
     level: u64,
 ) -> Result<(), Memory>
-    ensures { GathersWithin result found.old found.new (behind_block (numbers_view found.old.at) (block_view tree.now)) (found_in_block (scope_view scope.old) (numbers_view found.old.at) (block_view tree.now) level) scope.old scope.new }
+    ensures { GathersWithin result found.old found.new (behind_block (numbers_view found.old.at) (block_view tree.now))
+        (found_in_block (scope_view scope.old) (numbers_view found.old.at) (block_view tree.now) level) scope.old scope.new }
 {
     let outside = scope.mark();
     let level = declarations(scope, found, &tree.declarations, level)?;
@@ -369,7 +396,9 @@ fn command_list<'s>(
     trees: &[Item<'s>],
     level: u64,
 ) -> Result<(), Memory>
-    ensures { GathersWithin result found.old found.new (behind_items (behind_labels (numbers_view found.old.at) (labels_in_of (items_view trees.now))) (items_view trees.now)) (found_items (in_list found.old.at.label (items_view trees.now) (scope_view scope.old)) (behind_labels (numbers_view found.old.at) (labels_in_of (items_view trees.now))) (items_view trees.now) level) scope.old scope.new }
+    ensures { GathersWithin result found.old found.new (behind_items (behind_labels (numbers_view found.old.at) (labels_in_of (items_view trees.now)))
+        (items_view trees.now)) (found_items (in_list found.old.at.label (items_view trees.now) (scope_view scope.old))
+        (behind_labels (numbers_view found.old.at) (labels_in_of (items_view trees.now))) (items_view trees.now) level) scope.old scope.new }
 {
     let before_labels = scope.mark();
     declare_list(scope, found.at.label, trees)?;
@@ -387,7 +416,8 @@ fn items<'s>(
     trees: &[Item<'s>],
     level: u64,
 ) -> Result<(), Memory>
-    ensures { GathersWithin result found.old found.new (behind_items (numbers_view found.old.at) (items_view trees.now)) (found_items (scope_view scope.old) (numbers_view found.old.at) (items_view trees.now) level) scope.old scope.new }
+    ensures { GathersWithin result found.old found.new (behind_items (numbers_view found.old.at) (items_view trees.now))
+        (found_items (scope_view scope.old) (numbers_view found.old.at) (items_view trees.now) level) scope.old scope.new }
 {
     for tree in trees {
         one_item(scope, found, tree, level)?;
@@ -403,7 +433,8 @@ fn one_item<'s>(
     tree: &Item<'s>,
     level: u64,
 ) -> Result<(), Memory>
-    ensures { GathersWithin result found.old found.new (behind_item (numbers_view found.old.at) (item_view tree.now)) (item_found (scope_view scope.old) (numbers_view found.old.at) (item_view tree.now) level) scope.old scope.new }
+    ensures { GathersWithin result found.old found.new (behind_item (numbers_view found.old.at) (item_view tree.now))
+        (item_found (scope_view scope.old) (numbers_view found.old.at) (item_view tree.now) level) scope.old scope.new }
 {
     match &tree.command {
         Some(labelled) => command(scope, found, labelled, level),
@@ -422,7 +453,9 @@ fn counted<'s>(
     body: &Block<'s>,
     level: u64,
 ) -> Result<(), Memory>
-    ensures { GathersWithin result found.old found.new (behind_block (numbers_view found.old.at) (block_view body.now)) (found_in_block (in_for (scope_view scope.old) variable.entry.now level) (numbers_view found.old.at) (block_view body.now) (level_in_for level)) scope.old scope.new }
+    ensures { GathersWithin result found.old found.new (behind_block (numbers_view found.old.at) (block_view body.now))
+        (found_in_block (in_for (scope_view scope.old) variable.entry.now level) (numbers_view found.old.at) (block_view body.now)
+        (level_in_for level)) scope.old scope.new }
 {
     let before_variable = scope.mark();
     scope.declare(variable, Meant::Variable(level))?;
@@ -438,7 +471,8 @@ fn command<'s>(
     tree: &Command<'s>,
     level: u64,
 ) -> Result<(), Memory>
-    ensures { GathersWithin result found.old found.new (behind_command (numbers_view found.old.at) (command_view tree.now)) (found_in_command (scope_view scope.old) (numbers_view found.old.at) (command_view tree.now) level) scope.old scope.new }
+    ensures { GathersWithin result found.old found.new (behind_command (numbers_view found.old.at) (command_view tree.now))
+        (found_in_command (scope_view scope.old) (numbers_view found.old.at) (command_view tree.now) level) scope.old scope.new }
 {
     match tree {
         Command::Assign(places, values) => {

@@ -34,7 +34,8 @@ impl Gathered {
 
     /// A place more.
     pub fn place(&mut self, place: Place) -> Result<(), Memory>
-        ensures { IfOk result (λ _. (core_view self.new ≡ with_place (core_view self.old) (place_of place)) × (numbers_view self.new.at ≡ behind_place (numbers_view self.old.at))) }
+        ensures { IfOk result (λ _. (core_view self.new ≡ with_place (core_view self.old) (place_of place))
+            × (numbers_view self.new.at ≡ behind_place (numbers_view self.old.at))) }
     {
         let behind = self.at.behind_place()?;
         self.places.push(place)?;

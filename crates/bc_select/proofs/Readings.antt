@@ -16,7 +16,8 @@ use Rattle.bc_rules_defs.specs.declared.rule.Rule.TheVariants.{V1}
 use Rattle.bc_rules_defs.specs.Rules.{Trees, by, no_part, part, end_with}
 use Rattle.bc_rules_defs.specs.Code.{cost}
 use Rattle.bc_select_defs.specs.declared.choice.Choice.{Choice}
-use Rattle.bc_select_defs.specs.Least.{rule_number, first_rule}
+use Rattle.bc_select_defs.specs.Least.{first_rule}
+use Rattle.bc_rules_defs.specs.Names.{rule_number}
 use Rattle.bc_select_defs.specs.declared.choice.Node.{Node}
 use Rattle.bc_select_defs.specs.Choices.{choice_for, choices, node_of}
 use Rattle.bc_select_defs.specs.Folds.{AtMost}

@@ -13,17 +13,15 @@ use Rattle.bc_rules_defs.specs.Code.{cost}
 use Rattle.bc_select_defs.specs.declared.choice.Choice.{Choice}
 use Rattle.bc_select_defs.specs.declared.choice.Choices.{Choices}
 use Rattle.bc_select_defs.specs.Readings.{tree_for, tree_of, read_line, leaf_parts, part_parts, not_parts, pair_parts, cond_parts, call_parts, readings, readings_of_all}
-use Rattle.bc_select_defs.specs.Least.{rule_number, top, first_rule, AreLeastWords, IsLeastRule}
+use Rattle.bc_select_defs.specs.Least.{top, first_rule, IsLeastRule}
+use Rattle.bc_rules_defs.specs.Names.{rule_number}
 use Rattle.bc_select_defs.specs.Options.{words_of, rule_of}
 use Rattle.bc_select_defs.specs.Choices.{choice_for, zero_number, choices}
 use Rattle.bc_select_defs.specs.Folds.{AtMost}
 use Rattle.bc_select_defs.specs.Lower.{lower}
 use Rattle.bc_select_defs.specs.Attained.{Part, part_for, attained}
+use Rattle.bc_select_defs.specs.Chosen.{words_are_least}
 use Rattle.bc_select_defs.specs.Laws.{ChoicesAreLeast}
-
-words_least : (T : Table) (e : Exp) (aim : Aim) (s : ℕ) (t : Tree) (x : Option Choice) → Part T e aim s t (words_of x) → ((d : Derives T e aim) → AtMost x (cost d s) (rule_number (first_rule d))) → AreLeastWords T e aim s (words_of x)
-words_least T e aim s t None h low = λ d. (low d).fact
-words_least T e aim s t (Some c) h low = let found = h.some c.words refl in ((found.thing, found.words), λ d. (low d).fact.fewer)
 
 tree_top : (x : Option Choice) (parts : Rule → Trees) (c : Choice) → x ≡ Some c → top (tree_of x parts) ≡ c.rule
 tree_top None parts c h = cc
@@ -56,6 +54,6 @@ rule_least T e aim s t (Some c) h k low = let found = h.some c.words refl in (fo
 pub choices_are_least : ChoicesAreLeast
 choices_are_least T e aim s =
     let h = part_for (attained T e s) aim in (
-      words_least T e aim s (tree_for aim (readings T e s)) (choice_for aim (choices T e s)) h (λ d. lower d s),
+      words_are_least T e aim s,
       rule_least T e aim s (tree_for aim (readings T e s)) (choice_for aim (choices T e s)) h (begins T e s aim) (λ d. lower d s),
     )

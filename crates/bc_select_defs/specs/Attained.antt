@@ -25,7 +25,8 @@ use Rattle.bc_rules_defs.specs.Piece.{w, operand_words}
 use Rattle.bc_select_defs.specs.declared.choice.Choice.{Choice}
 use Rattle.bc_select_defs.specs.declared.choice.Choices.{Choices}
 use Rattle.bc_select_defs.specs.declared.choice.Candidate.{Candidate}
-use Rattle.bc_select_defs.specs.Least.{rule_number, top, first_rule, IsLeast, HasLeastParts, HaveLeastParts}
+use Rattle.bc_select_defs.specs.Least.{top, first_rule, IsLeast, HasLeastParts, HaveLeastParts}
+use Rattle.bc_rules_defs.specs.Names.{rule_number}
 use Rattle.bc_select_defs.specs.Options.{plus, more, sum, only, operand_cost, words_of, candidate, least_from}
 use Rattle.bc_select_defs.specs.Choices.{choice_for, words_for, line, by_value, number_cost, zero_number, without, mixed, worked, number_tests, not_tests, pair_tests, has_tests_of_zero, node, choices, words_of_all}
 use Rattle.bc_select_defs.specs.Folds.{AtMost}
@@ -60,7 +61,8 @@ AllMake T e aim s parts cs = AllMade (Derives T e aim) (λ d. cost d s) (λ r d.
 abbrev pub IsChosen : Table → Exp → Aim → ℕ → (Rule → Trees) → Option Choice → Type 0
 IsChosen T e aim s parts x = Chosen (Derives T e aim) (λ d. cost d s) (λ r d. IsWhole s (by r (parts r)) d) x
 
-part_of_choice : (T : Table) (e : Exp) (aim : Aim) (s : ℕ) (parts : Rule → Trees) (x : Option Choice) → IsChosen T e aim s parts x → ((d : Derives T e aim) → AtMost x (cost d s) (rule_number (first_rule d))) → Part T e aim s (tree_of x parts) (words_of x)
+part_of_choice : (T : Table) (e : Exp) (aim : Aim) (s : ℕ) (parts : Rule → Trees) (x : Option Choice) → IsChosen T e aim s parts x
+    → ((d : Derives T e aim) → AtMost x (cost d s) (rule_number (first_rule d))) → Part T e aim s (tree_of x parts) (words_of x)
 part_of_choice T e aim s parts None h low = makes_none (Derives T e aim) (λ d. cost d s) (λ d. IsPart s (by rule.V1 no_part) d)
 part_of_choice T e aim s parts (Some c) h low =
     let found = h.some c refl in
@@ -71,13 +73,17 @@ part_of_choice T e aim s parts (Some c) h low =
       shape_is = found.fact.shape_is;
       least = record {
         fewest = λ other. let up = (low other).fact in let f : c.words ≤ cost other s = up.fewer in omega arith;
-        first = λ other i. let up = (low other).fact in let f : cost other s ≤ c.words → rule_number c.rule ≤ rule_number (first_rule other) = up.first in let P : Rule → Type 0 = λ r. rule_number r ≤ rule_number (first_rule other) in subst P (sym starts) (f (omega arith));
+        first = λ other i. let up = (low other).fact in let f : cost other s ≤ c.words → rule_number c.rule ≤ rule_number (first_rule other) = up.first in
+            let P : Rule → Type 0 = λ r. rule_number r ≤ rule_number (first_rule other) in subst P (sym starts) (f (omega arith));
       };
       parts = found.fact.parts;
     })
 
-pub part_of : (T : Table) (e : Exp) (aim : Aim) (s : ℕ) (parts : Rule → Trees) (cs : List Candidate) → AllMake T e aim s parts cs → ((d : Derives T e aim) → AtMost (least_from None cs) (cost d s) (rule_number (first_rule d))) → Part T e aim s (tree_of (least_from None cs) parts) (words_of (least_from None cs))
-part_of T e aim s parts cs all low = part_of_choice T e aim s parts (least_from None cs) (chosen_least (Derives T e aim) (λ d. cost d s) (λ r d. IsWhole s (by r (parts r)) d) cs all) low
+pub part_of : (T : Table) (e : Exp) (aim : Aim) (s : ℕ) (parts : Rule → Trees) (cs : List Candidate) → AllMake T e aim s parts cs
+    → ((d : Derives T e aim) → AtMost (least_from None cs) (cost d s) (rule_number (first_rule d))) → Part T e aim s (tree_of (least_from None cs) parts)
+    (words_of (least_from None cs))
+part_of T e aim s parts cs all low =
+    part_of_choice T e aim s parts (least_from None cs) (chosen_least (Derives T e aim) (λ d. cost d s) (λ r d. IsWhole s (by r (parts r)) d) cs all) low
 
 -- all choices of an expression
 pub record Attains (T : Table) (e : Exp) (s : ℕ) (c : Choices) (r : Readings) : Type 0 where
@@ -101,33 +107,61 @@ attains_line :
     → Low T e s (line (operand_of e) pushes values tests)
     → AllMake T e (Gets Push) s (push_parts (own (Gets Push))) pushes
     → ((t : Tree) → AllMake T e (Gets Any) s (value_parts t (own (Gets Any))) values)
-    → ((any : Option ℕ) (t : Tree) → Part T e (Gets Any) s t any → (sense : Bool) → AllMake T e (Jumps sense) s (test_parts t (own (Jumps sense))) (tests any sense))
+    → ((any : Option ℕ) (t : Tree) → Part T e (Gets Any) s t any → (sense : Bool) → AllMake T e (Jumps sense) s (test_parts t (own (Jumps sense)))
+    (tests any sense))
     → Attains T e s (line (operand_of e) pushes values tests) (read_line (line (operand_of e) pushes values tests) own)
 attains_line T e s pushes values tests own low hp hv ht =
-    let by_operand : Whole T e (Gets Push) s (by rule.V1 no_part) (operand_cost (operand_of e)) = makes_map _ _ _ _ _ _ _ (λ q. v1 q.1) (λ q. refl) (λ q h. record { shape_is = refl; parts = tt }) (makes_operand (operand_of e)) in
-    let push = part_of T e (Gets Push) s (push_parts (own (Gets Push))) (candidate rule.V1 (operand_cost (operand_of e)) ∷ pushes) (by_operand, hp) (low (Gets Push)) in
+    let by_operand : Whole T e (Gets Push) s (by rule.V1 no_part) (operand_cost (operand_of e)) =
+    makes_map _ _ _ _ _ _ _ (λ q. v1 q.1) (λ q. refl) (λ q h. record { shape_is = refl; parts = tt }) (makes_operand (operand_of e)) in
+    let push = part_of T e (Gets Push) s (push_parts (own (Gets Push))) (candidate rule.V1 (operand_cost (operand_of e)) ∷ pushes) (by_operand, hp)
+    (low (Gets Push)) in
     let c = line (operand_of e) pushes values tests in
     let r = read_line c own in
-    let by_push : Whole T e (Gets Any) s (by rule.V0 (one r.push)) (words_of c.push) = makes_map _ _ _ _ _ _ _ (λ d. v0 d) (λ d. refl) (λ d h. record { shape_is = ap (λ y. by rule.V0 (one y)) h.shape_is; parts = least_parts h }) push in
-    let any = part_of T e (Gets Any) s (value_parts r.push (own (Gets Any))) (candidate rule.V0 (words_of c.push) ∷ values) (by_push, hv r.push) (low (Gets Any)) in
+    let by_push : Whole T e (Gets Any) s (by rule.V0 (one r.push)) (words_of c.push) =
+    makes_map _ _ _ _ _ _ _ (λ d. v0 d) (λ d. refl)
+    (λ d h. record { shape_is = ap (λ y. by rule.V0 (one y)) h.shape_is; parts = least_parts h }) push in
+    let any = part_of T e (Gets Any) s (value_parts r.push (own (Gets Any))) (candidate rule.V0 (words_of c.push) ∷ values) (by_push, hv r.push)
+    (low (Gets Any)) in
     record {
       any = any;
       push = push;
-      on_false = part_of T e (Jumps false) s (test_parts r.any (own (Jumps false))) (tests (words_of c.any) false) (ht (words_of c.any) r.any any false) (low (Jumps false));
-      on_true = part_of T e (Jumps true) s (test_parts r.any (own (Jumps true))) (tests (words_of c.any) true) (ht (words_of c.any) r.any any true) (low (Jumps true));
+      on_false = part_of T e (Jumps false) s (test_parts r.any (own (Jumps false))) (tests (words_of c.any) false) (ht (words_of c.any) r.any any false)
+          (low (Jumps false));
+      on_true = part_of T e (Jumps true) s (test_parts r.any (own (Jumps true))) (tests (words_of c.any) true) (ht (words_of c.any) r.any any true)
+          (low (Jumps true));
     }
 
 -- J6, of an expression that it is for
-test_of_value : (T : Table) (e : Exp) (s : ℕ) (any : Option ℕ) (t : Tree) (sense : Bool) → IsTrue (is_plain e) → Part T e (Gets Any) s t any → Whole T e (Jumps sense) s (by rule.J6 (one t)) (plus any 2)
-test_of_value T e s any t sense p h = makes_map _ _ _ _ _ _ _ (λ d. j6 p d) (λ d. refl) (λ d i. record { shape_is = ap (λ y. by rule.J6 (one y)) i.shape_is; parts = least_parts i }) (makes_plus _ _ _ any 2 h)
+test_of_value : (T : Table) (e : Exp) (s : ℕ) (any : Option ℕ) (t : Tree) (sense : Bool) → IsTrue (is_plain e) → Part T e (Gets Any) s t any
+    → Whole T e (Jumps sense) s (by rule.J6 (one t)) (plus any 2)
+test_of_value T e s any t sense p h =
+    makes_map _ _ _ _ _ _ _ (λ d. j6 p d) (λ d. refl) (λ d i. record { shape_is = ap (λ y. by rule.J6 (one y)) i.shape_is; parts = least_parts i })
+    (makes_plus _ _ _ any 2 h)
 
 -- one part, with a word more
-unary_push : (T : Table) (e e1 : Exp) (m : Mode) (s : ℕ) (r : Rule) (x : Option ℕ) (t : Tree) (rule_of : Derives T e (Gets m) → Derives T e1 (Gets m)) → ((d : Derives T e (Gets m)) → cost (rule_of d) s ≡ cost d s + 1) → ((d : Derives T e (Gets m)) → shape (rule_of d) ≡ by r (one (shape d))) → ((d : Derives T e (Gets m)) → IsLeast d s × HasLeastParts d s → HasLeastParts (rule_of d) s) → Part T e (Gets m) s t x → Whole T e1 (Gets m) s (by r (one t)) (plus x 1)
-unary_push T e e1 m s r x t rule_of w sh least h = makes_map _ _ _ _ _ _ _ rule_of w (λ d i. record { shape_is = sh d ∙ ap (λ y. by r (one y)) i.shape_is; parts = least d (least_parts i) }) (makes_plus _ _ _ x 1 h)
+unary_push : (T : Table) (e e1 : Exp) (m : Mode) (s : ℕ) (r : Rule) (x : Option ℕ) (t : Tree) (rule_of : Derives T e (Gets m) → Derives T e1 (Gets m))
+    → ((d : Derives T e (Gets m)) → cost (rule_of d) s ≡ cost d s + 1) → ((d : Derives T e (Gets m)) → shape (rule_of d) ≡ by r (one (shape d)))
+    → ((d : Derives T e (Gets m)) → IsLeast d s × HasLeastParts d s → HasLeastParts (rule_of d) s) → Part T e (Gets m) s t x
+    → Whole T e1 (Gets m) s (by r (one t)) (plus x 1)
+unary_push T e e1 m s r x t rule_of w sh least h =
+    makes_map _ _ _ _ _ _ _ rule_of w (λ d i. record { shape_is = sh d ∙ ap (λ y. by r (one y)) i.shape_is; parts = least d (least_parts i) })
+    (makes_plus _ _ _ x 1 h)
 
 -- an operator is known by its number
 abbrev operator_at : ℕ → Op
-operator_at n = cond (n == 5) operators.Multiply (cond (n == 6) operators.Divide (cond (n == 7) operators.Remainder (cond (n == 8) operators.Add (cond (n == 9) operators.Subtract (cond (n == 10) operators.Equal (cond (n == 11) operators.NotEqual (cond (n == 12) operators.Less (cond (n == 13) operators.GreaterEqual (cond (n == 14) operators.Greater (cond (n == 15) operators.LessEqual (cond (n == 16) operators.ShiftLeft (cond (n == 17) operators.ShiftRight (cond (n == 18) operators.And (cond (n == 19) operators.Or (cond (n == 20) operators.NotEquivalent (operators.Equivalent))))))))))))))))
+operator_at n = cond (n == 5) operators.Multiply
+    (cond (n == 6) operators.Divide
+    (cond (n == 7) operators.Remainder
+    (cond (n == 8) operators.Add (cond (n == 9) operators.Subtract
+    (cond (n == 10) operators.Equal
+    (cond (n == 11) operators.NotEqual
+    (cond (n == 12) operators.Less
+    (cond (n == 13) operators.GreaterEqual
+    (cond (n == 14) operators.Greater
+    (cond (n == 15) operators.LessEqual
+    (cond (n == 16) operators.ShiftLeft
+    (cond (n == 17) operators.ShiftRight
+    (cond (n == 18) operators.And (cond (n == 19) operators.Or (cond (n == 20) operators.NotEquivalent (operators.Equivalent))))))))))))))))
 
 operator_at_number : (op : Op) → operator_at (number_of op) ≡ op
 operator_at_number operators.Multiply = refl
@@ -151,8 +185,11 @@ operator_at_number operators.Equivalent = refl
 same_operator : (op wanted : Op) → IsTrue (number_of op == number_of wanted) → wanted ≡ op
 same_operator op wanted h = sym (operator_at_number wanted) ∙ ap operator_at (sym (eqb-true (number_of op) (number_of wanted) h)) ∙ operator_at_number op
 
-makes_only : (T : Table) (op wanted : Op) (a b : Exp) (aim : Aim) (s : ℕ) (t : Tree) (x : Option ℕ) → Whole T (Bin wanted a b) aim s t x → Whole T (Bin op a b) aim s t (only wanted op x)
-makes_only T op wanted a b aim s t x h = makes_given _ _ _ (number_of op == number_of wanted) x (λ e. let P : Op → Type 0 = λ o. Whole T (Bin o a b) aim s t x in subst P (same_operator op wanted e) h)
+makes_only : (T : Table) (op wanted : Op) (a b : Exp) (aim : Aim) (s : ℕ) (t : Tree) (x : Option ℕ) → Whole T (Bin wanted a b) aim s t x
+    → Whole T (Bin op a b) aim s t (only wanted op x)
+makes_only T op wanted a b aim s t x h =
+    makes_given _ _ _ (number_of op == number_of wanted) x (λ e. let P : Op → Type 0 = λ o. Whole T (Bin o a b) aim s t x in
+    subst P (same_operator op wanted e) h)
 
 -- a derivation of the part that a rule finds
 record Beside (T : Table) (p : Option Exp) (aim : Aim) : Type 0 where
@@ -160,9 +197,14 @@ record Beside (T : Table) (p : Option Exp) (aim : Aim) : Type 0 where
   is : p ≡ Some expression
   derivation : Derives T expression aim
 
-makes_beside : (T : Table) (p : Option Exp) (a b : Exp) (aim : Aim) (s : ℕ) (ra rb : Readings) (x y : Option ℕ) (zero_b zero_a : Bool) → (zero_b ≡ true → p ≡ Some a) → (zero_b ≡ false → zero_a ≡ true → p ≡ Some b) → Part T a aim s (tree_for aim ra) x → Part T b aim s (tree_for aim rb) y → Makes (Beside T p aim) (λ q. cost q.derivation s) (λ q. IsPart s (tree_for aim (cond zero_b ra rb)) q.derivation) (cond zero_b x (cond zero_a y None))
-makes_beside T p a b aim s ra rb x y true zero_a f g ha hb = makes_map _ _ _ _ _ _ _ (λ d. record { expression = a; is = f refl; derivation = d }) (λ d. refl) (λ d i. i) ha
-makes_beside T p a b aim s ra rb x y false true f g ha hb = makes_map _ _ _ _ _ _ _ (λ d. record { expression = b; is = g refl refl; derivation = d }) (λ d. refl) (λ d i. i) hb
+makes_beside : (T : Table) (p : Option Exp) (a b : Exp) (aim : Aim) (s : ℕ) (ra rb : Readings) (x y : Option ℕ) (zero_b zero_a : Bool)
+    → (zero_b ≡ true → p ≡ Some a) → (zero_b ≡ false → zero_a ≡ true → p ≡ Some b) → Part T a aim s (tree_for aim ra) x
+    → Part T b aim s (tree_for aim rb) y → Makes (Beside T p aim) (λ q. cost q.derivation s)
+    (λ q. IsPart s (tree_for aim (cond zero_b ra rb)) q.derivation) (cond zero_b x (cond zero_a y None))
+makes_beside T p a b aim s ra rb x y true zero_a f g ha hb = makes_map _ _ _ _ _ _ _ (λ d. record { expression = a; is = f refl; derivation = d })
+    (λ d. refl) (λ d i. i) ha
+makes_beside T p a b aim s ra rb x y false true f g ha hb = makes_map _ _ _ _ _ _ _ (λ d. record { expression = b; is = g refl refl; derivation = d })
+    (λ d. refl) (λ d i. i) hb
 makes_beside T p a b aim s ra rb x y false false f g ha hb = makes_none _ _ _
 
 second_zero : (a b : Exp) → IsTrue (zero_number (constant_of b)) → beside_zero a b ≡ Some a
@@ -172,18 +214,29 @@ first_zero : (a b : Exp) → zero_number (constant_of b) ≡ false → IsTrue (z
 first_zero a b h i = cond-false (is_zero b) _ _ (sym (is_zero_is b) ∙ h) ∙ cond-true (is_zero a) _ _ (sym (is_zero_is a) ∙ i)
 
 -- what stands beside a 0
-of_beside : (T : Table) (a b : Exp) (aim : Aim) (s : ℕ) (ra rb : Readings) (x y : Option ℕ) → Part T a aim s (tree_for aim ra) x → Part T b aim s (tree_for aim rb) y → Makes (Beside T (beside_zero a b) aim) (λ q. cost q.derivation s) (λ q. IsPart s (tree_for aim (cond (zero_number (constant_of b)) ra rb)) q.derivation) (cond (zero_number (constant_of b)) x (cond (zero_number (constant_of a)) y None))
-of_beside T a b aim s ra rb x y ha hb = makes_beside T (beside_zero a b) a b aim s ra rb x y (zero_number (constant_of b)) (zero_number (constant_of a)) (second_zero a b) (first_zero a b) ha hb
+of_beside : (T : Table) (a b : Exp) (aim : Aim) (s : ℕ) (ra rb : Readings) (x y : Option ℕ) → Part T a aim s (tree_for aim ra) x
+    → Part T b aim s (tree_for aim rb) y → Makes (Beside T (beside_zero a b) aim) (λ q. cost q.derivation s)
+    (λ q. IsPart s (tree_for aim (cond (zero_number (constant_of b)) ra rb)) q.derivation)
+    (cond (zero_number (constant_of b)) x (cond (zero_number (constant_of a)) y None))
+of_beside T a b aim s ra rb x y ha hb = makes_beside T (beside_zero a b) a b aim s ra rb x y (zero_number (constant_of b)) (zero_number (constant_of a))
+    (second_zero a b) (first_zero a b) ha hb
 
-by_v8 : (T : Table) (op : Op) (a b : Exp) (m : Mode) (s : ℕ) (t : Tree) (x : Option ℕ) → Makes (Beside T (without_zero op a b) (Gets m)) (λ q. cost q.derivation (s + 1)) (λ q. IsPart (s + 1) t q.derivation) x → Whole T (Bin op a b) (Gets m) s (by rule.V8 (one t)) x
-by_v8 T op a b m s t x h = makes_map _ _ _ _ _ _ _ (λ q. v8 q.is q.derivation) (λ q. refl) (λ q i. record { shape_is = ap (λ y. by rule.V8 (one y)) i.shape_is; parts = least_parts i }) h
+by_v8 : (T : Table) (op : Op) (a b : Exp) (m : Mode) (s : ℕ) (t : Tree) (x : Option ℕ) → Makes (Beside T (without_zero op a b) (Gets m))
+    (λ q. cost q.derivation (s + 1)) (λ q. IsPart (s + 1) t q.derivation) x → Whole T (Bin op a b) (Gets m) s (by rule.V8 (one t)) x
+by_v8 T op a b m s t x h = makes_map _ _ _ _ _ _ _ (λ q. v8 q.is q.derivation) (λ q. refl)
+    (λ q i. record { shape_is = ap (λ y. by rule.V8 (one y)) i.shape_is; parts = least_parts i }) h
 
-without_0 : (T : Table) (op : Op) (a b : Exp) (m : Mode) (s : ℕ) (ca cb : Choices) (ra rb : Readings) (x y : Option ℕ) → Part T a (Gets m) (s + 1) (tree_for (Gets m) ra) x → Part T b (Gets m) (s + 1) (tree_for (Gets m) rb) y → Whole T (Bin op a b) (Gets m) s (by rule.V8 (one (tree_for (Gets m) (cond (zero_number (constant_of b)) ra rb)))) (without op (node a ca) (node b cb) x y)
+without_0 : (T : Table) (op : Op) (a b : Exp) (m : Mode) (s : ℕ) (ca cb : Choices) (ra rb : Readings) (x y : Option ℕ)
+    → Part T a (Gets m) (s + 1) (tree_for (Gets m) ra) x → Part T b (Gets m) (s + 1) (tree_for (Gets m) rb) y
+    → Whole T (Bin op a b) (Gets m) s (by rule.V8 (one (tree_for (Gets m) (cond (zero_number (constant_of b)) ra rb))))
+    (without op (node a ca) (node b cb) x y)
 without_0 T operators.Multiply a b m s ca cb ra rb x y ha hb = makes_none _ _ _
 without_0 T operators.Divide a b m s ca cb ra rb x y ha hb = makes_none _ _ _
 without_0 T operators.Remainder a b m s ca cb ra rb x y ha hb = makes_none _ _ _
 without_0 T operators.Add a b m s ca cb ra rb x y ha hb = by_v8 T operators.Add a b m s _ _ (of_beside T a b (Gets m) (s + 1) ra rb x y ha hb)
-without_0 T operators.Subtract a b m s ca cb ra rb x y ha hb = by_v8 T operators.Subtract a b m s _ _ (makes_beside T (without_zero operators.Subtract a b) a b (Gets m) (s + 1) ra rb x y (zero_number (constant_of b)) false (λ h. cond-true (is_zero b) _ _ (sym (is_zero_is b) ∙ h)) (λ h i. cc) ha hb)
+without_0 T operators.Subtract a b m s ca cb ra rb x y ha hb =
+    by_v8 T operators.Subtract a b m s _ _ (makes_beside T (without_zero operators.Subtract a b) a b (Gets m) (s + 1) ra rb x y
+    (zero_number (constant_of b)) false (λ h. cond-true (is_zero b) _ _ (sym (is_zero_is b) ∙ h)) (λ h i. cc) ha hb)
 without_0 T operators.Equal a b m s ca cb ra rb x y ha hb = makes_none _ _ _
 without_0 T operators.NotEqual a b m s ca cb ra rb x y ha hb = makes_none _ _ _
 without_0 T operators.Less a b m s ca cb ra rb x y ha hb = makes_none _ _ _
@@ -198,26 +251,44 @@ without_0 T operators.NotEquivalent a b m s ca cb ra rb x y ha hb = makes_none _
 without_0 T operators.Equivalent a b m s ca cb ra rb x y ha hb = makes_none _ _ _
 
 -- one operand is worked out, the other stands in the instruction
-beside_operand : (T : Table) (e e1 : Exp) (m : Mode) (s : ℕ) (p : Option Operand) (r : Rule) (x z : Option ℕ) (t : Tree) (c : Derives T e (Gets m) × OperandOf p → ℕ) (rule_of : Derives T e (Gets m) × OperandOf p → Derives T e1 (Gets m)) → ((q : Derives T e (Gets m) × OperandOf p) → cost (rule_of q) s ≡ c q) → ((q : Derives T e (Gets m) × OperandOf p) → shape (rule_of q) ≡ by r (one (shape q.0))) → ((q : Derives T e (Gets m) × OperandOf p) → IsLeast q.0 (s + 1) × HasLeastParts q.0 (s + 1) → HasLeastParts (rule_of q) s) → Makes (Derives T e (Gets m) × OperandOf p) c (λ q. IsPart (s + 1) t q.0 × Unit {0}) z → Whole T e1 (Gets m) s (by r (one t)) z
-beside_operand T e e1 m s p r x z t c rule_of w sh least h = makes_map _ _ _ _ _ _ _ rule_of w (λ q i. record { shape_is = sh q ∙ ap (λ y. by r (one y)) i.0.shape_is; parts = least q (least_parts i.0) }) h
+beside_operand : (T : Table) (e e1 : Exp) (m : Mode) (s : ℕ) (p : Option Operand) (r : Rule) (x z : Option ℕ) (t : Tree) (c : Derives T e (Gets m)
+    × OperandOf p → ℕ) (rule_of : Derives T e (Gets m) × OperandOf p → Derives T e1 (Gets m))
+    → ((q : Derives T e (Gets m) × OperandOf p) → cost (rule_of q) s ≡ c q)
+    → ((q : Derives T e (Gets m) × OperandOf p) → shape (rule_of q) ≡ by r (one (shape q.0)))
+    → ((q : Derives T e (Gets m) × OperandOf p) → IsLeast q.0 (s + 1) × HasLeastParts q.0 (s + 1) → HasLeastParts (rule_of q) s)
+    → Makes (Derives T e (Gets m) × OperandOf p) c (λ q. IsPart (s + 1) t q.0 × Unit {0}) z → Whole T e1 (Gets m) s (by r (one t)) z
+beside_operand T e e1 m s p r x z t c rule_of w sh least h =
+    makes_map _ _ _ _ _ _ _ rule_of w (λ q i. record { shape_is = sh q ∙ ap (λ y. by r (one y)) i.0.shape_is; parts = least q (least_parts i.0) }) h
 
-with_operand : (T : Table) (e : Exp) (m : Mode) (s : ℕ) (p : Option Operand) (x : Option ℕ) (t : Tree) → Part T e (Gets m) (s + 1) t x → Makes (Derives T e (Gets m) × OperandOf p) (λ q. cost q.0 (s + 1) + operand_words q.1.0) (λ q. IsPart (s + 1) t q.0 × Unit {0}) (sum x (operand_cost p))
+with_operand : (T : Table) (e : Exp) (m : Mode) (s : ℕ) (p : Option Operand) (x : Option ℕ) (t : Tree) → Part T e (Gets m) (s + 1) t x
+    → Makes (Derives T e (Gets m) × OperandOf p) (λ q. cost q.0 (s + 1) + operand_words q.1.0) (λ q. IsPart (s + 1) t q.0 × Unit {0})
+    (sum x (operand_cost p))
 with_operand T e m s p x t h = makes_sum _ _ _ _ _ _ x (operand_cost p) h (makes_operand p)
 
-with_operand_more : (T : Table) (e : Exp) (m : Mode) (s k : ℕ) (p : Option Operand) (x : Option ℕ) (t : Tree) → Part T e (Gets m) (s + 1) t x → Makes (Derives T e (Gets m) × OperandOf p) (λ q. cost q.0 (s + 1) + (k + operand_words q.1.0)) (λ q. IsPart (s + 1) t q.0 × Unit {0}) (sum x (more k (operand_cost p)))
+with_operand_more : (T : Table) (e : Exp) (m : Mode) (s k : ℕ) (p : Option Operand) (x : Option ℕ) (t : Tree) → Part T e (Gets m) (s + 1) t x
+    → Makes (Derives T e (Gets m) × OperandOf p) (λ q. cost q.0 (s + 1) + (k + operand_words q.1.0)) (λ q. IsPart (s + 1) t q.0 × Unit {0})
+    (sum x (more k (operand_cost p)))
 with_operand_more T e m s k p x t h = makes_sum _ _ _ _ _ _ x (more k (operand_cost p)) h (makes_more _ _ _ (operand_cost p) k (makes_operand p))
 
-by_v6 : (T : Table) (a b : Exp) (m : Mode) (s : ℕ) (x : Option ℕ) (t : Tree) → Part T a (Gets m) (s + 1) t x → Whole T (Bin operators.Add a b) (Gets m) s (by rule.V6 (one t)) (sum x (operand_cost (operand_of b)))
-by_v6 T a b m s x t h = beside_operand T a (Bin operators.Add a b) m s (operand_of b) rule.V6 x _ t _ (λ q. v6 q.1.1 q.0) (λ q. refl) (λ q. refl) (λ q i. i) (with_operand T a m s (operand_of b) x t h)
+by_v6 : (T : Table) (a b : Exp) (m : Mode) (s : ℕ) (x : Option ℕ) (t : Tree) → Part T a (Gets m) (s + 1) t x
+    → Whole T (Bin operators.Add a b) (Gets m) s (by rule.V6 (one t)) (sum x (operand_cost (operand_of b)))
+by_v6 T a b m s x t h = beside_operand T a (Bin operators.Add a b) m s (operand_of b) rule.V6 x _ t _ (λ q. v6 q.1.1 q.0) (λ q. refl) (λ q. refl)
+    (λ q i. i) (with_operand T a m s (operand_of b) x t h)
 
-by_v7 : (T : Table) (a b : Exp) (m : Mode) (s : ℕ) (x : Option ℕ) (t : Tree) → IsTrue (are_free a b) → Part T b (Gets m) (s + 1) t x → Whole T (Bin operators.Add a b) (Gets m) s (by rule.V7 (one t)) (sum x (operand_cost (operand_of a)))
-by_v7 T a b m s x t free h = beside_operand T b (Bin operators.Add a b) m s (operand_of a) rule.V7 x _ t _ (λ q. v7 q.1.1 free q.0) (λ q. refl) (λ q. refl) (λ q i. i) (with_operand T b m s (operand_of a) x t h)
+by_v7 : (T : Table) (a b : Exp) (m : Mode) (s : ℕ) (x : Option ℕ) (t : Tree) → IsTrue (are_free a b) → Part T b (Gets m) (s + 1) t x
+    → Whole T (Bin operators.Add a b) (Gets m) s (by rule.V7 (one t)) (sum x (operand_cost (operand_of a)))
+by_v7 T a b m s x t free h = beside_operand T b (Bin operators.Add a b) m s (operand_of a) rule.V7 x _ t _ (λ q. v7 q.1.1 free q.0) (λ q. refl) (λ q. refl)
+    (λ q i. i) (with_operand T b m s (operand_of a) x t h)
 
-by_v10 : (T : Table) (a b : Exp) (m : Mode) (s : ℕ) (x : Option ℕ) (t : Tree) → Part T a (Gets m) (s + 1) t x → Whole T (Bin operators.Subtract a b) (Gets m) s (by rule.V10 (one t)) (sum x (more 2 (operand_cost (operand_of b))))
-by_v10 T a b m s x t h = beside_operand T a (Bin operators.Subtract a b) m s (operand_of b) rule.V10 x _ t _ (λ q. v10 q.1.1 q.0) (λ q. refl) (λ q. refl) (λ q i. i) (with_operand_more T a m s 2 (operand_of b) x t h)
+by_v10 : (T : Table) (a b : Exp) (m : Mode) (s : ℕ) (x : Option ℕ) (t : Tree) → Part T a (Gets m) (s + 1) t x
+    → Whole T (Bin operators.Subtract a b) (Gets m) s (by rule.V10 (one t)) (sum x (more 2 (operand_cost (operand_of b))))
+by_v10 T a b m s x t h = beside_operand T a (Bin operators.Subtract a b) m s (operand_of b) rule.V10 x _ t _ (λ q. v10 q.1.1 q.0) (λ q. refl) (λ q. refl)
+    (λ q i. i) (with_operand_more T a m s 2 (operand_of b) x t h)
 
-by_v11 : (T : Table) (a b : Exp) (m : Mode) (s : ℕ) (x : Option ℕ) (t : Tree) → IsTrue (are_free a b) → Part T b (Gets m) (s + 1) t x → Whole T (Bin operators.Subtract a b) (Gets m) s (by rule.V11 (one t)) (sum x (more 1 (operand_cost (operand_of a))))
-by_v11 T a b m s x t free h = beside_operand T b (Bin operators.Subtract a b) m s (operand_of a) rule.V11 x _ t _ (λ q. v11 q.1.1 free q.0) (λ q. refl) (λ q. refl) (λ q i. i) (with_operand_more T b m s 1 (operand_of a) x t h)
+by_v11 : (T : Table) (a b : Exp) (m : Mode) (s : ℕ) (x : Option ℕ) (t : Tree) → IsTrue (are_free a b) → Part T b (Gets m) (s + 1) t x
+    → Whole T (Bin operators.Subtract a b) (Gets m) s (by rule.V11 (one t)) (sum x (more 1 (operand_cost (operand_of a))))
+by_v11 T a b m s x t free h = beside_operand T b (Bin operators.Subtract a b) m s (operand_of a) rule.V11 x _ t _ (λ q. v11 q.1.1 free q.0) (λ q. refl)
+    (λ q. refl) (λ q i. i) (with_operand_more T b m s 1 (operand_of a) x t h)
 
 -- a - n: the second operand is the number
 abbrev NumberOf : Exp → Type 0
@@ -245,15 +316,23 @@ record Lessened (T : Table) (a b : Exp) (m : Mode) (s : ℕ) (t : Tree) (n : ℕ
 lessened : (T : Table) (a b : Exp) (m : Mode) (s : ℕ) (t : Tree) (n : ℕ) (d : Derives T a (Gets m)) → b ≡ Num n → Lessened T a b m s t n d
 lessened T a b m s t n d e =
     let P : Exp → Type 0 = λ c. Lessened T a c m s t n d in
-    subst P (sym e) (record { derivation = v9 d; words = refl; whole = λ i. record { shape_is = ap (λ y. by rule.V9 (one y)) i.shape_is; parts = least_parts i } })
+    subst P (sym e) (record {
+      derivation = v9 d;
+      words = refl;
+      whole = λ i. record { shape_is = ap (λ y. by rule.V9 (one y)) i.shape_is; parts = least_parts i };
+    })
 
-by_v9 : (T : Table) (a b : Exp) (m : Mode) (s : ℕ) (x : Option ℕ) (t : Tree) → Part T a (Gets m) (s + 1) t x → Whole T (Bin operators.Subtract a b) (Gets m) s (by rule.V9 (one t)) (sum x (number_cost (constant_of b)))
+by_v9 : (T : Table) (a b : Exp) (m : Mode) (s : ℕ) (x : Option ℕ) (t : Tree) → Part T a (Gets m) (s + 1) t x
+    → Whole T (Bin operators.Subtract a b) (Gets m) s (by rule.V9 (one t)) (sum x (number_cost (constant_of b)))
 by_v9 T a b m s x t h =
-    makes_map _ _ _ _ _ _ _ (λ q. (lessened T a b m s t q.1.0 q.0 q.1.1).derivation) (λ q. (lessened T a b m s t q.1.0 q.0 q.1.1).words) (λ q i. (lessened T a b m s t q.1.0 q.0 q.1.1).whole i.0)
+    makes_map _ _ _ _ _ _ _ (λ q. (lessened T a b m s t q.1.0 q.0 q.1.1).derivation) (λ q. (lessened T a b m s t q.1.0 q.0 q.1.1).words)
+    (λ q i. (lessened T a b m s t q.1.0 q.0 q.1.1).whole i.0)
     (makes_sum _ _ _ _ _ _ x (number_cost (constant_of b)) h (makes_number b))
 
 -- the rules with one operand in the instruction
-mixed_attained : (T : Table) (op : Op) (a b : Exp) (m : Mode) (s : ℕ) (ca cb : Choices) (ra rb : Readings) (x y : Option ℕ) (t : Tree) → Part T a (Gets m) (s + 1) (tree_for (Gets m) ra) x → Part T b (Gets m) (s + 1) (tree_for (Gets m) rb) y → AllMake T (Bin op a b) (Gets m) s (pair_parts (zero_number (constant_of b)) ra rb (Gets m)) (mixed op (node a ca) (node b cb) x y)
+mixed_attained : (T : Table) (op : Op) (a b : Exp) (m : Mode) (s : ℕ) (ca cb : Choices) (ra rb : Readings) (x y : Option ℕ) (t : Tree)
+    → Part T a (Gets m) (s + 1) (tree_for (Gets m) ra) x → Part T b (Gets m) (s + 1) (tree_for (Gets m) rb) y
+    → AllMake T (Bin op a b) (Gets m) s (pair_parts (zero_number (constant_of b)) ra rb (Gets m)) (mixed op (node a ca) (node b cb) x y)
 mixed_attained T op a b m s ca cb ra rb x y t ha hb = (
   makes_only T op operators.Add a b (Gets m) s _ _ (by_v6 T a b m s x _ ha),
   (
@@ -277,40 +356,61 @@ mixed_attained T op a b m s ca cb ra rb x y t ha hb = (
 abbrev Both : Table → Exp → Exp → Aim → Aim → ℕ → Tree → Tree → ℕ → Option ℕ → Type 0
 Both T e f aim1 aim2 s t u k x = Makes (Derives T e aim1 × Derives T f aim2) (λ q. cost q.0 s + cost q.1 s + k) (λ q. IsPart s t q.0 × IsPart s u q.1) x
 
-both_parts : (T : Table) (e f : Exp) (aim1 aim2 : Aim) (s : ℕ) (t u : Tree) (k : ℕ) (x y : Option ℕ) → Part T e aim1 s t x → Part T f aim2 s u y → Both T e f aim1 aim2 s t u k (plus (sum x y) k)
+both_parts : (T : Table) (e f : Exp) (aim1 aim2 : Aim) (s : ℕ) (t u : Tree) (k : ℕ) (x y : Option ℕ) → Part T e aim1 s t x → Part T f aim2 s u y
+    → Both T e f aim1 aim2 s t u k (plus (sum x y) k)
 both_parts T e f aim1 aim2 s t u k x y h i = makes_plus _ _ _ (sum x y) k (makes_sum _ _ _ _ _ _ x y h i)
 
 -- a rule with two parts
-of_both : (T : Table) (e f g : Exp) (aim1 aim2 aim : Aim) (s s1 : ℕ) (t u : Tree) (k : ℕ) (r : Rule) (x : Option ℕ) (rule_of : Derives T e aim1 × Derives T f aim2 → Derives T g aim) → ((q : Derives T e aim1 × Derives T f aim2) → cost (rule_of q) s ≡ cost q.0 s1 + cost q.1 s1 + k) → ((q : Derives T e aim1 × Derives T f aim2) → shape (rule_of q) ≡ by r (two (shape q.0) (shape q.1))) → ((q : Derives T e aim1 × Derives T f aim2) → (IsLeast q.0 s1 × HasLeastParts q.0 s1) × (IsLeast q.1 s1 × HasLeastParts q.1 s1) → HasLeastParts (rule_of q) s) → Both T e f aim1 aim2 s1 t u k x → Whole T g aim s (by r (two t u)) x
-of_both T e f g aim1 aim2 aim s s1 t u k r x rule_of w sh least h = makes_map _ _ _ _ _ _ _ rule_of w (λ q i. record { shape_is = sh q ∙ ap (λ y. by r (two y (shape q.1))) i.0.shape_is ∙ ap (λ y. by r (two t y)) i.1.shape_is; parts = least q (least_parts i.0, least_parts i.1) }) h
+of_both : (T : Table) (e f g : Exp) (aim1 aim2 aim : Aim) (s s1 : ℕ) (t u : Tree) (k : ℕ) (r : Rule) (x : Option ℕ) (rule_of : Derives T e aim1
+    × Derives T f aim2 → Derives T g aim) → ((q : Derives T e aim1 × Derives T f aim2) → cost (rule_of q) s ≡ cost q.0 s1 + cost q.1 s1 + k)
+    → ((q : Derives T e aim1 × Derives T f aim2) → shape (rule_of q) ≡ by r (two (shape q.0) (shape q.1)))
+    → ((q : Derives T e aim1 × Derives T f aim2) → (IsLeast q.0 s1 × HasLeastParts q.0 s1) × (IsLeast q.1 s1 × HasLeastParts q.1 s1)
+    → HasLeastParts (rule_of q) s) → Both T e f aim1 aim2 s1 t u k x → Whole T g aim s (by r (two t u)) x
+of_both T e f g aim1 aim2 aim s s1 t u k r x rule_of w sh least h =
+    makes_map _ _ _ _ _ _ _ rule_of w
+    (λ q i. record {
+      shape_is = sh q ∙ ap (λ y. by r (two y (shape q.1))) i.0.shape_is ∙ ap (λ y. by r (two t y)) i.1.shape_is;
+      parts = least q (least_parts i.0, least_parts i.1);
+    }) h
 
 some_operator : (p : Option Op) → IsTrue (is_some p) → (q : Op) × (p ≡ Some q)
 some_operator None h = cc
 some_operator (Some q) h = (q, refl)
 
 -- the rules with both operands worked out
-worked_attained : (T : Table) (op : Op) (a b : Exp) (s : ℕ) (ca cb : Choices) (ra rb : Readings) → Attains T a (s + 1) ca ra → Attains T b (s + 1) cb rb → AllMake T (Bin op a b) (Gets Any) s (pair_parts (zero_number (constant_of b)) ra rb (Gets Any)) (worked op (node a ca) (node b cb) s)
+worked_attained : (T : Table) (op : Op) (a b : Exp) (s : ℕ) (ca cb : Choices) (ra rb : Readings) → Attains T a (s + 1) ca ra → Attains T b (s + 1) cb rb
+    → AllMake T (Bin op a b) (Gets Any) s (pair_parts (zero_number (constant_of b)) ra rb (Gets Any)) (worked op (node a ca) (node b cb) s)
 worked_attained T op a b s ca cb ra rb ha hb =
     let e = Bin op a b in
     let held = 1 + 2 * w s in
     let first = λ (k : ℕ). both_parts T a b (Gets Any) (Gets Any) (s + 1) ra.any rb.any k (words_of ca.any) (words_of cb.any) ha.any hb.any in
     let second = λ (k : ℕ). both_parts T b a (Gets Any) (Gets Any) (s + 1) rb.any ra.any k (words_of cb.any) (words_of ca.any) hb.any ha.any in
     let pushed = λ (k : ℕ). both_parts T b a (Gets Any) (Gets Push) (s + 1) rb.any ra.push k (words_of cb.any) (words_of ca.push) hb.any ha.push in (
-      of_both T a b e _ _ _ s (s + 1) _ _ 1 rule.V12 _ (λ q. v12 q.0 q.1) (λ q. refl) (λ q. refl) (λ q i. i) (both_parts T a b (Gets Any) (Gets Push) (s + 1) ra.any rb.push 1 (words_of ca.any) (words_of cb.push) ha.any hb.push),
+      of_both T a b e _ _ _ s (s + 1) _ _ 1 rule.V12 _ (λ q. v12 q.0 q.1) (λ q. refl) (λ q. refl) (λ q i. i)
+          (both_parts T a b (Gets Any) (Gets Push) (s + 1) ra.any rb.push 1 (words_of ca.any) (words_of cb.push) ha.any hb.push),
       (
-        makes_given _ _ _ (is_some (mirror_of op)) _ (λ m. let q = some_operator (mirror_of op) m in makes_given _ _ _ (are_free a b) _ (λ free. of_both T b a e _ _ _ s (s + 1) _ _ 1 rule.V13 _ (λ p. v13 q.1 free p.0 p.1) (λ p. refl) (λ p. refl) (λ p i. i) (pushed 1))),
+        makes_given _ _ _ (is_some (mirror_of op)) _ (λ m. let q = some_operator (mirror_of op) m in
+            makes_given _ _ _ (are_free a b) _ (λ free. of_both T b a e _ _ _ s (s + 1) _ _ 1 rule.V13 _ (λ p. v13 q.1 free p.0 p.1) (λ p. refl)
+            (λ p. refl) (λ p i. i) (pushed 1))),
         (
-          makes_only T op operators.Subtract a b (Gets Any) s _ _ (makes_given _ _ _ (are_free a b) _ (λ free. of_both T b a (Bin operators.Subtract a b) _ _ _ s (s + 1) _ _ 2 rule.V14 _ (λ p. v14 free p.0 p.1) (λ p. refl) (λ p. refl) (λ p i. i) (pushed 2))),
+          makes_only T op operators.Subtract a b (Gets Any) s _ _
+              (makes_given _ _ _ (are_free a b) _ (λ free. of_both T b a (Bin operators.Subtract a b) _ _ _ s (s + 1) _ _ 2 rule.V14 _
+              (λ p. v14 free p.0 p.1) (λ p. refl) (λ p. refl) (λ p i. i) (pushed 2))),
           (
-            makes_given _ _ _ (is_some (mirror_of op)) _ (λ m. let q = some_operator (mirror_of op) m in of_both T a b e _ _ _ s (s + 1) _ _ held rule.V15 _ (λ p. v15 q.1 p.0 p.1) (λ p. refl) (λ p. refl) (λ p i. i) (first held)),
+            makes_given _ _ _ (is_some (mirror_of op)) _ (λ m. let q = some_operator (mirror_of op) m in
+                of_both T a b e _ _ _ s (s + 1) _ _ held rule.V15 _ (λ p. v15 q.1 p.0 p.1) (λ p. refl) (λ p. refl) (λ p i. i) (first held)),
             (
-              makes_given _ _ _ (are_free a b) _ (λ free. of_both T b a e _ _ _ s (s + 1) _ _ held rule.V16 _ (λ p. v16 free p.0 p.1) (λ p. refl) (λ p. refl) (λ p i. i) (second held)),
+              makes_given _ _ _ (are_free a b) _ (λ free. of_both T b a e _ _ _ s (s + 1) _ _ held rule.V16 _ (λ p. v16 free p.0 p.1) (λ p. refl)
+                  (λ p. refl) (λ p i. i) (second held)),
               (
-                of_both T a b e _ _ _ s (s + 1) _ _ (held + 2 * w (s + 1)) rule.V17 _ (λ p. v17 p.0 p.1) (λ p. refl) (λ p. refl) (λ p i. i) (first (held + 2 * w (s + 1))),
+                of_both T a b e _ _ _ s (s + 1) _ _ (held + 2 * w (s + 1)) rule.V17 _ (λ p. v17 p.0 p.1) (λ p. refl) (λ p. refl) (λ p i. i)
+                    (first (held + 2 * w (s + 1))),
                 (
-                  makes_only T op operators.Add a b (Gets Any) s _ _ (of_both T a b (Bin operators.Add a b) _ _ _ s (s + 1) _ _ (2 * w s) rule.V18 _ (λ p. v18 p.0 p.1) (λ p. refl) (λ p. refl) (λ p i. i) (first (2 * w s))),
+                  makes_only T op operators.Add a b (Gets Any) s _ _ (of_both T a b (Bin operators.Add a b) _ _ _ s (s + 1) _ _ (2 * w s) rule.V18 _
+                      (λ p. v18 p.0 p.1) (λ p. refl) (λ p. refl) (λ p i. i) (first (2 * w s))),
                   (
-                    makes_only T op operators.Subtract a b (Gets Any) s _ _ (of_both T a b (Bin operators.Subtract a b) _ _ _ s (s + 1) _ _ held rule.V19 _ (λ p. v19 p.0 p.1) (λ p. refl) (λ p. refl) (λ p i. i) (first held)),
+                    makes_only T op operators.Subtract a b (Gets Any) s _ _ (of_both T a b (Bin operators.Subtract a b) _ _ _ s (s + 1) _ _ held rule.V19 _
+                        (λ p. v19 p.0 p.1) (λ p. refl) (λ p. refl) (λ p i. i) (first held)),
                     tt,
                   ),
                 ),
@@ -322,28 +422,57 @@ worked_attained T op a b s ca cb ra rb ha hb =
     )
 
 -- tests of two operands, and of the operand beside a 0
-test_of_both : (T : Table) (a b g : Exp) (aim1 aim2 aim : Aim) (s : ℕ) (t u : Tree) (r : Rule) (x y : Option ℕ) (rule_of : Derives T a aim1 × Derives T b aim2 → Derives T g aim) → ((q : Derives T a aim1 × Derives T b aim2) → cost (rule_of q) s ≡ cost q.0 (s + 1) + cost q.1 (s + 1)) → ((q : Derives T a aim1 × Derives T b aim2) → shape (rule_of q) ≡ by r (two (shape q.0) (shape q.1))) → ((q : Derives T a aim1 × Derives T b aim2) → (IsLeast q.0 (s + 1) × HasLeastParts q.0 (s + 1)) × (IsLeast q.1 (s + 1) × HasLeastParts q.1 (s + 1)) → HasLeastParts (rule_of q) s) → Part T a aim1 (s + 1) t x → Part T b aim2 (s + 1) u y → Whole T g aim s (by r (two t u)) (sum x y)
-test_of_both T a b g aim1 aim2 aim s t u r x y rule_of w sh least h i = makes_map _ _ _ _ _ _ _ rule_of w (λ q j. record { shape_is = sh q ∙ ap (λ z. by r (two z (shape q.1))) j.0.shape_is ∙ ap (λ z. by r (two t z)) j.1.shape_is; parts = least q (least_parts j.0, least_parts j.1) }) (makes_sum _ _ _ _ _ _ x y h i)
+test_of_both : (T : Table) (a b g : Exp) (aim1 aim2 aim : Aim) (s : ℕ) (t u : Tree) (r : Rule) (x y : Option ℕ) (rule_of : Derives T a aim1
+    × Derives T b aim2 → Derives T g aim) → ((q : Derives T a aim1 × Derives T b aim2) → cost (rule_of q) s ≡ cost q.0 (s + 1) + cost q.1 (s + 1))
+    → ((q : Derives T a aim1 × Derives T b aim2) → shape (rule_of q) ≡ by r (two (shape q.0) (shape q.1)))
+    → ((q : Derives T a aim1 × Derives T b aim2) → (IsLeast q.0 (s + 1) × HasLeastParts q.0 (s + 1)) × (IsLeast q.1 (s + 1) × HasLeastParts q.1 (s + 1))
+    → HasLeastParts (rule_of q) s) → Part T a aim1 (s + 1) t x → Part T b aim2 (s + 1) u y → Whole T g aim s (by r (two t u)) (sum x y)
+test_of_both T a b g aim1 aim2 aim s t u r x y rule_of w sh least h i =
+    makes_map _ _ _ _ _ _ _ rule_of w
+    (λ q j. record {
+      shape_is = sh q ∙ ap (λ z. by r (two z (shape q.1))) j.0.shape_is ∙ ap (λ z. by r (two t z)) j.1.shape_is;
+      parts = least q (least_parts j.0, least_parts j.1);
+    }) (makes_sum _ _ _ _ _ _ x y h i)
 
 table_two : (T : Table) → IsTrue (has_tests_of_zero T) → T ≡ Two
 table_two tables.One h = cc
 table_two tables.Two h = refl
 
-test_of_zero : (T : Table) (a b g : Exp) (aim : Aim) (s : ℕ) (t : Tree) (r : Rule) (x : Option ℕ) (rule_of : (q : Beside T (beside_zero a b) (Gets Any)) → Derives T g aim) → ((q : Beside T (beside_zero a b) (Gets Any)) → cost (rule_of q) s ≡ cost q.derivation (s + 1) + 2) → ((q : Beside T (beside_zero a b) (Gets Any)) → shape (rule_of q) ≡ by r (one (shape q.derivation))) → ((q : Beside T (beside_zero a b) (Gets Any)) → IsLeast q.derivation (s + 1) × HasLeastParts q.derivation (s + 1) → HasLeastParts (rule_of q) s) → Makes (Beside T (beside_zero a b) (Gets Any)) (λ q. cost q.derivation (s + 1)) (λ q. IsPart (s + 1) t q.derivation) x → Whole T g aim s (by r (one t)) (plus x 2)
-test_of_zero T a b g aim s t r x rule_of w sh least h = makes_map _ _ _ _ _ _ _ rule_of w (λ q i. record { shape_is = sh q ∙ ap (λ y. by r (one y)) i.shape_is; parts = least q (least_parts i) }) (makes_plus _ _ _ x 2 h)
+test_of_zero : (T : Table) (a b g : Exp) (aim : Aim) (s : ℕ) (t : Tree) (r : Rule) (x : Option ℕ) (rule_of : (q : Beside T (beside_zero a b) (Gets Any))
+    → Derives T g aim) → ((q : Beside T (beside_zero a b) (Gets Any)) → cost (rule_of q) s ≡ cost q.derivation (s + 1) + 2)
+    → ((q : Beside T (beside_zero a b) (Gets Any)) → shape (rule_of q) ≡ by r (one (shape q.derivation)))
+    → ((q : Beside T (beside_zero a b) (Gets Any)) → IsLeast q.derivation (s + 1) × HasLeastParts q.derivation (s + 1) → HasLeastParts (rule_of q) s)
+    → Makes (Beside T (beside_zero a b) (Gets Any)) (λ q. cost q.derivation (s + 1)) (λ q. IsPart (s + 1) t q.derivation) x
+    → Whole T g aim s (by r (one t)) (plus x 2)
+test_of_zero T a b g aim s t r x rule_of w sh least h =
+    makes_map _ _ _ _ _ _ _ rule_of w (λ q i. record { shape_is = sh q ∙ ap (λ y. by r (one y)) i.shape_is; parts = least q (least_parts i) })
+    (makes_plus _ _ _ x 2 h)
 
-tests_attained : (T : Table) (op : Op) (a b : Exp) (s : ℕ) (ca cb : Choices) (ra rb : Readings) → Attains T a (s + 1) ca ra → Attains T b (s + 1) cb rb → (any : Option ℕ) (t : Tree) → Part T (Bin op a b) (Gets Any) s t any → (sense : Bool) → AllMake T (Bin op a b) (Jumps sense) s (test_parts t (pair_parts (zero_number (constant_of b)) ra rb (Jumps sense))) (pair_tests T op (node a ca) (node b cb) any sense)
+tests_attained : (T : Table) (op : Op) (a b : Exp) (s : ℕ) (ca cb : Choices) (ra rb : Readings) → Attains T a (s + 1) ca ra → Attains T b (s + 1) cb rb
+    → (any : Option ℕ) (t : Tree) → Part T (Bin op a b) (Gets Any) s t any → (sense : Bool)
+    → AllMake T (Bin op a b) (Jumps sense) s (test_parts t (pair_parts (zero_number (constant_of b)) ra rb (Jumps sense)))
+    (pair_tests T op (node a ca) (node b cb) any sense)
 tests_attained T op a b s ca cb ra rb ha hb any t h false =
     let zero = of_beside T a b (Gets Any) (s + 1) ra rb (words_of ca.any) (words_of cb.any) ha.any hb.any in (
-      makes_only T op operators.And a b (Jumps false) s _ _ (test_of_both T a b (Bin operators.And a b) (Jumps false) (Jumps false) (Jumps false) s _ _ rule.J2 _ _ (λ q. j2 q.0 q.1) (λ q. refl) (λ q. refl) (λ q i. i) ha.on_false hb.on_false),
+      makes_only T op operators.And a b (Jumps false) s _ _
+          (test_of_both T a b (Bin operators.And a b) (Jumps false) (Jumps false) (Jumps false) s _ _ rule.J2 _ _ (λ q. j2 q.0 q.1) (λ q. refl) (λ q. refl)
+          (λ q i. i) ha.on_false hb.on_false),
       (
-        makes_only T op operators.Or a b (Jumps false) s _ _ (test_of_both T a b (Bin operators.Or a b) (Jumps true) (Jumps false) (Jumps false) s _ _ rule.J5 _ _ (λ q. j5 q.0 q.1) (λ q. refl) (λ q. refl) (λ q i. i) ha.on_true hb.on_false),
+        makes_only T op operators.Or a b (Jumps false) s _ _
+            (test_of_both T a b (Bin operators.Or a b) (Jumps true) (Jumps false) (Jumps false) s _ _ rule.J5 _ _ (λ q. j5 q.0 q.1) (λ q. refl) (λ q. refl)
+            (λ q i. i) ha.on_true hb.on_false),
         (
           makes_given _ _ _ (is_plain_operator op) _ (λ p. test_of_value T (Bin op a b) s any t false p h),
           (
-            makes_given _ _ _ (has_tests_of_zero T) _ (λ k. makes_only T op operators.Equal a b (Jumps false) s _ _ (test_of_zero T a b (Bin operators.Equal a b) (Jumps false) s _ rule.J8 _ (λ q. j8 (table_two T k) q.is q.derivation) (λ q. refl) (λ q. refl) (λ q i. i) zero)),
+            makes_given _ _ _ (has_tests_of_zero T) _
+                (λ k. makes_only T op operators.Equal a b (Jumps false) s _ _
+                (test_of_zero T a b (Bin operators.Equal a b) (Jumps false) s _ rule.J8 _ (λ q. j8 (table_two T k) q.is q.derivation) (λ q. refl)
+                (λ q. refl) (λ q i. i) zero)),
             (
-              makes_given _ _ _ (has_tests_of_zero T) _ (λ k. makes_only T op operators.NotEqual a b (Jumps false) s _ _ (test_of_zero T a b (Bin operators.NotEqual a b) (Jumps false) s _ rule.J9 _ (λ q. j9 (table_two T k) q.is q.derivation) (λ q. refl) (λ q. refl) (λ q i. i) zero)),
+              makes_given _ _ _ (has_tests_of_zero T) _
+                  (λ k. makes_only T op operators.NotEqual a b (Jumps false) s _ _
+                  (test_of_zero T a b (Bin operators.NotEqual a b) (Jumps false) s _ rule.J9 _ (λ q. j9 (table_two T k) q.is q.derivation) (λ q. refl)
+                  (λ q. refl) (λ q i. i) zero)),
               tt,
             ),
           ),
@@ -352,15 +481,25 @@ tests_attained T op a b s ca cb ra rb ha hb any t h false =
     )
 tests_attained T op a b s ca cb ra rb ha hb any t h true =
     let zero = of_beside T a b (Gets Any) (s + 1) ra rb (words_of ca.any) (words_of cb.any) ha.any hb.any in (
-      makes_only T op operators.And a b (Jumps true) s _ _ (test_of_both T a b (Bin operators.And a b) (Jumps false) (Jumps true) (Jumps true) s _ _ rule.J3 _ _ (λ q. j3 q.0 q.1) (λ q. refl) (λ q. refl) (λ q i. i) ha.on_false hb.on_true),
+      makes_only T op operators.And a b (Jumps true) s _ _
+          (test_of_both T a b (Bin operators.And a b) (Jumps false) (Jumps true) (Jumps true) s _ _ rule.J3 _ _ (λ q. j3 q.0 q.1) (λ q. refl) (λ q. refl)
+          (λ q i. i) ha.on_false hb.on_true),
       (
-        makes_only T op operators.Or a b (Jumps true) s _ _ (test_of_both T a b (Bin operators.Or a b) (Jumps true) (Jumps true) (Jumps true) s _ _ rule.J4 _ _ (λ q. j4 q.0 q.1) (λ q. refl) (λ q. refl) (λ q i. i) ha.on_true hb.on_true),
+        makes_only T op operators.Or a b (Jumps true) s _ _
+            (test_of_both T a b (Bin operators.Or a b) (Jumps true) (Jumps true) (Jumps true) s _ _ rule.J4 _ _ (λ q. j4 q.0 q.1) (λ q. refl) (λ q. refl)
+            (λ q i. i) ha.on_true hb.on_true),
         (
           makes_given _ _ _ (is_plain_operator op) _ (λ p. test_of_value T (Bin op a b) s any t true p h),
           (
-            makes_given _ _ _ (has_tests_of_zero T) _ (λ k. makes_only T op operators.Equal a b (Jumps true) s _ _ (test_of_zero T a b (Bin operators.Equal a b) (Jumps true) s _ rule.J8 _ (λ q. j8 (table_two T k) q.is q.derivation) (λ q. refl) (λ q. refl) (λ q i. i) zero)),
+            makes_given _ _ _ (has_tests_of_zero T) _
+                (λ k. makes_only T op operators.Equal a b (Jumps true) s _ _
+                (test_of_zero T a b (Bin operators.Equal a b) (Jumps true) s _ rule.J8 _ (λ q. j8 (table_two T k) q.is q.derivation) (λ q. refl)
+                (λ q. refl) (λ q i. i) zero)),
             (
-              makes_given _ _ _ (has_tests_of_zero T) _ (λ k. makes_only T op operators.NotEqual a b (Jumps true) s _ _ (test_of_zero T a b (Bin operators.NotEqual a b) (Jumps true) s _ rule.J9 _ (λ q. j9 (table_two T k) q.is q.derivation) (λ q. refl) (λ q. refl) (λ q i. i) zero)),
+              makes_given _ _ _ (has_tests_of_zero T) _
+                  (λ k. makes_only T op operators.NotEqual a b (Jumps true) s _ _
+                  (test_of_zero T a b (Bin operators.NotEqual a b) (Jumps true) s _ rule.J9 _ (λ q. j9 (table_two T k) q.is q.derivation) (λ q. refl)
+                  (λ q. refl) (λ q i. i) zero)),
               tt,
             ),
           ),
@@ -376,38 +515,64 @@ pub record AreParts {T : Table} {es : Args} (s : ℕ) (ts : Trees) (ds : Derives
 abbrev pub AllParts : Table → Args → ℕ → Trees → Option ℕ → Type 0
 AllParts T es s ts x = Makes (DerivesAll T es) (λ ds. all_cost ds s) (λ ds. AreParts s ts ds) x
 
-one_argument : (T : Table) (e : Exp) (es : Args) (s : ℕ) (t : Tree) (ts : Trees) (x y : Option ℕ) → Part T e (Gets Any) s t x → AllParts T es (s + 1) ts y → AllParts T (argument e es) s (part t ts) (sum (plus x (w s)) y)
+one_argument : (T : Table) (e : Exp) (es : Args) (s : ℕ) (t : Tree) (ts : Trees) (x y : Option ℕ) → Part T e (Gets Any) s t x → AllParts T es (s + 1) ts y
+    → AllParts T (argument e es) s (part t ts) (sum (plus x (w s)) y)
 one_argument T e es s t ts x y h i =
-    makes_map _ _ _ _ _ _ _ (λ q. one_more q.0 q.1) (λ q. refl) (λ q j. record { shapes_are = ap (λ z. part z (shapes q.1)) j.0.shape_is ∙ ap (part t) j.1.shapes_are; parts = (least_parts j.0, j.1.parts) })
+    makes_map _ _ _ _ _ _ _ (λ q. one_more q.0 q.1) (λ q. refl)
+    (λ q j. record { shapes_are = ap (λ z. part z (shapes q.1)) j.0.shape_is ∙ ap (part t) j.1.shapes_are; parts = (least_parts j.0, j.1.parts) })
     (makes_sum _ _ _ _ _ _ (plus x (w s)) y (makes_plus _ _ _ x (w s) h) i)
 
-by_v22 : (T : Table) (es : Args) (f : Exp) (s : ℕ) (ts : Trees) (u : Tree) (x y : Option ℕ) → AllParts T es (s + 2) ts x → Part T f (Gets Any) (s + 2 + count es) u y → Whole T (Call es f) (Gets Any) s (by rule.V22 (end_with ts u)) (plus (sum x y) (w s))
+by_v22 : (T : Table) (es : Args) (f : Exp) (s : ℕ) (ts : Trees) (u : Tree) (x y : Option ℕ) → AllParts T es (s + 2) ts x
+    → Part T f (Gets Any) (s + 2 + count es) u y → Whole T (Call es f) (Gets Any) s (by rule.V22 (end_with ts u)) (plus (sum x y) (w s))
 by_v22 T es f s ts u x y h i =
-    makes_map _ _ _ _ _ _ _ (λ q. v22 q.0 q.1) (λ q. refl) (λ q j. record { shape_is = ap (λ z. by rule.V22 (end_with z (shape q.1))) j.0.shapes_are ∙ ap (λ z. by rule.V22 (end_with ts z)) j.1.shape_is; parts = (j.0.parts, least_parts j.1) })
+    makes_map _ _ _ _ _ _ _ (λ q. v22 q.0 q.1) (λ q. refl)
+    (λ q j. record {
+      shape_is = ap (λ z. by rule.V22 (end_with z (shape q.1))) j.0.shapes_are ∙ ap (λ z. by rule.V22 (end_with ts z)) j.1.shape_is;
+      parts = (j.0.parts, least_parts j.1);
+    })
     (makes_plus _ _ _ (sum x y) (w s) (makes_sum _ _ _ _ _ _ x y h i))
 
-by_v20 : (T : Table) (c x y : Exp) (s : ℕ) (t u v : Tree) (k m n : Option ℕ) → Part T c (Jumps false) s t k → Part T x (Gets Any) s u m → Part T y (Gets Any) s v n → Whole T (Cond c x y) (Gets Any) s (by rule.V20 (three t u v)) (plus (sum (sum k m) n) 2)
+by_v20 : (T : Table) (c x y : Exp) (s : ℕ) (t u v : Tree) (k m n : Option ℕ) → Part T c (Jumps false) s t k → Part T x (Gets Any) s u m
+    → Part T y (Gets Any) s v n → Whole T (Cond c x y) (Gets Any) s (by rule.V20 (three t u v)) (plus (sum (sum k m) n) 2)
 by_v20 T c x y s t u v k m n hc hx hy =
-    makes_map _ _ _ _ _ _ _ (λ q. v20 q.0.0 q.0.1 q.1) (λ q. refl) (λ q i. record { shape_is = ap (λ z. by rule.V20 (three z (shape q.0.1) (shape q.1))) i.0.0.shape_is ∙ ap (λ z. by rule.V20 (three t z (shape q.1))) i.0.1.shape_is ∙ ap (λ z. by rule.V20 (three t u z)) i.1.shape_is; parts = (least_parts i.0.0, least_parts i.0.1, least_parts i.1) })
+    makes_map _ _ _ _ _ _ _ (λ q. v20 q.0.0 q.0.1 q.1) (λ q. refl)
+    (λ q i. record {
+      shape_is = ap (λ z. by rule.V20 (three z (shape q.0.1) (shape q.1))) i.0.0.shape_is
+          ∙ ap (λ z. by rule.V20 (three t z (shape q.1))) i.0.1.shape_is ∙ ap (λ z. by rule.V20 (three t u z)) i.1.shape_is;
+      parts =
+          (least_parts i.0.0, least_parts i.0.1, least_parts i.1);
+    })
     (makes_plus _ _ _ (sum (sum k m) n) 2 (makes_sum _ _ _ _ _ _ (sum k m) n (makes_sum _ _ _ _ _ _ k m hc hx) hy))
 
-by_v21 : (T : Table) (c x y : Exp) (s : ℕ) (t u v : Tree) (k m n : Option ℕ) → Part T c (Jumps true) s t k → Part T y (Gets Any) s u m → Part T x (Gets Any) s v n → Whole T (Cond c x y) (Gets Any) s (by rule.V21 (three t u v)) (plus (sum (sum k m) n) 2)
+by_v21 : (T : Table) (c x y : Exp) (s : ℕ) (t u v : Tree) (k m n : Option ℕ) → Part T c (Jumps true) s t k → Part T y (Gets Any) s u m
+    → Part T x (Gets Any) s v n → Whole T (Cond c x y) (Gets Any) s (by rule.V21 (three t u v)) (plus (sum (sum k m) n) 2)
 by_v21 T c x y s t u v k m n hc hy hx =
-    makes_map _ _ _ _ _ _ _ (λ q. v21 q.0.0 q.0.1 q.1) (λ q. refl) (λ q i. record { shape_is = ap (λ z. by rule.V21 (three z (shape q.0.1) (shape q.1))) i.0.0.shape_is ∙ ap (λ z. by rule.V21 (three t z (shape q.1))) i.0.1.shape_is ∙ ap (λ z. by rule.V21 (three t u z)) i.1.shape_is; parts = (least_parts i.0.0, least_parts i.0.1, least_parts i.1) })
+    makes_map _ _ _ _ _ _ _ (λ q. v21 q.0.0 q.0.1 q.1) (λ q. refl)
+    (λ q i. record {
+      shape_is = ap (λ z. by rule.V21 (three z (shape q.0.1) (shape q.1))) i.0.0.shape_is
+          ∙ ap (λ z. by rule.V21 (three t z (shape q.1))) i.0.1.shape_is ∙ ap (λ z. by rule.V21 (three t u z)) i.1.shape_is;
+      parts =
+          (least_parts i.0.0, least_parts i.0.1, least_parts i.1);
+    })
     (makes_plus _ _ _ (sum (sum k m) n) 2 (makes_sum _ _ _ _ _ _ (sum k m) n (makes_sum _ _ _ _ _ _ k m hc hy) hx))
 
 abbrev Tests : Table → Exp → ℕ → (Option ℕ → Bool → List Candidate) → (Aim → Rule → Trees) → Type 0
-Tests T e s tests own = (any : Option ℕ) (t : Tree) → Part T e (Gets Any) s t any → (sense : Bool) → AllMake T e (Jumps sense) s (test_parts t (own (Jumps sense))) (tests any sense)
+Tests T e s tests own = (any : Option ℕ) (t : Tree) → Part T e (Gets Any) s t any → (sense : Bool)
+    → AllMake T e (Jumps sense) s (test_parts t (own (Jumps sense))) (tests any sense)
 
 value_tests : (T : Table) (e : Exp) (s : ℕ) (own : Aim → Rule → Trees) → IsTrue (is_plain e) → Tests T e s by_value own
 value_tests T e s own p any t h sense = (test_of_value T e s any t sense p h, tt)
 
 number_tests_attained : (T : Table) (n s : ℕ) → Tests T (Num n) s (number_tests n) leaf_parts
-number_tests_attained T n s any t h sense = (test_of_value T (Num n) s any t sense refl h, (makes_some _ _ _ j7 _ refl (record { shape_is = refl; parts = tt }), tt))
+number_tests_attained T n s any t h sense =
+    (test_of_value T (Num n) s any t sense refl h, (makes_some _ _ _ j7 _ refl (record { shape_is = refl; parts = tt }), tt))
 
-turned_part : {T : Table} {e : Exp} {s : ℕ} {c : Choices} {r : Readings} → Attains T e s c r → (sense : Bool) → Whole T (Not e) (Jumps sense) s (by rule.J1 (one (tree_for (Jumps (not sense)) r))) (words_for (Jumps (not sense)) c)
-turned_part h true = makes_map _ _ _ _ _ _ _ (λ d. j1 {sense = true} d) (λ d. refl) (λ d i. record { shape_is = ap (λ y. by rule.J1 (one y)) i.shape_is; parts = least_parts i }) h.on_false
-turned_part h false = makes_map _ _ _ _ _ _ _ (λ d. j1 {sense = false} d) (λ d. refl) (λ d i. record { shape_is = ap (λ y. by rule.J1 (one y)) i.shape_is; parts = least_parts i }) h.on_true
+turned_part : {T : Table} {e : Exp} {s : ℕ} {c : Choices} {r : Readings} → Attains T e s c r → (sense : Bool)
+    → Whole T (Not e) (Jumps sense) s (by rule.J1 (one (tree_for (Jumps (not sense)) r))) (words_for (Jumps (not sense)) c)
+turned_part h true = makes_map _ _ _ _ _ _ _ (λ d. j1 {sense = true} d) (λ d. refl)
+    (λ d i. record { shape_is = ap (λ y. by rule.J1 (one y)) i.shape_is; parts = least_parts i }) h.on_false
+turned_part h false = makes_map _ _ _ _ _ _ _ (λ d. j1 {sense = false} d) (λ d. refl)
+    (λ d i. record { shape_is = ap (λ y. by rule.J1 (one y)) i.shape_is; parts = least_parts i }) h.on_true
 
 low_of : (T : Table) (e : Exp) (s : ℕ) → Low T e s (choices T e s)
 low_of T e s aim d = lower d s
@@ -446,7 +611,11 @@ mutual
       let rb = readings T b (s + 1) in
       attains_line T (Bin op a b) s _ _ (pair_tests T op (node a ca) (node b cb)) (pair_parts (zero_number (constant_of b)) ra rb) (low_of T (Bin op a b) s)
       (mixed_attained T op a b Push s ca cb ra rb (words_of ca.push) (words_of cb.push) ra.push ha.push hb.push)
-      (λ t. all_append (Derives T (Bin op a b) (Gets Any)) (λ d. cost d s) (λ r d. IsWhole s (by r (pair_parts (zero_number (constant_of b)) ra rb (Gets Any) r)) d) (mixed op (node a ca) (node b cb) (words_of ca.any) (words_of cb.any)) (worked op (node a ca) (node b cb) s) (mixed_attained T op a b Any s ca cb ra rb (words_of ca.any) (words_of cb.any) ra.any ha.any hb.any) (worked_attained T op a b s ca cb ra rb ha hb))
+      (λ t. all_append (Derives T (Bin op a b) (Gets Any)) (λ d. cost d s)
+      (λ r d. IsWhole s (by r (pair_parts (zero_number (constant_of b)) ra rb (Gets Any) r)) d)
+      (mixed op (node a ca) (node b cb) (words_of ca.any) (words_of cb.any)) (worked op (node a ca) (node b cb) s)
+      (mixed_attained T op a b Any s ca cb ra rb (words_of ca.any) (words_of cb.any) ra.any ha.any hb.any)
+      (worked_attained T op a b s ca cb ra rb ha hb))
       (tests_attained T op a b s ca cb ra rb ha hb)
   attained T (Cond c x y) s =
       let hc = attained T c s in

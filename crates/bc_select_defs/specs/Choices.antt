@@ -142,11 +142,13 @@ pair_tests T op a b any true =
 
 abbrev pub pair_choices : Table → Op → Option Operand → Node → Node → ℕ → Choices
 pair_choices T op o a b s =
-    line o (mixed op a b (words_of a.choices.push) (words_of b.choices.push)) (mixed op a b (words_of a.choices.any) (words_of b.choices.any) ++ worked op a b s) (pair_tests T op a b)
+    line o (mixed op a b (words_of a.choices.push) (words_of b.choices.push)) (mixed op a b (words_of a.choices.any) (words_of b.choices.any)
+    ++ worked op a b s) (pair_tests T op a b)
 
 abbrev pub cond_choices : (c x y : Choices) → Choices
 cond_choices c x y =
-    line None [] (candidate V20 (plus (sum (sum (words_of c.on_false) (words_of x.any)) (words_of y.any)) 2) ∷ candidate V21 (plus (sum (sum (words_of c.on_true) (words_of y.any)) (words_of x.any)) 2) ∷ []) by_value
+    line None [] (candidate V20 (plus (sum (sum (words_of c.on_false) (words_of x.any)) (words_of y.any)) 2)
+    ∷ candidate V21 (plus (sum (sum (words_of c.on_true) (words_of y.any)) (words_of x.any)) 2) ∷ []) by_value
 
 -- from the words of all arguments, and the routine
 abbrev pub call_choices : Option ℕ → Choices → ℕ → Choices

@@ -9,6 +9,7 @@ use Rattle.bc_core.specs.Operand.{operand_of}
 use Rattle.bc_core.specs.Level.{side_level}
 use Rattle.bc_rules_defs.specs.declared.rule.Table.{Table}
 use Rattle.bc_rules_defs.specs.declared.rule.Mode.TheVariants.{Any}
+use Rattle.bc_rules_defs.specs.declared.rule.Aim.{Aim}
 use Rattle.bc_rules_defs.specs.declared.rule.Aim.TheVariants.{Gets, Jumps}
 use Rattle.bc_rules_defs.specs.declared.rule.Rule.{Rule}
 use Rattle.bc_rules_defs.specs.declared.rule.Rule.TheVariants as rule
@@ -18,14 +19,15 @@ use Rattle.bc_rules_defs.specs.Rules.{Derives, v0, v1, v2, v3, v4, v17, v20, v22
 use Rattle.bc_rules_defs.specs.Code.{cost, root_cost}
 use Rattle.bc_select_defs.specs.declared.choice.Choice.{Choice}
 use Rattle.bc_select_defs.specs.declared.choice.Node.{Node}
-use Rattle.bc_select_defs.specs.Least.{rule_number, top, RootIsLeast, RootHasLeastParts}
+use Rattle.bc_select_defs.specs.Least.{top, first_rule, RootIsLeast, RootHasLeastParts, AreLeastWords}
+use Rattle.bc_rules_defs.specs.Names.{rule_number}
 use Rattle.bc_select_defs.specs.Options.{plus, sum, given, words_of, candidate, least_from}
-use Rattle.bc_select_defs.specs.Choices.{choice_for, free, choices, node_of}
+use Rattle.bc_select_defs.specs.Choices.{choice_for, words_for, free, choices, node_of}
 use Rattle.bc_select_defs.specs.Folds.{Chooses, AtMost, by_rule, words}
 use Rattle.bc_select_defs.specs.Lower.{both, more_words, by_given, lower}
 use Rattle.bc_select_defs.specs.Readings.{Readings, tree_for, tree_of, readings}
 use Rattle.bc_select_defs.specs.Makes.{Made, Makes, makes_none, makes_some, makes_map, makes_plus, makes_sum, makes_given, Chosen, chosen_least}
-use Rattle.bc_select_defs.specs.Attained.{IsPart, least_parts, part_for, attained}
+use Rattle.bc_select_defs.specs.Attained.{IsPart, Part, least_parts, part_for, attained}
 
 -- the choice of an assignment, from its address's operand
 abbrev pub assign_choice : Option Operand → (value address : Node) → ℕ → Option Choice
@@ -59,9 +61,13 @@ assign_at T v a s p = assign_choice p (node_of T v (cond (is_some p) s (s + 1)))
 root_lower : {T : Table} {r : Root} (d : RootDerives T r) → AtMost (root_choice T r) (root_cost d) (rule_number (top (root_shape d)))
 root_lower (value {s = s} d) = lower d s
 root_lower (test {s = s} d) = lower d s
-root_lower (a1 {T = T} {s = s} {v = v} {a = a} {o = o} h d) = subst (λ p. AtMost (assign_at T v a s p) (cost d s + operand_words o) 1) (sym h) (by_rule _ _ _ refl (more_words _ _ _ (words _ _ _ (lower d s))))
-root_lower (a2 {T = T} {s = s} {v = v} {a = a} h k b d) = subst (λ p. AtMost (assign_at T v a s p) (cost b (s + 1) + cost d (s + 1) + 2 * w s) 2) (sym h) (by_rule _ _ _ refl (by_given _ _ _ k (more_words _ _ _ (both _ _ _ _ (words _ _ _ (lower b (s + 1))) (words _ _ _ (lower d (s + 1)))))))
-root_lower (a3 {T = T} {s = s} {v = v} {a = a} h d b) = subst (λ p. AtMost (assign_at T v a s p) (cost d (s + 1) + cost b (s + 1) + (2 * w s + 2 * w (s + 1))) 3) (sym h) (by_rule _ _ _ refl (more_words _ _ _ (both _ _ _ _ (words _ _ _ (lower d (s + 1))) (words _ _ _ (lower b (s + 1))))))
+root_lower (a1 {T = T} {s = s} {v = v} {a = a} {o = o} h d) = subst (λ p. AtMost (assign_at T v a s p) (cost d s + operand_words o) 1) (sym h)
+    (by_rule _ _ _ refl (more_words _ _ _ (words _ _ _ (lower d s))))
+root_lower (a2 {T = T} {s = s} {v = v} {a = a} h k b d) = subst (λ p. AtMost (assign_at T v a s p) (cost b (s + 1) + cost d (s + 1) + 2 * w s) 2) (sym h)
+    (by_rule _ _ _ refl (by_given _ _ _ k (more_words _ _ _ (both _ _ _ _ (words _ _ _ (lower b (s + 1))) (words _ _ _ (lower d (s + 1)))))))
+root_lower (a3 {T = T} {s = s} {v = v} {a = a} h d b) =
+    subst (λ p. AtMost (assign_at T v a s p) (cost d (s + 1) + cost b (s + 1) + (2 * w s + 2 * w (s + 1))) 3) (sym h)
+    (by_rule _ _ _ refl (more_words _ _ _ (both _ _ _ _ (words _ _ _ (lower d (s + 1))) (words _ _ _ (lower b (s + 1))))))
 
 -- a derivation of a root with this tree, and itself a least one with least parts
 pub record IsRootPart {T : Table} {r : Root} (t : Tree) (d : RootDerives T r) : Type 0 where
@@ -76,7 +82,9 @@ record IsRootWhole {T : Table} {r : Root} (t : Tree) (d : RootDerives T r) : Typ
 abbrev pub RootPart : (T : Table) → Root → Tree → Option ℕ → Type 0
 RootPart T r t x = Makes (RootDerives T r) (λ d. root_cost d) (λ d. IsRootPart t d) x
 
-root_part : (T : Table) (r : Root) (parts : Rule → Trees) (x : Option Choice) → Chosen (RootDerives T r) (λ d. root_cost d) (λ q d. IsRootWhole (by q (parts q)) d) x → ((d : RootDerives T r) → AtMost x (root_cost d) (rule_number (top (root_shape d)))) → RootPart T r (tree_of x parts) (words_of x)
+root_part : (T : Table) (r : Root) (parts : Rule → Trees) (x : Option Choice)
+    → Chosen (RootDerives T r) (λ d. root_cost d) (λ q d. IsRootWhole (by q (parts q)) d) x
+    → ((d : RootDerives T r) → AtMost x (root_cost d) (rule_number (top (root_shape d)))) → RootPart T r (tree_of x parts) (words_of x)
 root_part T r parts None h low = makes_none _ _ _
 root_part T r parts (Some c) h low =
     let found = h.some c refl in
@@ -87,49 +95,83 @@ root_part T r parts (Some c) h low =
       shape_is = found.fact.shape_is;
       least = record {
         fewest = λ other. let up = (low other).fact in let f : c.words ≤ root_cost other = up.fewer in omega arith;
-        first = λ other i. let up = (low other).fact in let f : root_cost other ≤ c.words → rule_number c.rule ≤ rule_number (top (root_shape other)) = up.first in let P : Rule → Type 0 = λ q. rule_number q ≤ rule_number (top (root_shape other)) in subst P (sym starts) (f (omega arith));
+        first = λ other i. let up = (low other).fact in let f : root_cost other ≤ c.words
+            → rule_number c.rule ≤ rule_number (top (root_shape other)) = up.first in let P : Rule
+            → Type 0 = λ q. rule_number q ≤ rule_number (top (root_shape other)) in subst P (sym starts) (f (omega arith));
       };
       parts = found.fact.parts;
     })
 
 -- of an assignment, by its address's operand
 abbrev AssignPart : Table → Exp → Exp → ℕ → Option Operand → Type 0
-AssignPart T v a s p = Chosen (RootDerives T (Assign s v a)) (λ d. root_cost d) (λ q d. IsRootWhole (by q (assign_parts (readings T v (cond (is_some p) s (s + 1))) (readings T a (cond (is_some p) s (s + 1))) q)) d) (assign_at T v a s p)
+AssignPart T v a s p = Chosen (RootDerives T (Assign s v a)) (λ d. root_cost d)
+    (λ q d. IsRootWhole (by q (assign_parts (readings T v (cond (is_some p) s (s + 1))) (readings T a (cond (is_some p) s (s + 1))) q)) d)
+    (assign_at T v a s p)
 
 assign_attained : (T : Table) (v a : Exp) (s : ℕ) (p : Option Operand) → operand_of a ≡ p → AssignPart T v a s p
 assign_attained T v a s (Some o) h =
     chosen_least _ _ _ _ (
-      makes_map _ _ _ _ _ _ _ (λ d. a1 h d) (λ d. refl) (λ d i. record { shape_is = ap (λ y. by rule.A1 (one y)) i.shape_is; parts = least_parts i }) (makes_plus _ _ _ _ (operand_words o) (attained T v s).any),
+      makes_map _ _ _ _ _ _ _ (λ d. a1 h d) (λ d. refl) (λ d i. record { shape_is = ap (λ y. by rule.A1 (one y)) i.shape_is; parts = least_parts i })
+          (makes_plus _ _ _ _ (operand_words o) (attained T v s).any),
       tt,
     )
 assign_attained T v a s None h =
     let hv = attained T v (s + 1) in
     let ha = attained T a (s + 1) in
     chosen_least _ _ _ _ (
-      makes_given _ _ _ (are_free v a) _ (λ k. makes_map _ _ _ _ _ _ _ (λ q. a2 h k q.0 q.1) (λ q. refl) (λ q i. record { shape_is = ap (λ y. by rule.A2 (two y (shape q.1))) i.0.shape_is ∙ ap (λ y. by rule.A2 (two (readings T a (s + 1)).any y)) i.1.shape_is; parts = (least_parts i.0, least_parts i.1) }) (makes_plus _ _ _ _ (2 * w s) (makes_sum _ _ _ _ _ _ _ _ ha.any hv.any))),
+      makes_given _ _ _ (are_free v a) _
+          (λ k. makes_map _ _ _ _ _ _ _ (λ q. a2 h k q.0 q.1) (λ q. refl)
+          (λ q i. record {
+            shape_is = ap (λ y. by rule.A2 (two y (shape q.1))) i.0.shape_is
+                ∙ ap (λ y. by rule.A2 (two (readings T a (s + 1)).any y)) i.1.shape_is;
+            parts = (least_parts i.0, least_parts i.1);
+          })
+          (makes_plus _ _ _ _ (2 * w s) (makes_sum _ _ _ _ _ _ _ _ ha.any hv.any))),
       (
-        makes_map _ _ _ _ _ _ _ (λ q. a3 h q.0 q.1) (λ q. refl) (λ q i. record { shape_is = ap (λ y. by rule.A3 (two y (shape q.1))) i.0.shape_is ∙ ap (λ y. by rule.A3 (two (readings T v (s + 1)).any y)) i.1.shape_is; parts = (least_parts i.0, least_parts i.1) }) (makes_plus _ _ _ _ (2 * w s + 2 * w (s + 1)) (makes_sum _ _ _ _ _ _ _ _ hv.any ha.any)),
+        makes_map _ _ _ _ _ _ _ (λ q. a3 h q.0 q.1) (λ q. refl)
+            (λ q i. record {
+              shape_is = ap (λ y. by rule.A3 (two y (shape q.1))) i.0.shape_is
+                  ∙ ap (λ y. by rule.A3 (two (readings T v (s + 1)).any y)) i.1.shape_is;
+              parts = (least_parts i.0, least_parts i.1);
+            })
+            (makes_plus _ _ _ _ (2 * w s + 2 * w (s + 1)) (makes_sum _ _ _ _ _ _ _ _ hv.any ha.any)),
         tt,
       ),
     )
 
 root_attained : (T : Table) (r : Root) → RootPart T r (root_reading T r) (words_of (root_choice T r))
-root_attained T (Value s e) = makes_map _ _ _ _ _ _ _ (λ d. value d) (λ d. refl) (λ d i. record { shape_is = i.shape_is; least = record { fewest = λ other. value_fewest d i other; first = λ other. value_first d i other }; parts = i.parts }) (attained T e s).any where
-  value_fewest : (d : Derives T e (Gets Any)) → IsPart s (readings T e s).any d → (other : RootDerives T (Value s e)) → cost d s ≤ root_cost other
-  value_fewest d i (value other) = i.least.fewest other
+root_attained T (Value s e) = makes_map _ _ _ _ _ _ _ (λ d. value d) (λ d. refl)
+    (λ d i. record {
+      shape_is = i.shape_is;
+      least = record { fewest = λ other. value_fewest d i other; first = λ other. value_first d i other };
+      parts = i.parts;
+    }) (attained T e s).any where
+      value_fewest : (d : Derives T e (Gets Any)) → IsPart s (readings T e s).any d → (other : RootDerives T (Value s e)) → cost d s ≤ root_cost other
+      value_fewest d i (value other) = i.least.fewest other
 
-  value_first : (d : Derives T e (Gets Any)) → IsPart s (readings T e s).any d → (other : RootDerives T (Value s e)) → root_cost other ≤ cost d s → rule_number (top (root_shape (value {s = s} d))) ≤ rule_number (top (root_shape other))
-  value_first d i (value other) = i.least.first other
-root_attained T (Test s sense e) = makes_map _ _ _ _ _ _ _ (λ d. test d) (λ d. refl) (λ d i. record { shape_is = i.shape_is; least = record { fewest = λ other. test_fewest d i other; first = λ other. test_first d i other }; parts = i.parts }) (part_for (attained T e s) (Jumps sense)) where
-  test_fewest : (d : Derives T e (Jumps sense)) → IsPart s (tree_for (Jumps sense) (readings T e s)) d → (other : RootDerives T (Test s sense e)) → cost d s ≤ root_cost other
-  test_fewest d i (test other) = i.least.fewest other
+      value_first : (d : Derives T e (Gets Any)) → IsPart s (readings T e s).any d → (other : RootDerives T (Value s e)) → root_cost other ≤ cost d s
+          → rule_number (top (root_shape (value {s = s} d))) ≤ rule_number (top (root_shape other))
+      value_first d i (value other) = i.least.first other
+root_attained T (Test s sense e) =
+    makes_map _ _ _ _ _ _ _ (λ d. test d) (λ d. refl)
+    (λ d i. record {
+      shape_is = i.shape_is;
+      least = record { fewest = λ other. test_fewest d i other; first = λ other. test_first d i other };
+      parts = i.parts;
+    }) (part_for (attained T e s) (Jumps sense)) where
+      test_fewest : (d : Derives T e (Jumps sense)) → IsPart s (tree_for (Jumps sense) (readings T e s)) d → (other : RootDerives T (Test s sense e))
+          → cost d s ≤ root_cost other
+      test_fewest d i (test other) = i.least.fewest other
 
-  test_first : (d : Derives T e (Jumps sense)) → IsPart s (tree_for (Jumps sense) (readings T e s)) d → (other : RootDerives T (Test s sense e)) → root_cost other ≤ cost d s → rule_number (top (root_shape (test {s = s} d))) ≤ rule_number (top (root_shape other))
-  test_first d i (test other) = i.least.first other
-root_attained T (Assign s v a) = root_part T (Assign s v a) (assign_parts (readings T v (side_level a s)) (readings T a (side_level a s))) (root_choice T (Assign s v a)) (assign_attained T v a s (operand_of a) refl) (λ d. root_lower d)
+      test_first : (d : Derives T e (Jumps sense)) → IsPart s (tree_for (Jumps sense) (readings T e s)) d → (other : RootDerives T (Test s sense e))
+          → root_cost other ≤ cost d s → rule_number (top (root_shape (test {s = s} d))) ≤ rule_number (top (root_shape other))
+      test_first d i (test other) = i.least.first other
+root_attained T (Assign s v a) = root_part T (Assign s v a) (assign_parts (readings T v (side_level a s)) (readings T a (side_level a s)))
+    (root_choice T (Assign s v a)) (assign_attained T v a s (operand_of a) refl) (λ d. root_lower d)
 
 -- every expression has a derivation as a value and as a test, and so every root has one
-test_of_pair : (T : Table) (op : Op) (a b : Exp) → ((sense : Bool) → Derives T a (Jumps sense)) → ((sense : Bool) → Derives T b (Jumps sense)) → Derives T (Bin op a b) (Gets Any) → (sense : Bool) → Derives T (Bin op a b) (Jumps sense)
+test_of_pair : (T : Table) (op : Op) (a b : Exp) → ((sense : Bool) → Derives T a (Jumps sense)) → ((sense : Bool) → Derives T b (Jumps sense))
+    → Derives T (Bin op a b) (Gets Any) → (sense : Bool) → Derives T (Bin op a b) (Jumps sense)
 test_of_pair T operators.Multiply a b ha hb d sense = j6 refl d
 test_of_pair T operators.Divide a b ha hb d sense = j6 refl d
 test_of_pair T operators.Remainder a b ha hb d sense = j6 refl d
@@ -220,3 +262,13 @@ chosen_is_least T r = (the_choice T r).fact.least
 pub chosen_has_least_parts : (T : Table) (r : Root) → RootHasLeastParts (chosen T r)
 unfolding chosen
 chosen_has_least_parts T r = (the_choice T r).fact.parts
+
+-- the words of the choices of an expression are least
+words_least : (T : Table) (e : Exp) (aim : Aim) (s : ℕ) (t : Tree) (x : Option Choice) → Part T e aim s t (words_of x)
+    → ((d : Derives T e aim) → AtMost x (cost d s) (rule_number (first_rule d))) → AreLeastWords T e aim s (words_of x)
+words_least T e aim s t None h low = λ d. (low d).fact
+words_least T e aim s t (Some c) h low = let found = h.some c.words refl in ((found.thing, found.words), λ d. (low d).fact.fewer)
+
+pub words_are_least : (T : Table) (e : Exp) (aim : Aim) (s : ℕ) → AreLeastWords T e aim s (words_for aim (choices T e s))
+words_are_least T e aim s = words_least T e aim s (tree_for aim (readings T e s)) (choice_for aim (choices T e s)) (part_for (attained T e s) aim)
+    (λ d. lower d s)

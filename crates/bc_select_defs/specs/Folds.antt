@@ -5,7 +5,7 @@ use Rattle.std.proofs.lemmas.Bool.{cond_both, ltb-true, ltb-false, leb-true, eqb
 use Rattle.bc_rules_defs.specs.declared.rule.Rule.{Rule}
 use Rattle.bc_select_defs.specs.declared.choice.Choice.{Choice}
 use Rattle.bc_select_defs.specs.declared.choice.Candidate.{Candidate}
-use Rattle.bc_select_defs.specs.Least.{rule_number}
+use Rattle.bc_rules_defs.specs.Names.{rule_number}
 use Rattle.bc_select_defs.specs.Options.{words_of, choice, better, least_from}
 
 -- there are words, and at most k
@@ -62,7 +62,8 @@ better_is : (best : Option Choice) (r : Rule) (x : Option ℕ) (k : ℕ) → Rul
 unfolding better
 better_is best r None k b h = absurd h
 better_is None r (Some n) k b h = record { fewer = h; first = λ i. omega arith }
-better_is (Some c) r (Some n) k b h = cond_both (nat_lt n c.words) (choice r n) c (λ d. IsUpTo d k (rule_number r)) (λ e. record { fewer = h; first = λ i. omega arith }) (λ e. let le = ltb-false n c.words e in record { fewer = omega arith; first = λ i. b })
+better_is (Some c) r (Some n) k b h = cond_both (nat_lt n c.words) (choice r n) c (λ d. IsUpTo d k (rule_number r))
+    (λ e. record { fewer = h; first = λ i. omega arith }) (λ e. let le = ltb-false n c.words e in record { fewer = omega arith; first = λ i. b })
 
 better_rule : (best : Option Choice) (r : Rule) (x : Option ℕ) → RuleUpTo best (rule_number r) → RuleUpTo (better best r x) (rule_number r)
 unfolding better
@@ -75,15 +76,18 @@ rule_further None m n h b = tt
 rule_further (Some c) m n h b = omega arith
 
 -- the fold chooses no more words than a rule among the candidates
-reached : (best : Option Choice) (m : ℕ) (cs : List Candidate) (k q : ℕ) → RuleUpTo best m → ascending m cs ≡ true → Within (of_rule q cs) k → Chooses (least_from best cs) k q
+reached : (best : Option Choice) (m : ℕ) (cs : List Candidate) (k q : ℕ) → RuleUpTo best m → ascending m cs ≡ true → Within (of_rule q cs) k
+    → Chooses (least_from best cs) k q
 unfolding least_from
 reached best m [] k q b a h = absurd h
 reached best m (c ∷ cs) k q b a h =
     let parts = and_parts (nat_le m (rule_number c.rule)) (ascending (rule_number c.rule) cs) a in
     let le = leb-true m (rule_number c.rule) parts.0 in
     let b1 = rule_further best m (rule_number c.rule) le b in
-    elim (rule_number c.rule == q) as (λ t. (rule_number c.rule == q) ≡ t → Within (cond t c.words (of_rule q cs)) k → Chooses (least_from (better best c.rule c.words) cs) k q) [
-      | true ↦ (λ e g. let is = eqb-true (rule_number c.rule) q e in let P : ℕ → Type 0 = λ n. Chooses (least_from (better best c.rule c.words) cs) k n in subst P is (kept (better best c.rule c.words) cs k (rule_number c.rule) (better_is best c.rule c.words k b1 g)))
+    elim (rule_number c.rule == q) as (λ t. (rule_number c.rule == q) ≡ t → Within (cond t c.words (of_rule q cs)) k
+    → Chooses (least_from (better best c.rule c.words) cs) k q) [
+      | true ↦ (λ e g. let is = eqb-true (rule_number c.rule) q e in let P : ℕ → Type 0 = λ n. Chooses (least_from (better best c.rule c.words) cs) k n in
+          subst P is (kept (better best c.rule c.words) cs k (rule_number c.rule) (better_is best c.rule c.words k b1 g)))
       | false ↦ (λ e g. reached (better best c.rule c.words) (rule_number c.rule) cs k q (better_rule best c.rule c.words b1) parts.1 g)
     ] refl h
 

@@ -4,46 +4,9 @@ use Rattle.bc_core.specs.Tree.{Exp, Args, count, Root}
 use Rattle.bc_rules_defs.specs.declared.rule.Table.{Table}
 use Rattle.bc_rules_defs.specs.declared.rule.Aim.{Aim}
 use Rattle.bc_rules_defs.specs.declared.rule.Rule.{Rule}
-use Rattle.bc_rules_defs.specs.declared.rule.Rule.TheVariants.{V0, V1, V2, V3, V4, V6, V7, V8, V9, V10, V11, V12, V13, V14, V15, V16, V17, V18, V19, V20, V21, V22, J1, J2, J3, J4, J5, J6, J7, J8, J9, A1, A2, A3}
+use Rattle.bc_rules_defs.specs.Names.{rule_number}
 use Rattle.bc_rules_defs.specs.Rules.{Derives, v0, v1, v2, v3, v4, v6, v7, v8, v9, v10, v11, v12, v13, v14, v15, v16, v17, v18, v19, v20, v21, v22, v22_valof, j1, j2, j3, j4, j5, j6, j7, j8, j9, DerivesAll, no_more, one_more, RootDerives, value, test, a1, a2, a3, Tree, by, shape, root_shape}
 use Rattle.bc_rules_defs.specs.Code.{cost, root_cost}
-
--- the number in a rule's name; rules of two letters never stand beside each other
-abbrev pub rule_number : Rule → ℕ
-rule_number V0 = 0
-rule_number V1 = 1
-rule_number V2 = 2
-rule_number V3 = 3
-rule_number V4 = 4
-rule_number V6 = 6
-rule_number V7 = 7
-rule_number V8 = 8
-rule_number V9 = 9
-rule_number V10 = 10
-rule_number V11 = 11
-rule_number V12 = 12
-rule_number V13 = 13
-rule_number V14 = 14
-rule_number V15 = 15
-rule_number V16 = 16
-rule_number V17 = 17
-rule_number V18 = 18
-rule_number V19 = 19
-rule_number V20 = 20
-rule_number V21 = 21
-rule_number V22 = 22
-rule_number J1 = 1
-rule_number J2 = 2
-rule_number J3 = 3
-rule_number J4 = 4
-rule_number J5 = 5
-rule_number J6 = 6
-rule_number J7 = 7
-rule_number J8 = 8
-rule_number J9 = 9
-rule_number A1 = 1
-rule_number A2 = 2
-rule_number A3 = 3
 
 -- the rule that a derivation begins with
 abbrev pub top : Tree → Rule

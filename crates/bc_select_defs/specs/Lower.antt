@@ -16,7 +16,8 @@ use Rattle.bc_rules_defs.specs.Free.{is_plain, is_zero, beside_zero, without_zer
 use Rattle.bc_rules_defs.specs.Piece.{w, operand_words}
 use Rattle.bc_rules_defs.specs.Rules.{Derives, v0, v1, v2, v3, v4, v6, v7, v8, v9, v10, v11, v12, v13, v14, v15, v16, v17, v18, v19, v20, v21, v22, v22_valof, j1, j2, j3, j4, j5, j6, j7, j8, j9, DerivesAll, no_more, one_more}
 use Rattle.bc_rules_defs.specs.Code.{cost, all_cost}
-use Rattle.bc_select_defs.specs.Least.{rule_number, first_rule}
+use Rattle.bc_select_defs.specs.Least.{first_rule}
+use Rattle.bc_rules_defs.specs.Names.{rule_number}
 use Rattle.bc_select_defs.specs.Options.{plus, more, sum, given, operand_cost, words_of}
 use Rattle.bc_select_defs.specs.Choices.{choice_for, words_for, number_cost, zero_number, without, beside, has_tests_of_zero, choices, words_of_all, node_of}
 use Rattle.bc_select_defs.specs.Folds.{Within, Reaches, AtMost, by_rule, words}
@@ -95,7 +96,8 @@ v1_least T (Cond c x y) s o h = cc
 v1_least T (Call es f) s o h = cc
 v1_least T (Valof n) s o h = cc
 
-j6_least : (T : Table) (e : Exp) (s k : ℕ) (sense : Bool) → IsTrue (is_plain e) → Reaches (words_of (choices T e s).any) k → AtMost (choice_for (Jumps sense) (choices T e s)) (k + 2) 6
+j6_least : (T : Table) (e : Exp) (s k : ℕ) (sense : Bool) → IsTrue (is_plain e) → Reaches (words_of (choices T e s).any) k
+    → AtMost (choice_for (Jumps sense) (choices T e s)) (k + 2) 6
 j6_least T (Num n) s k true p h = by_rule _ (k + 2) 6 refl (more_words _ 2 k h)
 j6_least T (Num n) s k false p h = by_rule _ (k + 2) 6 refl (more_words _ 2 k h)
 j6_least T (Frame n) s k true p h = by_rule _ (k + 2) 6 refl (more_words _ 2 k h)
@@ -151,7 +153,8 @@ subtract_of : (b : Bool) (x : Exp) (f : Exp → Option ℕ) → cond b (f x) Non
 subtract_of true x f = refl
 subtract_of false x f = refl
 
-pub without_is : (T : Table) (op : Op) (a b : Exp) (s : ℕ) (f : Exp → Option ℕ) → without op (node_of T a s) (node_of T b s) (f a) (f b) ≡ at (without_zero op a b) f
+pub without_is : (T : Table) (op : Op) (a b : Exp) (s : ℕ) (f : Exp → Option ℕ) → without op (node_of T a s) (node_of T b s) (f a) (f b)
+    ≡ at (without_zero op a b) f
 without_is T operators.Multiply a b s f = refl
 without_is T operators.Divide a b s f = refl
 without_is T operators.Remainder a b s f = refl
@@ -192,27 +195,42 @@ mutual
   lower (v4 {m = Any} d) s = by_rule _ _ _ refl (more_words _ _ _ (words _ _ _ (lower d s)))
   lower (v4 {m = Push} d) s = by_rule _ _ _ refl (more_words _ _ _ (words _ _ _ (lower d s)))
   lower (v6 {m = Any} h d) s = by_rule _ _ _ refl (by_given _ _ _ refl (both _ _ _ _ (words _ _ _ (lower d (s + 1))) (of_operand _ _ h)))
-  lower (v7 {m = Any} h free d) s = by_rule _ _ _ refl (by_given _ _ _ refl (by_given _ _ _ free (both _ _ _ _ (words _ _ _ (lower d (s + 1))) (of_operand _ _ h))))
-  lower (v8 {T = T} {op = op} {a = a} {b = b} {c = c} {m = Any} h d) s = by_rule _ _ _ refl (part_at _ (without_zero op a b) c (words_at T (Gets Any) (s + 1)) _ (without_is T op a b (s + 1) (words_at T (Gets Any) (s + 1))) h (words _ _ _ (lower d (s + 1))))
+  lower (v7 {m = Any} h free d) s =
+      by_rule _ _ _ refl (by_given _ _ _ refl (by_given _ _ _ free (both _ _ _ _ (words _ _ _ (lower d (s + 1))) (of_operand _ _ h))))
+  lower (v8 {T = T} {op = op} {a = a} {b = b} {c = c} {m = Any} h d) s =
+      by_rule _ _ _ refl (part_at _ (without_zero op a b) c (words_at T (Gets Any) (s + 1)) _
+      (without_is T op a b (s + 1) (words_at T (Gets Any) (s + 1))) h (words _ _ _ (lower d (s + 1))))
   lower (v9 {n = n} {m = Any} d) s = by_rule _ _ _ refl (by_given _ _ _ refl (both _ _ _ _ (words _ _ _ (lower d (s + 1))) (number_costs n)))
   lower (v10 {m = Any} h d) s = by_rule _ _ _ refl (by_given _ _ _ refl (both _ _ _ _ (words _ _ _ (lower d (s + 1))) (more_before _ 2 _ (of_operand _ _ h))))
-  lower (v11 {m = Any} h free d) s = by_rule _ _ _ refl (by_given _ _ _ refl (by_given _ _ _ free (both _ _ _ _ (words _ _ _ (lower d (s + 1))) (more_before _ 1 _ (of_operand _ _ h)))))
+  lower (v11 {m = Any} h free d) s =
+      by_rule _ _ _ refl (by_given _ _ _ refl (by_given _ _ _ free (both _ _ _ _ (words _ _ _ (lower d (s + 1))) (more_before _ 1 _ (of_operand _ _ h)))))
   lower (v6 {m = Push} h d) s = by_rule _ _ _ refl (by_given _ _ _ refl (both _ _ _ _ (words _ _ _ (lower d (s + 1))) (of_operand _ _ h)))
-  lower (v7 {m = Push} h free d) s = by_rule _ _ _ refl (by_given _ _ _ refl (by_given _ _ _ free (both _ _ _ _ (words _ _ _ (lower d (s + 1))) (of_operand _ _ h))))
-  lower (v8 {T = T} {op = op} {a = a} {b = b} {c = c} {m = Push} h d) s = by_rule _ _ _ refl (part_at _ (without_zero op a b) c (words_at T (Gets Push) (s + 1)) _ (without_is T op a b (s + 1) (words_at T (Gets Push) (s + 1))) h (words _ _ _ (lower d (s + 1))))
+  lower (v7 {m = Push} h free d) s =
+      by_rule _ _ _ refl (by_given _ _ _ refl (by_given _ _ _ free (both _ _ _ _ (words _ _ _ (lower d (s + 1))) (of_operand _ _ h))))
+  lower (v8 {T = T} {op = op} {a = a} {b = b} {c = c} {m = Push} h d) s =
+      by_rule _ _ _ refl (part_at _ (without_zero op a b) c (words_at T (Gets Push) (s + 1)) _
+      (without_is T op a b (s + 1) (words_at T (Gets Push) (s + 1))) h (words _ _ _ (lower d (s + 1))))
   lower (v9 {n = n} {m = Push} d) s = by_rule _ _ _ refl (by_given _ _ _ refl (both _ _ _ _ (words _ _ _ (lower d (s + 1))) (number_costs n)))
   lower (v10 {m = Push} h d) s = by_rule _ _ _ refl (by_given _ _ _ refl (both _ _ _ _ (words _ _ _ (lower d (s + 1))) (more_before _ 2 _ (of_operand _ _ h))))
-  lower (v11 {m = Push} h free d) s = by_rule _ _ _ refl (by_given _ _ _ refl (by_given _ _ _ free (both _ _ _ _ (words _ _ _ (lower d (s + 1))) (more_before _ 1 _ (of_operand _ _ h)))))
+  lower (v11 {m = Push} h free d) s =
+      by_rule _ _ _ refl (by_given _ _ _ refl (by_given _ _ _ free (both _ _ _ _ (words _ _ _ (lower d (s + 1))) (more_before _ 1 _ (of_operand _ _ h)))))
   lower (v12 a b) s = by_rule _ _ _ refl (more_words _ _ _ (both _ _ _ _ (words _ _ _ (lower a (s + 1))) (words _ _ _ (lower b (s + 1)))))
-  lower (v13 h free b a) s = by_rule _ _ _ refl (by_given _ _ _ (is_mirrored _ _ h) (by_given _ _ _ free (more_words _ _ _ (both _ _ _ _ (words _ _ _ (lower b (s + 1))) (words _ _ _ (lower a (s + 1)))))))
-  lower (v14 free b a) s = by_rule _ _ _ refl (by_given _ _ _ refl (by_given _ _ _ free (more_words _ _ _ (both _ _ _ _ (words _ _ _ (lower b (s + 1))) (words _ _ _ (lower a (s + 1)))))))
-  lower (v15 h a b) s = by_rule _ _ _ refl (by_given _ _ _ (is_mirrored _ _ h) (more_words _ _ _ (both _ _ _ _ (words _ _ _ (lower a (s + 1))) (words _ _ _ (lower b (s + 1))))))
-  lower (v16 free b a) s = by_rule _ _ _ refl (by_given _ _ _ free (more_words _ _ _ (both _ _ _ _ (words _ _ _ (lower b (s + 1))) (words _ _ _ (lower a (s + 1))))))
+  lower (v13 h free b a) s = by_rule _ _ _ refl
+      (by_given _ _ _ (is_mirrored _ _ h)
+      (by_given _ _ _ free (more_words _ _ _ (both _ _ _ _ (words _ _ _ (lower b (s + 1))) (words _ _ _ (lower a (s + 1)))))))
+  lower (v14 free b a) s = by_rule _ _ _ refl
+      (by_given _ _ _ refl (by_given _ _ _ free (more_words _ _ _ (both _ _ _ _ (words _ _ _ (lower b (s + 1))) (words _ _ _ (lower a (s + 1)))))))
+  lower (v15 h a b) s = by_rule _ _ _ refl
+      (by_given _ _ _ (is_mirrored _ _ h) (more_words _ _ _ (both _ _ _ _ (words _ _ _ (lower a (s + 1))) (words _ _ _ (lower b (s + 1))))))
+  lower (v16 free b a) s = by_rule _ _ _ refl
+      (by_given _ _ _ free (more_words _ _ _ (both _ _ _ _ (words _ _ _ (lower b (s + 1))) (words _ _ _ (lower a (s + 1))))))
   lower (v17 a b) s = by_rule _ _ _ refl (more_words _ _ _ (both _ _ _ _ (words _ _ _ (lower a (s + 1))) (words _ _ _ (lower b (s + 1)))))
   lower (v18 a b) s = by_rule _ _ _ refl (by_given _ _ _ refl (more_words _ _ _ (both _ _ _ _ (words _ _ _ (lower a (s + 1))) (words _ _ _ (lower b (s + 1))))))
   lower (v19 a b) s = by_rule _ _ _ refl (by_given _ _ _ refl (more_words _ _ _ (both _ _ _ _ (words _ _ _ (lower a (s + 1))) (words _ _ _ (lower b (s + 1))))))
-  lower (v20 c x y) s = by_rule _ _ _ refl (more_words _ _ _ (both _ _ _ _ (both _ _ _ _ (words _ _ _ (lower c s)) (words _ _ _ (lower x s))) (words _ _ _ (lower y s))))
-  lower (v21 c y x) s = by_rule _ _ _ refl (more_words _ _ _ (both _ _ _ _ (both _ _ _ _ (words _ _ _ (lower c s)) (words _ _ _ (lower y s))) (words _ _ _ (lower x s))))
+  lower (v20 c x y) s = by_rule _ _ _ refl
+      (more_words _ _ _ (both _ _ _ _ (both _ _ _ _ (words _ _ _ (lower c s)) (words _ _ _ (lower x s))) (words _ _ _ (lower y s))))
+  lower (v21 c y x) s = by_rule _ _ _ refl
+      (more_words _ _ _ (both _ _ _ _ (both _ _ _ _ (words _ _ _ (lower c s)) (words _ _ _ (lower y s))) (words _ _ _ (lower x s))))
   lower (v22 {es = es} ds f) s = by_rule _ _ _ refl (more_words _ _ _ (both _ _ _ _ (all_lower ds (s + 2)) (words _ _ _ (lower f (s + 2 + count es)))))
   lower v22_valof s = by_rule _ _ _ refl (exactly 0)
   lower (j1 {sense = true} d) s = by_rule _ _ _ refl (words _ _ _ (lower d s))
@@ -224,10 +242,26 @@ mutual
   lower (j6 {T = T} {e = e} {sense = sense} h d) s = j6_least T e s _ sense h (words _ _ _ (lower d s))
   lower (j7 {sense = true}) s = by_rule _ _ _ refl (exactly _)
   lower (j7 {sense = false}) s = by_rule _ _ _ refl (exactly _)
-  lower (j8 {T = T} {a = a} {b = b} {c = c} {sense = true} k h d) s = by_rule _ _ _ refl (with_tests T _ _ k (by_given _ _ _ refl (more_words _ 2 _ (part_at _ (beside_zero a b) c (words_at T (Gets Any) (s + 1)) _ (beside_is T a b (s + 1) (words_at T (Gets Any) (s + 1))) h (words _ _ _ (lower d (s + 1)))))))
-  lower (j8 {T = T} {a = a} {b = b} {c = c} {sense = false} k h d) s = by_rule _ _ _ refl (with_tests T _ _ k (by_given _ _ _ refl (more_words _ 2 _ (part_at _ (beside_zero a b) c (words_at T (Gets Any) (s + 1)) _ (beside_is T a b (s + 1) (words_at T (Gets Any) (s + 1))) h (words _ _ _ (lower d (s + 1)))))))
-  lower (j9 {T = T} {a = a} {b = b} {c = c} {sense = true} k h d) s = by_rule _ _ _ refl (with_tests T _ _ k (by_given _ _ _ refl (more_words _ 2 _ (part_at _ (beside_zero a b) c (words_at T (Gets Any) (s + 1)) _ (beside_is T a b (s + 1) (words_at T (Gets Any) (s + 1))) h (words _ _ _ (lower d (s + 1)))))))
-  lower (j9 {T = T} {a = a} {b = b} {c = c} {sense = false} k h d) s = by_rule _ _ _ refl (with_tests T _ _ k (by_given _ _ _ refl (more_words _ 2 _ (part_at _ (beside_zero a b) c (words_at T (Gets Any) (s + 1)) _ (beside_is T a b (s + 1) (words_at T (Gets Any) (s + 1))) h (words _ _ _ (lower d (s + 1)))))))
+  lower (j8 {T = T} {a = a} {b = b} {c = c} {sense = true} k h d) s =
+      by_rule _ _ _ refl (with_tests T _ _ k
+      (by_given _ _ _ refl (more_words _ 2 _
+      (part_at _ (beside_zero a b) c (words_at T (Gets Any) (s + 1)) _ (beside_is T a b (s + 1) (words_at T (Gets Any) (s + 1))) h
+      (words _ _ _ (lower d (s + 1)))))))
+  lower (j8 {T = T} {a = a} {b = b} {c = c} {sense = false} k h d) s =
+      by_rule _ _ _ refl (with_tests T _ _ k
+      (by_given _ _ _ refl (more_words _ 2 _
+      (part_at _ (beside_zero a b) c (words_at T (Gets Any) (s + 1)) _ (beside_is T a b (s + 1) (words_at T (Gets Any) (s + 1))) h
+      (words _ _ _ (lower d (s + 1)))))))
+  lower (j9 {T = T} {a = a} {b = b} {c = c} {sense = true} k h d) s =
+      by_rule _ _ _ refl (with_tests T _ _ k
+      (by_given _ _ _ refl (more_words _ 2 _
+      (part_at _ (beside_zero a b) c (words_at T (Gets Any) (s + 1)) _ (beside_is T a b (s + 1) (words_at T (Gets Any) (s + 1))) h
+      (words _ _ _ (lower d (s + 1)))))))
+  lower (j9 {T = T} {a = a} {b = b} {c = c} {sense = false} k h d) s =
+      by_rule _ _ _ refl (with_tests T _ _ k
+      (by_given _ _ _ refl (more_words _ 2 _
+      (part_at _ (beside_zero a b) c (words_at T (Gets Any) (s + 1)) _ (beside_is T a b (s + 1) (words_at T (Gets Any) (s + 1))) h
+      (words _ _ _ (lower d (s + 1)))))))
 
   pub all_lower : {T : Table} {es : Args} (ds : DerivesAll T es) (s : ℕ) → Reaches (words_of_all T es s) (all_cost ds s)
   all_lower no_more s = exactly 0

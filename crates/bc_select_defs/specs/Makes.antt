@@ -25,24 +25,36 @@ makes_none X c P = record { some = λ n e. cc }
 pub makes_some : (X : Type 0) (c : X → ℕ) (P : X → Type 0) (d : X) (n : ℕ) → c d ≡ n → P d → Makes X c P (Some n)
 makes_some X c P d n h p = record { some = λ k e. let is : n ≡ k = cc in record { thing = d; words = h ∙ is; fact = p } }
 
-pub makes_map : (X Y : Type 0) (c : X → ℕ) (e : Y → ℕ) (P : X → Type 0) (Q : Y → Type 0) (x : Option ℕ) (r : X → Y) → ((d : X) → e (r d) ≡ c d) → ((d : X) → P d → Q (r d)) → Makes X c P x → Makes Y e Q x
-makes_map X Y c e P Q x r w q h = record { some = λ n i. let d = h.some n i in record { thing = r d.thing; words = w d.thing ∙ d.words; fact = q d.thing d.fact } }
+pub makes_map : (X Y : Type 0) (c : X → ℕ) (e : Y → ℕ) (P : X → Type 0) (Q : Y → Type 0) (x : Option ℕ) (r : X → Y) → ((d : X) → e (r d) ≡ c d)
+    → ((d : X) → P d → Q (r d)) → Makes X c P x → Makes Y e Q x
+makes_map X Y c e P Q x r w q h =
+    record { some = λ n i. let d = h.some n i in record { thing = r d.thing; words = w d.thing ∙ d.words; fact = q d.thing d.fact } }
 
 pub makes_plus : (X : Type 0) (c : X → ℕ) (P : X → Type 0) (x : Option ℕ) (k : ℕ) → Makes X c P x → Makes X (λ d. c d + k) P (plus x k)
 unfolding plus
 makes_plus X c P None k h = makes_none X (λ d. c d + k) P
-makes_plus X c P (Some x) k h = record { some = λ n e. let d = h.some x refl in let is : x + k ≡ n = cc in record { thing = d.thing; words = ap (λ y. y + k) d.words ∙ is; fact = d.fact } }
+makes_plus X c P (Some x) k h = record {
+  some = λ n e. let d = h.some x refl in let is : x + k ≡ n = cc in
+      record { thing = d.thing; words = ap (λ y. y + k) d.words ∙ is; fact = d.fact };
+}
 
 pub makes_more : (X : Type 0) (c : X → ℕ) (P : X → Type 0) (x : Option ℕ) (k : ℕ) → Makes X c P x → Makes X (λ d. k + c d) P (more k x)
 unfolding more
 makes_more X c P None k h = makes_none X (λ d. k + c d) P
-makes_more X c P (Some x) k h = record { some = λ n e. let d = h.some x refl in let is : k + x ≡ n = cc in record { thing = d.thing; words = ap (λ y. k + y) d.words ∙ is; fact = d.fact } }
+makes_more X c P (Some x) k h = record {
+  some = λ n e. let d = h.some x refl in let is : k + x ≡ n = cc in
+      record { thing = d.thing; words = ap (λ y. k + y) d.words ∙ is; fact = d.fact };
+}
 
-pub makes_sum : (X Y : Type 0) (c : X → ℕ) (e : Y → ℕ) (P : X → Type 0) (Q : Y → Type 0) (x y : Option ℕ) → Makes X c P x → Makes Y e Q y → Makes (X × Y) (λ p. c p.0 + e p.1) (λ p. P p.0 × Q p.1) (sum x y)
+pub makes_sum : (X Y : Type 0) (c : X → ℕ) (e : Y → ℕ) (P : X → Type 0) (Q : Y → Type 0) (x y : Option ℕ) → Makes X c P x → Makes Y e Q y
+    → Makes (X × Y) (λ p. c p.0 + e p.1) (λ p. P p.0 × Q p.1) (sum x y)
 unfolding sum
 makes_sum X Y c e P Q None y h i = makes_none (X × Y) (λ p. c p.0 + e p.1) (λ p. P p.0 × Q p.1)
 makes_sum X Y c e P Q (Some x) None h i = makes_none (X × Y) (λ p. c p.0 + e p.1) (λ p. P p.0 × Q p.1)
-makes_sum X Y c e P Q (Some x) (Some y) h i = record { some = λ n k. let d = h.some x refl in let b = i.some y refl in let is : x + y ≡ n = cc in record { thing = (d.thing, b.thing); words = omega (arith, d.words, b.words); fact = (d.fact, b.fact) } }
+makes_sum X Y c e P Q (Some x) (Some y) h i = record {
+  some = λ n k. let d = h.some x refl in let b = i.some y refl in let is : x + y ≡ n = cc in
+      record { thing = (d.thing, b.thing); words = omega (arith, d.words, b.words); fact = (d.fact, b.fact) };
+}
 
 pub makes_given : (X : Type 0) (c : X → ℕ) (P : X → Type 0) (b : Bool) (x : Option ℕ) → (IsTrue b → Makes X c P x) → Makes X c P (given b x)
 unfolding given
@@ -74,16 +86,21 @@ chosen_none : (X : Type 0) (c : X → ℕ) (P : Rule → X → Type 0) → Chose
 chosen_none X c P = record { some = λ best h. cc }
 
 chosen_new : (X : Type 0) (c : X → ℕ) (P : Rule → X → Type 0) (r : Rule) (n : ℕ) → Makes X c (P r) (Some n) → Chosen X c P (Some (choice r n))
-chosen_new X c P r n h = record { some = λ best i. let is : choice r n ≡ best = cc in let Q : Choice → Type 0 = λ b. Made X c (P b.rule) b.words in subst Q is (h.some n refl) }
+chosen_new X c P r n h = record {
+  some = λ best i. let is : choice r n ≡ best = cc in let Q : Choice → Type 0 = λ b. Made X c (P b.rule) b.words in
+      subst Q is (h.some n refl);
+}
 
-chosen_better : (X : Type 0) (c : X → ℕ) (P : Rule → X → Type 0) (best : Option Choice) (r : Rule) (x : Option ℕ) → Chosen X c P best → Makes X c (P r) x → Chosen X c P (better best r x)
+chosen_better : (X : Type 0) (c : X → ℕ) (P : Rule → X → Type 0) (best : Option Choice) (r : Rule) (x : Option ℕ) → Chosen X c P best → Makes X c (P r) x
+    → Chosen X c P (better best r x)
 unfolding better
 chosen_better X c P None r None h i = h
 chosen_better X c P (Some b) r None h i = h
 chosen_better X c P None r (Some n) h i = chosen_new X c P r n i
 chosen_better X c P (Some b) r (Some n) h i = cond_both (nat_lt n b.words) (choice r n) b (λ d. Chosen X c P (Some d)) (λ t. chosen_new X c P r n i) (λ t. h)
 
-chosen_from : (X : Type 0) (c : X → ℕ) (P : Rule → X → Type 0) (best : Option Choice) (xs : List Candidate) → Chosen X c P best → AllMade X c P xs → Chosen X c P (least_from best xs)
+chosen_from : (X : Type 0) (c : X → ℕ) (P : Rule → X → Type 0) (best : Option Choice) (xs : List Candidate) → Chosen X c P best → AllMade X c P xs
+    → Chosen X c P (least_from best xs)
 unfolding least_from
 chosen_from X c P best [] h all = h
 chosen_from X c P best (x ∷ xs) h all = chosen_from X c P (better best x.rule x.words) xs (chosen_better X c P best x.rule x.words h all.0) all.1

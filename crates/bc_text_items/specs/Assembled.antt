@@ -79,7 +79,8 @@ abbrev nowhere : ℕ → ℕ
 nowhere m = 0
 
 -- `LIP3` is 6147, `K2` 49154, `X22` 57366, `LIG1` 5121
-pub short_words : assembled nowhere (Operation functions.Load true bases.P 3 ∷ Operation functions.Call false bases.Number 2 ∷ Operation functions.Execute false bases.Number 22 ∷ Operation functions.Load true bases.G 1 ∷ []) ≡ 6147 ∷ 49154 ∷ 57366 ∷ 5121 ∷ []
+pub short_words : assembled nowhere (Operation functions.Load true bases.P 3 ∷ Operation functions.Call false bases.Number 2
+    ∷ Operation functions.Execute false bases.Number 22 ∷ Operation functions.Load true bases.G 1 ∷ []) ≡ 6147 ∷ 49154 ∷ 57366 ∷ 5121 ∷ []
 short_words = refl
 
 -- `A-1` is 16896 65535

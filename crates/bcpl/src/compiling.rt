@@ -1,13 +1,16 @@
 //! The command `build`.
 
-ghost use Rattle.std.specs.Prelude.{◌<◌, ◌≡◌, All, IfOk};
+ghost use Rattle.std.specs.Prelude.{◌<◌, ◌≡◌, All, IfOk, map};
+ghost use Rattle.std.specs.List.{AllZip};
+ghost use Rattle.bc_rules_defs.specs.View.{entry as entry_view};
+ghost use Rattle.bc_cert_write.specs.Workings.{WorkedOut};
 ghost use Rattle.bcpl_faults.specs.declared.failure.Cause.TheVariants as causes;
 
 use crate::explaining::{Program, explained, warnings_of};
 use crate::ignored::ignored_gets;
 use crate::output::of_output;
 use bc_build::{BuildError, Built, build};
-use bc_cert::{CertFault, write_cert};
+use bc_cert::{CertFault, write_worked};
 use bc_lex::Source;
 use bc_library_ext::{EXTHDR, EXTLIB};
 use bc_run::{BLIB, LIBHDR};
@@ -17,9 +20,10 @@ use bcpl_faults::{Cause, Failure};
 use bcpl_files::{Written, contents, is_one_file};
 use bcpl_messages::Named;
 use bcpl_words::{BuildOrder, Library, Sources};
-use std::alloc::Global;
+use std::alloc::{AllocError, Global};
 use std::io;
 use std::io::Write;
+use std::mem::forget;
 use std::rt::Files;
 
 /// How many sources stand in front of those of the command line: LIBHDR and BLIB, of which the second becomes a segment.
@@ -169,7 +173,9 @@ fn built<F: Files>(
     alloc: Global,
     order: &BuildOrder<'_>,
     shows: bool,
-) -> Result<(Built, String), Failure> {
+) -> Result<(Built, String), Failure>
+    ensures { IfOk result (λ found. AllZip WorkedOut (map entry_view found.0.entries.items) found.0.workings.items) }
+{
     let given = &order.sources;
     let files = sources_of(rt, alloc, given)?;
     let library = library_sources(given.library);
@@ -223,9 +229,12 @@ fn write_certificate<F: Files>(
     alloc: Global,
     path: &str,
     built: &Built,
-) -> Result<(), Failure> {
+) -> Result<(), Failure>
+    requires { AllZip WorkedOut (map entry_view built.now.entries.items) built.now.workings.items }
+{
     let mut written = Written::begin(rt, alloc, path)?;
-    match write_cert(alloc, built.entries.as_slice(), written.out()) {
+    let entries = built.entries.as_slice();
+    match write_worked(alloc, entries, built.workings.as_slice(), written.out()) {
         Ok(()) => written.finish(rt, alloc, path),
         Err(fault) => {
             let failure = match fault {
@@ -284,7 +293,9 @@ fn write_files<F: Files>(
     alloc: Global,
     order: &BuildOrder<'_>,
     built: &Built,
-) -> Result<(), Failure> {
+) -> Result<(), Failure>
+    requires { AllZip WorkedOut (map entry_view built.now.entries.items) built.now.workings.items }
+{
     write_segments(rt, alloc, order.out, built.segments.as_slice())?;
     let Some(path) = order.certificate else {
         return Ok(());
@@ -303,6 +314,15 @@ fn tell<O: Write + Drop>(built: &Built, out: &mut O) -> io::Result<()> {
     out.flush()
 }
 
+/// How much is asked for at once by `make_room`: more than any vector of a build takes, and not so much that the C library passes it over.
+const ROOM: usize = 24 << 20;
+
+/// Asks for much memory and gives it back untouched. From then on the C library keeps what large vectors give back: so what reading the
+/// source took is there for its code, and the system is asked for fewer pages.
+fn make_room(alloc: Global) {
+    let _room: Result<Vec<u8>, AllocError> = Vec::with_capacity(alloc, ROOM);
+}
+
 /// Builds a program, writes its text and certificate, and tells of its size; gives what there is to warn of. `shows` says whether
 /// the place of a refusal, and warnings, are told.
 pub fn compile<F: Files, O: Write + Drop>(
@@ -312,9 +332,12 @@ pub fn compile<F: Files, O: Write + Drop>(
     shows: bool,
     out: &mut O,
 ) -> Result<String, Failure> {
+    make_room(alloc);
     spare_sources(rt, alloc, order)?;
     let (program, warnings) = built(rt, alloc, order, shows)?;
     write_files(rt, alloc, order, &program)?;
     of_output(alloc, tell(&program, out))?;
+    // The process is about to end, and the system takes all memory back at once.
+    forget(program);
     Ok(warnings)
 }

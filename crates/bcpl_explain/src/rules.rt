@@ -1,46 +1,8 @@
 //! The rule table in words.
 
 use crate::html::{Html, Part};
-use bc_rules_defs::{Aim, Mode, Rule};
+use bc_rules_defs::{Aim, Mode, RULES, Rule};
 use bc_word::Memory;
-
-/// All rules, in the order of the table.
-pub const RULES: [Rule; 34] = [
-    Rule::V0,
-    Rule::V1,
-    Rule::V2,
-    Rule::V3,
-    Rule::V4,
-    Rule::V6,
-    Rule::V7,
-    Rule::V8,
-    Rule::V9,
-    Rule::V10,
-    Rule::V11,
-    Rule::V12,
-    Rule::V13,
-    Rule::V14,
-    Rule::V15,
-    Rule::V16,
-    Rule::V17,
-    Rule::V18,
-    Rule::V19,
-    Rule::V20,
-    Rule::V21,
-    Rule::V22,
-    Rule::J1,
-    Rule::J2,
-    Rule::J3,
-    Rule::J4,
-    Rule::J5,
-    Rule::J6,
-    Rule::J7,
-    Rule::J8,
-    Rule::J9,
-    Rule::A1,
-    Rule::A2,
-    Rule::A3,
-];
 
 /// The four aims, in the order of a certificate's numbers.
 pub const AIMS: [Aim; 4] = [

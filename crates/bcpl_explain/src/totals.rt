@@ -1,8 +1,7 @@
 //! What the roots of a file come to, by routine and by rule.
 
 use crate::html::{Html, Part};
-use crate::rules::RULES;
-use bc_rules_defs::{Derivation, Rule};
+use bc_rules_defs::{Derivation, RULES, Rule};
 use bc_word::Memory;
 use std::alloc::Global;
 

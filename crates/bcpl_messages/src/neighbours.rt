@@ -200,6 +200,10 @@ fn help_for_pair(before: &[u8], at: &[u8]) -> Option<&'static str> {
     }
 }
 
+/// What is said where VEC ends its line.
+pub const VECTOR_WITHOUT_SIZE: &str =
+    "perhaps VEC lacks its size, and this line was read as that: LET V = VEC 10";
+
 /// In how many tokens in front of a place a VEC without its size is looked for.
 const LOOK_BACK: usize = 12;
 
@@ -223,7 +227,7 @@ pub fn help_for_neighbours(tokens: &[Token<'_>], index: usize) -> Option<&'stati
     let at = tokens.get(index);
     let before = back(tokens, index, 1);
     if is_behind_open_vector(tokens, index) {
-        return Some("perhaps VEC lacks its size, and this line was read as that: LET V = VEC 10");
+        return Some(VECTOR_WITHOUT_SIZE);
     }
     if is_octal(before, at) {
         return Some(

@@ -2,6 +2,7 @@ use crate::constants::{Reason, reason_of};
 use crate::declared::{Declared, declaration_of};
 use crate::likeness::{is_of_further_library, is_of_library, nearest};
 use crate::message::Message;
+use crate::neighbours::VECTOR_WITHOUT_SIZE;
 use crate::syntax::span_of;
 use crate::trial::replaced;
 use crate::words::{back, is_symbol, shown};
@@ -398,6 +399,15 @@ fn stands_behind_vector(tokens: &[Token<'_>], index: usize) -> bool {
     }
 }
 
+/// What is said of a vector's size that is no constant and begins with the token of this index.
+fn help_for_size(tokens: &[Token<'_>], index: usize) -> &'static str {
+    match tokens.get(index) {
+        Some(token) if token.line_before => VECTOR_WITHOUT_SIZE,
+        _ =>
+            "the size of a vector is a constant: take the largest that is needed, perhaps by MANIFEST",
+    }
+}
+
 /// Adds why an expression is no constant, where that is seen, and what to do.
 fn add_reason(
     alloc: Global,
@@ -406,10 +416,7 @@ fn add_reason(
     at: TokenSpan,
 ) -> Result<(), Memory> {
     if stands_behind_vector(read.tokens, at.first) {
-        message.set_help(
-            alloc,
-            "the size of a vector is a constant: take the largest that is needed, perhaps by MANIFEST",
-        )?;
+        message.set_help(alloc, help_for_size(read.tokens, at.first))?;
     }
     match reason_of(alloc, read.tokens, at.first, at.last)? {
         Some(Reason::Name(used, declared)) => {

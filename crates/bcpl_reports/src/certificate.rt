@@ -1,5 +1,6 @@
 use crate::placed::{Placed, Stretch, Text, is_byte};
-use bc_cert_lines::{Head, NodeLine, RootLine, entry_line, header, node_line, root_line};
+use bc_cert_defs::Head;
+use bc_cert_lines::{NodeLine, RootLine, entry_line, header, node_line, root_line};
 use bc_cert_node::Form;
 use bc_rules_defs::Table;
 use bc_word::Memory;

@@ -191,7 +191,7 @@ fn cost_sentence(alloc: Global, wrong: WrongNumber) -> Result<String, Memory> {
             "the least words {what} are {right} by the parts, and - stands here"
         )?,
         (None, Some(written)) => format!(in alloc;
-            "by the parts there is no code {what}, for which - is written, and {written} stands here"
+            "no code {what} can be made from the parts, so - is to stand here, and {written} stands here"
         )?,
         (None, None) => String::new(alloc),
     })

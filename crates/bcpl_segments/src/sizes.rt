@@ -109,5 +109,9 @@ pub fn too_large(alloc: Global, sizes: &[SegmentSize]) -> Result<String, Memory>
             told.push(index)?;
         }
     }
+    let left = sizes.len().saturating_sub(told.len());
+    if left > 0 {
+        write!(lines, "\n  and {left} smaller ones")?;
+    }
     Ok(lines)
 }

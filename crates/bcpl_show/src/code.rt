@@ -419,8 +419,11 @@ impl<'p, 's> Listing<'p, 's> {
             (own, "words of this segment"),
             (cells, "cells in front of all segments"),
             (primitives, "words of the primitives"),
-            (library, "words of BLIB"),
-            (sum, "is their sum, the address at which the stack begins"),
+            (library, "words of the library"),
+            (
+                sum,
+                "is their sum: where the stack begins in a program of this file alone",
+            ),
         ] {
             self.add_size(words, what)?;
         }

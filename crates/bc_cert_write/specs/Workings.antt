@@ -1,0 +1,19 @@
+-- What is worked out of an entry for its lines.
+use Rattle.std.specs.Prelude.{ℕ}
+use Rattle.std.specs.List.{AllZip}
+use Rattle.bc_core.specs.Tree.{Root}
+use Rattle.bc_rules_defs.specs.Rules.{Tree}
+use Rattle.bc_rules_defs.specs.Entry.{Entry}
+use Rattle.bc_rules.specs.Code.{IsCodeOf}
+use Rattle.bc_select_defs.specs.Nodes.{root_in_order}
+use Rattle.bc_select.specs.Rows.{IsRowOf}
+use Rattle.bc_cert_write.specs.declared.workings.Workings.{Workings}
+
+-- a row for each node of the root, and the code of the derivation with these rules
+pub record AreWorkings (r : Root) (x : Tree) (target first : ℕ) (w : Workings) : Type 0 where
+  pub rows : AllZip IsRowOf (root_in_order r) w.rows.items
+  pub code : IsCodeOf r x target first w.code.items
+
+-- these are the workings of the entry. What can hold in but one way may stand beside fields, so it is said that there is a proof.
+abbrev pub WorkedOut : Entry → Workings → Type 0
+WorkedOut e w = ∥ AreWorkings e.root e.derivation e.target e.first w ∥₁
