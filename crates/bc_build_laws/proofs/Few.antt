@@ -7,7 +7,7 @@ use Rattle.bc_core.specs.Commands.{Variable, Initial, Vector, Command, Block, bl
 use Rattle.bc_core.specs.Commands as commands
 use Rattle.bc_core.specs.Level.{side_level, cells_of_all, cells_declared, level_in_for, level_behind_parameters}
 use Rattle.bc_core.specs.Layout.{frame_size}
-use Rattle.bc_core.specs.WellFormed.{Around, Jumps, nodes, most_nodes, exp_fits, root_fits, assignment_fits, variables_fit, declarations_fit, labels_of, are_distinct, has_entries, in_a_loop, in_list, command_fits, block_fits, items_fit, jumps_in_routine, jumps_in_valof, body_fits, global_fits, places_fit, valofs_fit}
+use Rattle.bc_core.specs.WellFormed.{Around, Jumps, nodes, most_nodes, exp_fits, root_fits, assignment_fits, variables_fit, declarations_fit, labels_of, are_distinct, entries_differ, has_entries, in_a_loop, in_list, command_fits, block_fits, items_fit, jumps_in_routine, jumps_in_valof, body_fits, global_fits, places_fit, valofs_fit}
 use Rattle.bc_select_defs.specs.Nodes.{root_nodes}
 use Rattle.bc_scope_defs.specs.Translation.{core_of}
 use Rattle.bc_scope_laws.proofs.Fitting.{sections_fit}
@@ -90,8 +90,9 @@ mutual
       let x = root_fits A e s in
       let y = are_distinct (labels_of is) in
       let J1 = in_list is (record J { in_cases = true }) in
-      let p = and_parts (x && y) (items_fit A J1 is s) h in
-      (root_few A e s (and_parts x y p.0).0, items_few A J1 is s p.1)
+      let z = entries_differ is in
+      let p = and_parts (x && y && z) (items_fit A J1 is s) h in
+      (root_few A e s (and_parts x y (and_parts (x && y) z p.0).0).0, items_few A J1 is s p.1)
   command_few A J commands.Break s h = tt
   command_few A J commands.Loop s h = tt
   command_few A J commands.EndCase s h = tt
