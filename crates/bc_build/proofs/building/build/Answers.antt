@@ -30,7 +30,7 @@ loop-number-preserved c =
     record {
       coded = subst (λ (ss : List (List Item)). AreCoded files mains (n + 1) left ss c.add_entries.new.all.items) (sym c.in_ok-push.ensures.items)
           (coded_more files mains n (get_or mains n 0) left c.loop-number.segments.items c.loop-number.entries.items g.items g.entries.items c.add_entries.new.all.items a c.in_ok-items.ensures.compiled c.in_ok-add_entries.ensures.added);
-      worked = worked_more n c.loop-number.entries.items g.entries.items c.add_entries.new.all.items c.loop-number.workings.items g.workings.items c.append.new.workings.items
+      worked = worked_more n c.loop-number.entries.items g.entries.items c.add_entries.new.all.items c.loop-number.workings.items g.workings.items c.append.new.self.items
           c.in_ok-add_entries.ensures.added c.in_ok-append.ensures.items c.loop-number.invariant.worked c.in_ok-items.ensures.worked;
     }
 
