@@ -1,5 +1,5 @@
--- What every section keeps: its labels, numbers and jump targets exist, and its frames and roots are no larger
--- than allowed.
+-- What every section keeps: its labels, numbers and jump targets exist, each CASE of a SWITCHON and its DEFAULT
+-- stand once, and its frames and roots are no larger than allowed.
 use Rattle.std.specs.Prelude.{ℕ, suc, ◌+◌, ◌==◌, ◌&&◌, ◌||◌, not, nat_le, nat_lt, Bool, true, false, List, [], ◌∷◌, ◌++◌, map, length, slice_get, Option, Some, None}
 use Rattle.bc_core.specs.Tree.{Exp, Frame, Glob, Place, Load, Neg, Not, Bin, Cond, Call, Args, no_argument, argument, count}
 use Rattle.bc_core.specs.Tree as tree
