@@ -3,12 +3,11 @@
 
 ghost use Rattle.std.specs.Prelude.{◌≡◌, ◌+◌, ◌≤◌, ◌==◌, IfOk};
 ghost use Rattle.bc_word.specs.Words.{number_of};
-ghost use Rattle.bc_rules_defs.specs.Piece.{w, operand_words as words_of_operand};
 ghost use Rattle.bc_select_defs.specs.Options.{plus as plus_of, more as more_of, sum as sum_of, given as given_of, only as only_of, operand_cost, better as better_of, words_of, candidate as candidate_of};
 ghost use Rattle.bc_select_defs.specs.Choices.{number_cost as cost_of_number};
 
-use bc_core::{Base, Operand};
-use bc_rules_defs::Rule;
+use bc_core::Operand;
+use bc_rules_defs::{Rule, number_words, operand_words};
 use bc_select_defs::{Candidate, Choice};
 use bc_word::{Memory, Op, Word};
 
@@ -19,24 +18,6 @@ pub fn add(x: u64, y: u64) -> Result<u64, Memory>
     match x.checked_add(y) {
         Some(sum) => Ok(sum),
         None => Err(Memory),
-    }
-}
-
-/// The words that a number takes in an instruction.
-pub fn number_words(number: u64) -> u64
-    ensures words { result ≡ w number }
-    ensures few { result ≤ 2 }
-{
-    if number <= 511 { 1 } else { 2 }
-}
-
-/// The words that an operand takes.
-fn operand_words(operand: Operand) -> u64
-    ensures { result ≡ words_of_operand operand }
-{
-    match operand.base {
-        Base::Label => 2,
-        Base::Number | Base::P | Base::G => number_words(u64::from(operand.n.get())),
     }
 }
 

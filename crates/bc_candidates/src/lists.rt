@@ -12,7 +12,7 @@ use crate::adding::{alone, better, candidate, plus, words};
 use crate::beginning::{Beginning, Candidates};
 use crate::pair::{Pair, tests_on_false, tests_on_true};
 use bc_core::Operand;
-use bc_rules_defs::Rule;
+use bc_rules_defs::{Rule, jumps};
 use bc_select_defs::{Candidate, Choice, Choices};
 use bc_word::{Memory, Word};
 use std::alloc::Global;
@@ -174,7 +174,7 @@ impl Values {
 fn number_jump(sense: bool, number: Word) -> u64
     ensures { result ≡ cond (jumps_of sense number) 2 0 }
 {
-    if (number.get() != 0) == sense { 2 } else { 0 }
+    if jumps(sense, number) { 2 } else { 0 }
 }
 
 /// The rules that a node may have, for each aim.

@@ -14,12 +14,12 @@ ghost use Rattle.bc_select_defs.specs.Nodes.{in_order, all_in_order};
 ghost use Rattle.bc_candidates.specs.Lists.{pushes, values, line, unary as unary_of, pair as lists_of_pair, conditional, parts_in_order, applying_lists};
 ghost use Rattle.bc_candidates.specs.Below.{IsBelow, IsPart, AreArguments, Adds};
 
-use crate::adding::{add, candidate, number_words, plus, sum, words};
+use crate::adding::{add, candidate, plus, sum, words};
 use crate::beginning::Candidates;
 use crate::lists::{Lists, Values};
 use crate::pair::{Pair, mixed, worked};
 use bc_core::{CoreExp, Operand, constant, operand};
-use bc_rules_defs::Rule;
+use bc_rules_defs::{Rule, number_words};
 use bc_select_defs::{Choices, Node};
 use bc_word::{Memory, Op};
 use std::alloc::Global;

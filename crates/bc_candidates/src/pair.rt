@@ -4,16 +4,16 @@
 ghost use Rattle.std.specs.Prelude.{◌≡◌, IfOk, true, false};
 ghost use Rattle.bc_select_defs.specs.Options.{plus as plus_of, words_of};
 ghost use Rattle.bc_rules_defs.specs.declared.rule.Table.TheVariants.{Two};
-ghost use Rattle.bc_rules_defs.specs.Free.{direct_operand, is_plain_operator};
-ghost use Rattle.bc_select_defs.specs.Choices.{zero_number, beside as beside_of, without as without_of, free as are_free, mixed as mixed_of, worked as worked_of, pair_tests as tests_of};
+ghost use Rattle.bc_rules_defs.specs.Free.{is_plain_operator};
+ghost use Rattle.bc_select_defs.specs.Choices.{beside as beside_of, without as without_of, free as are_free, mixed as mixed_of, worked as worked_of, pair_tests as tests_of};
 
 use crate::adding::{
-    add, alone, both, candidate, given, more, number_cost, number_words, only, plus, sum, words,
+    add, alone, both, candidate, given, more, number_cost, only, plus, sum, words,
 };
 use bc_core::Operand;
-use bc_rules_defs::Rule;
-use bc_select_defs::{Candidate, Node};
-use bc_word::{Memory, Op, Word, mirror};
+use bc_rules_defs::{Rule, is_direct, number_words};
+use bc_select_defs::{Candidate, Node, is_zero};
+use bc_word::{Memory, Op, mirror};
 
 /// A binary operator at a level, with its operands.
 #[derive(Clone, Copy)]
@@ -22,24 +22,6 @@ pub struct Pair {
     pub left: Node,
     pub right: Node,
     pub level: u64,
-}
-
-fn is_zero(number: Option<Word>) -> bool
-    ensures { result ≡ zero_number number }
-{
-    match number {
-        None => false,
-        Some(n) => n.get() == 0,
-    }
-}
-
-fn is_direct(operand: Option<Operand>) -> bool
-    ensures { result ≡ direct_operand operand }
-{
-    match operand {
-        None => false,
-        Some(operand) => operand.direct,
-    }
 }
 
 /// Whether two expressions may be worked out in either order.

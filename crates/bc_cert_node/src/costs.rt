@@ -1,11 +1,8 @@
 ghost use Rattle.std.specs.Prelude.{◌≡◌, ◌≤◌};
-ghost use Rattle.bc_rules_defs.specs.Piece.{w, operand_words as words_of_operand};
 ghost use Rattle.bc_cert_node.specs.Costs.{cost_of, least_of, are_costs, same_words};
 
 use bc_cert_defs::Costs;
-use bc_core::Operand;
 use bc_rules_defs::{Aim, Mode};
-use bc_text_items::Base;
 
 /// The words for this aim.
 #[inline(always)]
@@ -51,25 +48,5 @@ fn is_same(words: Option<u128>, number: Option<u64>) -> bool
         (Some(words), Some(number)) => words == u128::from(number),
         (None, None) => true,
         (Some(_), None) | (None, Some(_)) => false,
-    }
-}
-
-/// The words of an instruction with this number.
-#[inline(always)]
-pub fn number_words(number: u64) -> u8
-    ensures exact { result ≡ w number }
-    ensures few { result ≤ 2 }
-{
-    if number <= 511 { 1 } else { 2 }
-}
-
-/// The words of an instruction with this operand.
-pub fn operand_words(operand: Operand) -> u8
-    ensures exact { result ≡ words_of_operand operand }
-    ensures few { result ≤ 2 }
-{
-    match operand.base {
-        Base::Label => 2,
-        Base::Number | Base::P | Base::G => number_words(u64::from(operand.n.get())),
     }
 }

@@ -4,9 +4,9 @@ ghost use Rattle.bc_core.specs.Operand.{constant_of};
 ghost use Rattle.bc_select_defs.specs.Choices.{zero_number};
 ghost use Rattle.bc_cert_node.specs.Recipe.{free, facts_of, words_of_operand_of, is_direct_expression};
 
-use crate::costs::operand_words;
 use bc_cert_defs::Costs;
 use bc_core::{CoreExp, constant, operand};
+use bc_rules_defs::operand_words;
 
 /// What the rules ask of a part.
 #[derive(Clone, Copy)]
@@ -54,7 +54,7 @@ pub fn words_as_operand(e: &CoreExp) -> Option<u8>
     ensures { result ≡ words_of_operand_of (exp e.now) }
 {
     match operand(e) {
-        Some(operand) => Some(operand_words(operand)),
+        Some(operand) => Some(operand_words(operand) as u8),
         None => None,
     }
 }
@@ -66,7 +66,7 @@ fn as_operand(e: &CoreExp) -> (Option<u8>, bool)
     match operand(e) {
         Some(operand) => {
             let is_direct = operand.direct;
-            (Some(operand_words(operand)), is_direct)
+            (Some(operand_words(operand) as u8), is_direct)
         }
         None => (None, false),
     }

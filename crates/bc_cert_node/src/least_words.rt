@@ -12,9 +12,9 @@ ghost use Rattle.bc_cert_node.specs.Node.{node, node_of, words_where, least as l
 use crate::costs::LeastWords;
 use crate::facts::Facts;
 use crate::form::Form;
-use crate::node::{Node, jumps, lesser, pushes, sum, test_of_two, tests, value_of_two, values};
+use crate::node::{Node, lesser, pushes, sum, test_of_two, tests, value_of_two, values};
 use crate::recipe::{Recipe, Takes, makes, with_operand};
-use bc_rules_defs::{Aim, Mode, Rule};
+use bc_rules_defs::{Aim, Mode, Rule, jumps};
 use bc_word::{Op, Word};
 
 /// The two parts of a dyadic operator.

@@ -8,7 +8,7 @@ mod least_words;
 mod node;
 mod recipe;
 
-pub use costs::{LeastWords, number_words};
+pub use costs::LeastWords;
 pub use facts::{Facts, are_free, words_as_operand};
 pub use form::Form;
 pub use node::{Node, lesser};

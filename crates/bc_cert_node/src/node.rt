@@ -2,16 +2,15 @@
 #![tactic(auto, unfolding(bc_select_defs::specs::Options::plus, bc_select_defs::specs::Options::sum, bc_select_defs::specs::Options::given))]
 
 ghost use Rattle.std.specs.Prelude.{◌≡◌, ◌<◌, ◌≤◌, ◌+◌, ◌^◌, None, IfSome};
-ghost use Rattle.bc_rules_defs.specs.Free.{jumps_at};
 ghost use Rattle.bc_select_defs.specs.Options.{sum as sum_of};
 ghost use Rattle.bc_cert_node.specs.Recipe.{of_form, value_of_two as value_by, both_parts as both_by, test_of_two as test_by, zero_test, beside_zero as beside_by, without_zero as without_by, less_number as less_by, in_any as in_any_of, where_so};
 ghost use Rattle.bc_cert_node.specs.Node.{node, recipe_by, words_of as words_of_recipe, wanted, held, words_by, least, pushes_of, values_of, tests_of, lesser as lesser_of};
 
-use crate::costs::{number_words, words_for};
+use crate::costs::words_for;
 use crate::facts::{Facts, are_free};
 use crate::form::Form;
 use crate::recipe::{Recipe, Takes, makes, only, with_operand};
-use bc_rules_defs::{Aim, Mode, Rule, Table};
+use bc_rules_defs::{Aim, Mode, Rule, Table, jumps, number_words};
 use bc_word::{Op, Word, mirror};
 
 /// A node of a certificate, over what the rules ask of its parts.
@@ -83,7 +82,7 @@ impl<'p> Node<'p> {
             },
             Form::Call(_) => match (rule, aim) {
                 (Rule::V22, Aim::Gets(Mode::Any)) => {
-                    makes(Takes::Call, u64::from(number_words(u64::from(self.level))))
+                    makes(Takes::Call, number_words(u64::from(self.level)))
                 }
                 _ => None,
             },
@@ -128,7 +127,7 @@ impl<'p> Node<'p> {
 
     /// The words that put an argument of a call in its cell.
     #[inline(always)]
-    fn held(&self, takes: Takes, at: usize, is_last: bool) -> u8
+    fn held(&self, takes: Takes, at: usize, is_last: bool) -> u64
         requires { at < 2 ^ 63 }
         ensures exact { result ≡ held takes self.now.level at is_last }
         ensures few { result ≤ 2 }
@@ -275,14 +274,6 @@ pub fn tests(form: Form) -> &'static [Rule]
     }
 }
 
-/// Whether a number in a test position jumps.
-#[inline(always)]
-pub fn jumps(sense: bool, number: Word) -> bool
-    ensures { result ≡ jumps_at sense number }
-{
-    (number.get() != 0) == sense
-}
-
 /// Only where it is so.
 #[inline(always)]
 fn given(holds: bool, recipe: Option<Recipe>) -> Option<Recipe>
@@ -336,7 +327,7 @@ fn less_number(number: Option<u16>, aim: Aim) -> Option<Recipe>
     match number {
         Some(n) => makes(
             Takes::First(aim),
-            u64::from(number_words(u64::from(Word::new(n).negated().get()))),
+            number_words(u64::from(Word::new(n).negated().get())),
         ),
         None => None,
     }
@@ -386,8 +377,8 @@ fn both_parts(rule: Rule, op: Op, level: u16, free: bool) -> Option<Recipe>
 {
     let in_order = Takes::InOrder(ANY, ANY);
     let pushed = Takes::Turned(PUSH, ANY);
-    let held = 2 * u64::from(number_words(u64::from(level)));
-    let held_too = 2 * u64::from(number_words(u64::from(level) + 1));
+    let held = 2 * number_words(u64::from(level));
+    let held_too = 2 * number_words(u64::from(level) + 1);
     let mirrored = mirror(op).is_some();
     match rule {
         Rule::V12 => makes(Takes::InOrder(ANY, PUSH), 1),

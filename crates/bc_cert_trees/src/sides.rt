@@ -3,8 +3,8 @@
 ghost use Rattle.std.specs.Prelude.{◌≡◌};
 ghost use Rattle.bc_cert_trees.specs.Sides.{words_by as words_by_of, least_of, same as same_of};
 
-use bc_cert_node::{Facts, are_free, lesser, number_words};
-use bc_rules_defs::Rule;
+use bc_cert_node::{Facts, are_free, lesser};
+use bc_rules_defs::{Rule, number_words};
 
 /// An assignment at a level, over what the rules ask of its sides.
 #[derive(Clone, Copy)]

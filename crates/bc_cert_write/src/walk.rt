@@ -14,28 +14,9 @@ use crate::form::without_parts;
 use crate::mark::Mark;
 use crate::trees::{address, at, left, only, own, parts, right, rules_at, that, this, value};
 use bc_core::{CoreExp, Root, operand};
-use bc_rules_defs::Derivation;
+use bc_rules_defs::{Derivation, is_zero};
 use bc_word::Memory;
 use std::alloc::Global;
-
-/// Whether an expression is the number 0.
-fn is_zero(e: &CoreExp) -> bool
-    ensures { result ≡ is_zero_of (exp e.now) }
-{
-    match e {
-        CoreExp::Num(number) => number.get() == 0,
-        CoreExp::Frame(_)
-        | CoreExp::Glob(_)
-        | CoreExp::Place(_)
-        | CoreExp::Load(_)
-        | CoreExp::Neg(_)
-        | CoreExp::Not(_)
-        | CoreExp::Bin(_, _, _)
-        | CoreExp::Cond(_, _, _)
-        | CoreExp::Call(_, _)
-        | CoreExp::Valof(_) => false,
-    }
-}
 
 /// Two operands, with the trees of the rule that stands above them.
 #[cycle(walking)]

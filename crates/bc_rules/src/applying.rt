@@ -1,12 +1,12 @@
 ghost use Rattle.std.specs.Prelude.{◌≡◌};
 ghost use Rattle.bc_core.specs.View.{exp};
-ghost use Rattle.bc_rules_defs.specs.Free.{is_plain, is_zero, beside_zero, without_zero as without_zero_of};
+ghost use Rattle.bc_rules_defs.specs.Free.{is_plain, beside_zero, without_zero as without_zero_of};
 ghost use Rattle.bc_rules_defs.specs.Parts.{parts_of as parts_by, node_parts as node_parts_of, operator_parts, value_parts as value_parts_of, test_parts as test_parts_of, assignment_parts as assignment_parts_of, single_if, in_any, where_true, triple, pair as pair_of};
 ghost use Rattle.bc_rules.specs.View.{parts, expression};
 
 use crate::parts::{Part, Parts};
 use bc_core::{CoreExp, constant, operand};
-use bc_rules_defs::{Aim, Mode, Rule};
+use bc_rules_defs::{Aim, Mode, Rule, is_zero};
 use bc_word::{Op, mirror};
 
 /// Whether the test of an expression is made of its value: neither NOT nor `&` nor the bar is on top.
@@ -45,31 +45,13 @@ fn plain(e: &CoreExp) -> bool
     }
 }
 
-fn zero(e: &CoreExp) -> bool
-    ensures { result ≡ is_zero (exp e.now) }
-{
-    match e {
-        CoreExp::Num(n) => n.get() == 0,
-        CoreExp::Frame(_)
-        | CoreExp::Glob(_)
-        | CoreExp::Place(_)
-        | CoreExp::Load(_)
-        | CoreExp::Neg(_)
-        | CoreExp::Not(_)
-        | CoreExp::Bin(_, _, _)
-        | CoreExp::Cond(_, _, _)
-        | CoreExp::Call(_, _)
-        | CoreExp::Valof(_) => false,
-    }
-}
-
 /// What stands beside a 0; of two 0s the right one is dropped.
 fn beside<'a>(a: &'a CoreExp, b: &'a CoreExp) -> Option<&'a CoreExp>
     ensures { expression result ≡ beside_zero (exp a.now) (exp b.now) }
 {
-    if zero(b) {
+    if is_zero(b) {
         Some(a)
-    } else if zero(a) {
+    } else if is_zero(a) {
         Some(b)
     } else {
         None
@@ -82,7 +64,7 @@ fn without_zero<'a>(op: Op, a: &'a CoreExp, b: &'a CoreExp) -> Option<&'a CoreEx
 {
     match op {
         Op::Add => beside(a, b),
-        Op::Subtract => { if zero(b) { Some(a) } else { None } }
+        Op::Subtract => { if is_zero(b) { Some(a) } else { None } }
         _ => None,
     }
 }

@@ -3,14 +3,13 @@
 ghost use Rattle.std.specs.Prelude.{◌≡◌, [], OnOk};
 ghost use Rattle.bc_core.specs.View.{exp};
 ghost use Rattle.bc_rules_defs.specs.ByShape.{left_operand as left_operand_of, right_operand as right_operand_of, right_constant as right_constant_of, operator_mirror, leaf_code, behind_single as behind_single_of, between as between_of, behind_pair as behind_pair_of, behind_sides as behind_sides_of, with_operand, less_constant, operator_number};
-ghost use Rattle.bc_rules_defs.specs.Free.{jumps_at};
 ghost use Rattle.bc_rules_defs.specs.Piece.{on};
 ghost use Rattle.bc_rules.specs.Adds.{Adds};
 
 use crate::parts::Part;
 use crate::writer::{Writer, more};
 use bc_core::{CoreExp, Operand, constant, operand};
-use bc_rules_defs::{Aim, Piece, Rule};
+use bc_rules_defs::{Aim, Piece, Rule, jumps};
 use bc_text_items::Function;
 use bc_word::{Memory, Word, mirror};
 
@@ -82,13 +81,6 @@ fn apply_mirror(w: &mut Writer, e: &CoreExp) -> Result<(), Memory>
         },
         _ => Ok(()),
     }
-}
-
-/// Whether a number jumps in a test position.
-fn jumps(sense: bool, n: Word) -> bool
-    ensures { result ≡ jumps_at sense n }
-{
-    if sense { n.get() != 0 } else { n.get() == 0 }
 }
 
 /// The code of a rule without parts.

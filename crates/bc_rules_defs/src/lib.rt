@@ -3,6 +3,7 @@
 
 mod derivation;
 mod entry;
+mod facts;
 pub mod laws;
 mod names;
 mod piece;
@@ -10,6 +11,7 @@ mod rule;
 
 pub use derivation::Derivation;
 pub use entry::Entry;
+pub use facts::{is_direct, is_zero, jumps, number_words, operand_words};
 pub use names::RULES;
 pub use piece::Piece;
 pub use rule::{Aim, Mode, Rule, Table};

@@ -3,34 +3,14 @@
 
 ghost use Rattle.std.specs.Prelude.{◌≡◌, ◌<◌, ◌≤◌, ◌+◌, ◌==◌, ◌^◌};
 ghost use Rattle.bc_word.specs.Words.{number_of};
-ghost use Rattle.bc_rules_defs.specs.Piece.{w, operand_words as words_of_operand};
 ghost use Rattle.bc_select_defs.specs.Options.{plus as plus_of, more, sum as sum_of, operand_cost, words_of, better as better_of};
 ghost use Rattle.bc_select_defs.specs.Choices.{number_cost as cost_of_number};
 ghost use Rattle.bc_select.specs.Small.{Small};
 
-use bc_core::{Base, Operand};
-use bc_rules_defs::Rule;
+use bc_core::Operand;
+use bc_rules_defs::{Rule, number_words, operand_words};
 use bc_select_defs::Choice;
 use bc_word::{Op, Word};
-
-/// The words that a number takes in an instruction.
-pub fn number_words(number: u64) -> u64
-    ensures words { result ≡ w number }
-    ensures few { result ≤ 2 }
-{
-    if number <= 511 { 1 } else { 2 }
-}
-
-/// The words that an operand takes.
-pub fn operand_words(operand: Operand) -> u64
-    ensures words { result ≡ words_of_operand operand }
-    ensures few { result ≤ 2 }
-{
-    match operand.base {
-        Base::Label => 2,
-        Base::Number | Base::P | Base::G => number_words(u64::from(operand.n.get())),
-    }
-}
 
 /// The words of adding the negation of a number.
 pub fn number_cost(number: Option<Word>) -> Option<u64>

@@ -2,15 +2,14 @@
 #![tactic(auto, unfolding(bc_select_defs::specs::Options::better, bc_select_defs::specs::Options::least_from, bc_select_defs::specs::Options::operand_cost))]
 
 ghost use Rattle.std.specs.Prelude.{◌≡◌, ◌<◌, ◌≤◌, ◌+◌, ◌^◌, None, true, false};
-ghost use Rattle.bc_rules_defs.specs.Free.{jumps_at as jumps_of};
 ghost use Rattle.bc_core.specs.Operand.{content_of};
 ghost use Rattle.bc_select_defs.specs.Options.{words_of, least_from as least_of};
 ghost use Rattle.bc_select_defs.specs.Choices.{number_tests, leaf_choices as leaf_of, number_choices as number_of, unary_choices as unary_of, not_choices as not_of, cond_choices as cond_of, call_choices as call_of, valof_choices as valof_of, by_value as by_value_of};
 ghost use Rattle.bc_select.specs.Small.{Small, AreSmall};
 
-use crate::candidates::{alone, any_words, better, both, number_words, plus, three, words};
+use crate::candidates::{alone, any_words, better, both, plus, three, words};
 use bc_core::Operand;
-use bc_rules_defs::Rule;
+use bc_rules_defs::{Rule, jumps, number_words};
 use bc_select_defs::{Choice, Choices};
 use bc_word::Word;
 
@@ -28,13 +27,6 @@ pub fn content(operand: Option<Operand>) -> Option<Operand>
     } else {
         None
     }
-}
-
-/// Whether a number in a test position jumps.
-fn jumps(sense: bool, number: Word) -> bool
-    ensures { result ≡ jumps_of sense number }
-{
-    (number.get() != 0) == sense
 }
 
 /// The choice of a test that is made of a value.

@@ -5,20 +5,19 @@ ghost use Rattle.std.specs.Prelude.{◌≡◌, ◌<◌, ◌≤◌, ◌+◌, ◌^
 ghost use Rattle.bc_rules_defs.specs.declared.rule.Table.TheVariants.{Two};
 ghost use Rattle.bc_rules_defs.specs.declared.rule.Rule.TheVariants.{V0, J6};
 ghost use Rattle.bc_word.specs.declared.operator.Op.TheVariants.{Add, Subtract};
-ghost use Rattle.bc_rules_defs.specs.Free.{direct_operand};
 ghost use Rattle.bc_select_defs.specs.Options.{least_from as least_of, better as better_of, plus as plus_of, words_of, given as given_of, only as only_of, candidate};
-ghost use Rattle.bc_select_defs.specs.Choices.{zero_number, beside as beside_of, free as are_free, mixed as mixed_of, worked as worked_of, pair_tests as tests_of, pair_choices as choices_of};
+ghost use Rattle.bc_select_defs.specs.Choices.{beside as beside_of, free as are_free, mixed as mixed_of, worked as worked_of, pair_tests as tests_of, pair_choices as choices_of};
 ghost use Rattle.bc_select_defs.specs.Chosen.{assign_choice as assignment_of};
 ghost use Rattle.bc_select.specs.Small.{Small, AreSmall};
 
 use crate::candidates::{
-    alone, any_words, better, both, is, number_cost, number_words, operand_words, plus, sum,
-    with_operand, with_operand_and, words,
+    alone, any_words, better, both, is, number_cost, plus, sum, with_operand, with_operand_and,
+    words,
 };
 use bc_core::Operand;
-use bc_rules_defs::Rule;
-use bc_select_defs::{Choice, Choices, Node};
-use bc_word::{Op, Word, mirror};
+use bc_rules_defs::{Rule, is_direct, number_words, operand_words};
+use bc_select_defs::{Choice, Choices, Node, is_zero};
+use bc_word::{Op, mirror};
 
 /// A binary operator at a level, with its operands.
 #[derive(Clone, Copy)]
@@ -27,24 +26,6 @@ pub struct Pair {
     pub left: Node,
     pub right: Node,
     pub level: u64,
-}
-
-pub fn is_zero(number: Option<Word>) -> bool
-    ensures { result ≡ zero_number number }
-{
-    match number {
-        None => false,
-        Some(n) => n.get() == 0,
-    }
-}
-
-fn is_direct(operand: Option<Operand>) -> bool
-    ensures { result ≡ direct_operand operand }
-{
-    match operand {
-        None => false,
-        Some(operand) => operand.direct,
-    }
 }
 
 /// Whether two expressions may be worked out in either order.

@@ -18,12 +18,12 @@ ghost use Rattle.bc_select.specs.declared.part.Part.{Part};
 ghost use Rattle.bc_select.specs.Vector.{vector, before, before_all};
 ghost use Rattle.bc_select.specs.Reads.{own_parts, parts_for};
 
-use crate::pair::is_zero;
 use crate::plan::{Plan, Side, sides};
 use crate::table::Nodes;
 use crate::waiting::{Place, Step, Waiting, wait};
 use bc_core::{CoreExp, constant};
 use bc_rules_defs::{Aim, Mode, Rule};
+use bc_select_defs::is_zero;
 use bc_word::Memory;
 
 pub const ANY: Aim = Aim::Gets(Mode::Any);

@@ -12,7 +12,7 @@ ghost use Rattle.bc_select.specs.Laid.{EndsInParts, EndsInArguments, AreFew, wor
 ghost use Rattle.bc_select.specs.Vector.{node as node_of, part_of_pair};
 ghost use Rattle.bc_select.specs.Small.{Small, AreSmall};
 
-use crate::candidates::{number_words, plus, sum, words};
+use crate::candidates::{plus, sum, words};
 use crate::line::{
     call_choices, cond_choices, leaf_choices, not_choices, number_choices, unary_choices,
     valof_choices,
@@ -22,7 +22,7 @@ use crate::part::{Part, cell_operand, own_operand};
 use crate::split::{cut, last};
 use crate::table::Nodes;
 use bc_core::{CoreExp, Operand, constant};
-use bc_rules_defs::Rule;
+use bc_rules_defs::{Rule, number_words};
 use bc_select_defs::{Choices, Node};
 use bc_word::Op;
 

@@ -3,5 +3,7 @@
 
 mod choice;
 pub mod laws;
+mod zero;
 
 pub use choice::{Candidate, Choice, Choices, Node};
+pub use zero::is_zero;

@@ -1,7 +1,7 @@
 //! The parts of an expression, and which of them a rule derives.
 
-use bc_core::{CoreExp, constant};
-use bc_rules_defs::{Aim, Mode, Rule};
+use bc_core::CoreExp;
+use bc_rules_defs::{Aim, Mode, Rule, is_zero};
 use bc_word::Memory;
 use std::alloc::Global;
 
@@ -129,14 +129,6 @@ fn uses(alloc: Global, list: &[(usize, Aim)]) -> Result<Vec<Use>, Memory> {
         found.push(Use { part, aim })?;
     }
     Ok(found)
-}
-
-/// Whether an expression is the number 0.
-fn is_zero(e: &CoreExp) -> bool {
-    match constant(e) {
-        Some(number) => number.get() == 0,
-        None => false,
-    }
 }
 
 /// The part of an operator beside a 0; the second 0 is dropped first.

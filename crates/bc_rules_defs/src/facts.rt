@@ -1,0 +1,66 @@
+// What the rules ask of numbers, operands and expressions.
+
+ghost use Rattle.std.specs.Prelude.{◌≡◌, ◌≤◌};
+ghost use Rattle.bc_core.specs.View.{exp};
+ghost use Rattle.bc_rules_defs.specs.Piece.{w, operand_words as words_of_operand};
+ghost use Rattle.bc_rules_defs.specs.Free.{direct_operand, jumps_at, is_zero as is_zero_of};
+
+use bc_core::{Base, CoreExp, Operand};
+use bc_word::Word;
+
+/// The words of an instruction with this number: 1 to 511, 2 from 512 on.
+#[inline(always)]
+pub fn number_words(number: u64) -> u64
+    ensures words { result ≡ w number }
+    ensures few { result ≤ 2 }
+{
+    if number <= 511 { 1 } else { 2 }
+}
+
+/// The words of an instruction with this operand.
+pub fn operand_words(operand: Operand) -> u64
+    ensures words { result ≡ words_of_operand operand }
+    ensures few { result ≤ 2 }
+{
+    match operand.base {
+        Base::Label => 2,
+        Base::Number | Base::P | Base::G => number_words(u64::from(operand.n.get())),
+    }
+}
+
+/// Whether there is such an operand, and it is a number or an address, and not the content of a cell.
+pub fn is_direct(operand: Option<Operand>) -> bool
+    ensures { result ≡ direct_operand operand }
+{
+    match operand {
+        None => false,
+        Some(operand) => operand.direct,
+    }
+}
+
+/// Whether a number in the position of a test jumps, where the test is to jump on this truth.
+#[inline(always)]
+pub fn jumps(sense: bool, number: Word) -> bool
+    ensures { result ≡ jumps_at sense number }
+{
+    (number.get() != 0) == sense
+}
+
+/// Whether an expression is the number 0.
+pub fn is_zero(e: &CoreExp) -> bool
+    ensures { result ≡ is_zero_of (exp e.now) }
+{
+    match e {
+        CoreExp::Num(number) => number.get() == 0,
+        CoreExp::Frame(_)
+        | CoreExp::Glob(_)
+        | CoreExp::Place(_)
+        | CoreExp::Load(_)
+        | CoreExp::Neg(_)
+        | CoreExp::Not(_)
+        | CoreExp::Bin(_, _, _)
+        | CoreExp::Cond(_, _, _)
+        | CoreExp::Call(_, _)
+        | CoreExp::Valof(_) => false,
+    }
+}

@@ -1,0 +1,14 @@
+ghost use Rattle.std.specs.Prelude.{◌≡◌};
+ghost use Rattle.bc_select_defs.specs.Choices.{zero_number};
+
+use bc_word::Word;
+
+/// Whether there is such a number, and it is 0.
+pub fn is_zero(number: Option<Word>) -> bool
+    ensures { result ≡ zero_number number }
+{
+    match number {
+        None => false,
+        Some(n) => n.get() == 0,
+    }
+}
