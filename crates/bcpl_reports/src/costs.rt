@@ -1,0 +1,112 @@
+use crate::certificate::Entry;
+use crate::least::least_of;
+use crate::report::{Part, Report};
+use bc_cert_lines::NodeLine;
+use bc_cert_node::LeastWords;
+use bc_word::Memory;
+
+/// What the numbers of a node line are of, in their order.
+const NUMBERS: [&str; 4] = [
+    "of the value",
+    "of the value where B becomes what A was",
+    "of a test that jumps on false",
+    "of a test that jumps on true",
+];
+
+/// A number of a node line that is not the least.
+#[derive(Clone, Copy)]
+struct WrongNumber {
+    /// The index of its field.
+    field: usize,
+    what: &'static str,
+    right: Option<u128>,
+    written: Option<u128>,
+}
+
+/// The first number of a node line that is not the least.
+fn wrong_number(least: &LeastWords, line: &NodeLine) -> Option<WrongNumber> {
+    let costs = line.costs;
+    let right = [least.any, least.push, least.on_false, least.on_true];
+    let written = [
+        Some(costs.any),
+        costs.push,
+        Some(costs.on_false),
+        Some(costs.on_true),
+    ];
+    for (index, what) in NUMBERS.iter().enumerate() {
+        let right = right.get(index).copied()?;
+        let written = match written.get(index).copied()? {
+            Some(words) => Some(u128::from(words)),
+            None => None,
+        };
+        if right != written {
+            return Some(WrongNumber {
+                field: index.saturating_add(2),
+                what: *what,
+                right,
+                written,
+            });
+        }
+    }
+    None
+}
+
+/// A number of a node line, which has a sign where there is none.
+fn words(number: Option<u128>) -> Part<'static> {
+    match number {
+        Some(number) => Part::Number(number),
+        None => Part::Text("-"),
+    }
+}
+
+/// Adds what is said of a number of a node that is not the least.
+fn add_wrong(
+    report: &mut Report,
+    entry: &Entry<'_>,
+    node: usize,
+    wrong: WrongNumber,
+) -> Result<(), Memory> {
+    let (before, are, by) = if wrong.right.is_some() {
+        ("the least words ", " are ", " by the parts, and ")
+    } else {
+        (
+            "no code ",
+            " can be made from the parts, so ",
+            " is to stand here, and ",
+        )
+    };
+    report.place(
+        entry.lined.field(entry.line(node), wrong.field),
+        &[
+            Part::Text(before),
+            Part::Text(wrong.what),
+            Part::Text(are),
+            words(wrong.right),
+            Part::Text(by),
+            words(wrong.written),
+            Part::Text(" stands here"),
+        ],
+    )
+}
+
+/// The first number of a node that is not the least; none where that isn't known.
+fn wrong_at(
+    report: &Report,
+    entry: &Entry<'_>,
+    node: usize,
+) -> Result<Option<WrongNumber>, Memory> {
+    let nodes = entry.nodes.get(..node.saturating_add(1)).unwrap_or(&[]);
+    let least = least_of(report.alloc(), entry.table, nodes)?;
+    Ok(match (least, nodes.last()) {
+        (Some(least), Some(line)) => wrong_number(&least, line),
+        _ => None,
+    })
+}
+
+/// Adds what is said of a number of a node that is not the least. Memory is answered where a growth was refused.
+pub fn wrong_cost(report: &mut Report, entry: &Entry<'_>, node: usize) -> Result<(), Memory> {
+    match wrong_at(report, entry, node)? {
+        Some(wrong) => add_wrong(report, entry, node, wrong),
+        None => Ok(()),
+    }
+}
