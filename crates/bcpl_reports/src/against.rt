@@ -105,16 +105,12 @@ fn add_item(
 ) -> Result<(), Memory> {
     report.place(
         placed,
+        "item {} of segment {} is {} by entry {} of the certificate",
         &[
-            Part::Text("item "),
             Part::Number(other.item as u128),
-            Part::Text(" of segment "),
             Part::Number(segment as u128),
-            Part::Text(" is "),
             Part::Item(other.wanted),
-            Part::Text(" by entry "),
             Part::Number(u128::from(entry)),
-            Part::Text(" of the certificate"),
         ],
     )
 }
@@ -157,17 +153,18 @@ fn beyond(
     judged: &Judged,
     items: usize,
 ) -> Result<(), Memory> {
-    let sentence = [
-        Part::Text("the code of this entry takes "),
-        Part::Number(u128::from(extent(judged.code.as_slice()))),
-        Part::Text(" items from item "),
-        Part::Number(u128::from(judged.item)),
-        Part::Text(" on, and segment "),
-        Part::Number(u128::from(judged.segment)),
-        Part::Text(" has "),
-        Part::Number(items as u128),
-    ];
-    report.fault(placed, &sentence, ALL_TEXTS)
+    let count = extent(judged.code.as_slice());
+    report.fault(
+        placed,
+        "the code of this entry takes {} items from item {} on, and segment {} has {}",
+        &[
+            Part::Number(u128::from(count)),
+            Part::Number(u128::from(judged.item)),
+            Part::Number(u128::from(judged.segment)),
+            Part::Number(items as u128),
+        ],
+        ALL_TEXTS,
+    )
 }
 
 /// Adds what is said of an entry whose segment is none of so many.
@@ -177,14 +174,15 @@ fn elsewhere(
     segment: u64,
     count: usize,
 ) -> Result<(), Memory> {
-    let sentence = [
-        Part::Text("this entry stands in segment "),
-        Part::Number(u128::from(segment)),
-        Part::Text(", and the texts have "),
-        Part::Number(count as u128),
-        Part::Text(", counted from 0"),
-    ];
-    report.fault(placed, &sentence, ALL_TEXTS)
+    report.fault(
+        placed,
+        "this entry stands in segment {}, and the texts have {}, counted from 0",
+        &[
+            Part::Number(u128::from(segment)),
+            Part::Number(count as u128),
+        ],
+        ALL_TEXTS,
+    )
 }
 
 /// Adds what is said of an entry whose code lies in no segment.
@@ -204,7 +202,7 @@ fn outside(
 fn disordered(report: &mut Report, at: At<'_>) -> Result<(), Memory> {
     if let Some(placed) = at.head() {
         let sentence = "by segment and item this entry stands in front of the one before it";
-        report.place(placed, &[Part::Text(sentence)])?;
+        report.place(placed, sentence, &[])?;
     }
     let before = At {
         lined: at.lined,

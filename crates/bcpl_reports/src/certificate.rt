@@ -2,6 +2,7 @@ use crate::fields::field_of;
 use crate::placed::{Placed, Stretch, Text, is_byte};
 use bc_cert_defs::Head;
 use bc_cert_lines::{NodeLine, RootLine, entry_line, header, node_line, root_line};
+use bc_cert_node::Form;
 use bc_rules_defs::Table;
 use bc_word::Memory;
 use std::alloc::Global;
@@ -45,6 +46,14 @@ impl<'a> Lined<'a> {
     pub fn line(&self, index: usize) -> &'a [u8] {
         match self.lines.get(index) {
             Some(stretch) => bytes_at(self.text.bytes, *stretch),
+            None => b"",
+        }
+    }
+
+    /// The bytes of the line in front of that with this index; none where there is none.
+    pub fn line_before(&self, index: usize) -> &'a [u8] {
+        match index.checked_sub(1) {
+            Some(before) => self.line(before),
             None => b"",
         }
     }
@@ -133,13 +142,23 @@ impl<'a> Entry<'a> {
     }
 }
 
+/// Adds what a line says, where it is a node line, and says whether it is one. Memory is answered where a growth was refused.
+fn add_node(nodes: &mut Vec<NodeLine>, line: &[u8]) -> Result<bool, Memory> {
+    let Some(node) = node_line(line) else {
+        return Ok(false)
+    };
+    // With its type named: else the borrow checker's plan doesn't find where the type stands.
+    let form: Form = node.form;
+    nodes.push(NodeLine { form, ..node })?;
+    Ok(true)
+}
+
 /// The node lines from the line with this index on, up to the first line that is none. Memory is answered where a growth was refused.
 pub fn node_lines(alloc: Global, lined: Lined<'_>, index: usize) -> Result<Vec<NodeLine>, Memory> {
     let mut nodes = Vec::new(alloc);
     for at in index..lined.lines.len() {
-        match node_line(lined.line(at)) {
-            Some(node) => nodes.push(node)?,
-            None => break,
+        if !add_node(&mut nodes, lined.line(at))? {
+            break;
         }
     }
     Ok(nodes)

@@ -42,27 +42,19 @@ fn add_no_node(report: &mut Report, placed: Placed<'_>, line: &[u8]) -> Result<(
     match node_line(line) {
         Some(node) => report.fault(
             placed,
-            &[
-                Part::Text(
-                    "in front of a node stand the trees of its parts, each at its level, and here they don't; the parts of this node: ",
-                ),
-                Part::Number(node.form.parts() as u128),
-            ],
+            "in front of a node stand the trees of its parts, each at its level, and here they don't; the parts of this node: {}",
+            &[Part::Number(node.form.parts() as u128)],
             FORMS,
         ),
-        None => report.fault(placed, &[Part::Text(no_node(line))], FORMS),
+        None => report.fault(placed, no_node(line), &[], FORMS),
     }
 }
 
 /// Adds what may stand at a line, and what is wrong with this one.
 fn wrong_line(report: &mut Report, lined: Lined<'_>, index: usize) -> Result<(), Memory> {
     let line = lined.line(index);
-    let before = match index.checked_sub(1) {
-        Some(before) => lined.line(before),
-        None => b"",
-    };
-    match fixed_sentence(before, line) {
-        Some(sentence) => report.fault(lined.place(index), &[Part::Text(sentence)], FORMS),
+    match fixed_sentence(lined.line_before(index), line) {
+        Some(sentence) => report.fault(lined.place(index), sentence, &[], FORMS),
         None => add_no_node(report, lined.place(index), line),
     }
 }
@@ -126,36 +118,26 @@ fn in_entry(
     at_entry(report, &mut trees, &entry, fault)
 }
 
-/// Adds what is said of a line and what to do, where these are always the same words.
-fn at_line(
-    report: &mut Report,
-    placed: Placed<'_>,
-    sentence: &str,
-    help: &str,
-) -> Result<(), Memory> {
-    report.fault(placed, &[Part::Text(sentence)], help)
-}
-
 /// Adds what is said of a fault; nothing where nothing more is known.
 fn add_fault(report: &mut Report, lined: Lined<'_>, fault: CheckFault) -> Result<(), Memory> {
     match fault {
-        CheckFault::Header => at_line(
-            report,
+        CheckFault::Header => report.fault(
             lined.place(0),
             "the first line of a certificate is `BCPLCERT 2`, or `BCPLCERT 1` for the first rule table",
+            &[],
             "the certificate comes in front of the texts: bcpl check CERT TEXT",
         ),
         CheckFault::Line(line) => wrong_line(report, lined, index_of(line)),
-        CheckFault::Truncated => at_line(
-            report,
+        CheckFault::Truncated => report.fault(
             lined.place(lined.lines.len().saturating_sub(1)),
             "the certificate ends with this line, which is not its end line, or has no line feed",
+            &[],
             "the last line is `Z` and the number of the entries; perhaps the end of the file is lost",
         ),
-        CheckFault::TooDeep(line) => at_line(
-            report,
+        CheckFault::TooDeep(line) => report.fault(
             lined.place(index_of(line)),
             "more than 400 nodes stand one within another up to this one",
+            &[],
             "no build makes such a tree: the parser refuses it",
         ),
         CheckFault::WrongCost(entry, _)

@@ -1,7 +1,8 @@
 use crate::certificate::Entry;
 use crate::derived::rooted_of;
 use crate::fields::piece_text;
-use crate::report::{NOTHING, Part, Report};
+use crate::placed::Placed;
+use crate::report::{Part, Report};
 use bc_cert_lines::{RootLine, code_line};
 use bc_cert_trees::{Rooted, Stack};
 use bc_rules::{code_of, next_label, words};
@@ -33,24 +34,24 @@ fn first_difference(code: &[Piece], right: &[Piece]) -> usize {
 fn add_whole(report: &mut Report, right: &[Piece]) -> Result<(), Memory> {
     report.text("  the whole of it: C")?;
     for piece in right {
-        report.all(&[Part::Text(" "), piece_text(piece)])?;
+        report.say(" {}", &[piece_text(piece)])?;
     }
     report.text("\n")
 }
 
-/// What is said of code that is another one than that of the rules from this piece on.
-fn difference<'a>(right: &'a [Piece], differs: usize) -> [Part<'a>; 3] {
-    match right.get(differs) {
-        Some(piece) => [
-            Part::Text("the code of these rules has "),
-            piece_text(piece),
-            Part::Text(" here"),
-        ],
-        None => [
-            Part::Text("the code of these rules ends in front of this"),
-            NOTHING,
-            NOTHING,
-        ],
+/// Adds where code is another one than that of the rules, which has this piece there.
+fn add_difference(
+    report: &mut Report,
+    placed: Placed<'_>,
+    right: Option<&Piece>,
+) -> Result<(), Memory> {
+    match right {
+        Some(piece) => report.place(
+            placed,
+            "the code of these rules has {} here",
+            &[piece_text(piece)],
+        ),
+        None => report.place(placed, "the code of these rules ends in front of this", &[]),
     }
 }
 
@@ -62,7 +63,7 @@ fn add_code(report: &mut Report, entry: &Entry<'_>, right: &[Piece]) -> Result<(
     };
     let differs = first_difference(code.as_slice(), right);
     let placed = entry.lined.field(index, differs.saturating_add(1));
-    report.place(placed, &difference(right, differs))?;
+    add_difference(report, placed, right.get(differs))?;
     add_whole(report, right)
 }
 
@@ -70,12 +71,10 @@ fn add_code(report: &mut Report, entry: &Entry<'_>, right: &[Piece]) -> Result<(
 fn add_words(report: &mut Report, entry: &Entry<'_>, count: u64) -> Result<(), Memory> {
     report.place(
         entry.lined.field(entry.index, 5),
+        "the code has {} words, and {} stands here",
         &[
-            Part::Text("the code has "),
             Part::Number(u128::from(count)),
-            Part::Text(" words, and "),
             Part::Number(u128::from(entry.head.words)),
-            Part::Text(" stands here"),
         ],
     )
 }
@@ -105,7 +104,7 @@ fn add_wrong(
 /// Adds that the labels of a derivation would be too great.
 fn add_labels(report: &mut Report, entry: &Entry<'_>) -> Result<(), Memory> {
     let sentence = "the labels of the derivation would go over 65535, from this first one on";
-    report.place(entry.lined.field(entry.index, 4), &[Part::Text(sentence)])
+    report.place(entry.lined.field(entry.index, 4), sentence, &[])
 }
 
 /// Whether the labels of a root's derivation are too great.

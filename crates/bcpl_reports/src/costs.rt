@@ -66,25 +66,18 @@ fn add_wrong(
     node: usize,
     wrong: WrongNumber,
 ) -> Result<(), Memory> {
-    let (before, are, by) = if wrong.right.is_some() {
-        ("the least words ", " are ", " by the parts, and ")
+    let sentence = if wrong.right.is_some() {
+        "the least words {} are {} by the parts, and {} stands here"
     } else {
-        (
-            "no code ",
-            " can be made from the parts, so ",
-            " is to stand here, and ",
-        )
+        "no code {} can be made from the parts, so {} is to stand here, and {} stands here"
     };
     report.place(
         entry.lined.field(entry.line(node), wrong.field),
+        sentence,
         &[
-            Part::Text(before),
             Part::Text(wrong.what),
-            Part::Text(are),
             words(wrong.right),
-            Part::Text(by),
             words(wrong.written),
-            Part::Text(" stands here"),
         ],
     )
 }

@@ -1,6 +1,6 @@
 use crate::instruction::instruction;
 use crate::placed::{Placed, Text};
-use crate::report::{NOTHING, Part, Report};
+use crate::report::{Part, Report};
 use crate::text_items::item_at;
 use bc_machine_defs::End;
 use bc_machine_image::Image;
@@ -133,78 +133,70 @@ fn spot_at(
     Ok(None)
 }
 
-/// What is said of the address itself.
-fn address_sentence(image: &Image, spot: Option<Spot>, address: u16) -> [Part<'static>; 5] {
-    let (what, global, behind) = match spot {
-        Some(spot) if spot.segment == 0 => (", in the primitives", NOTHING, ""),
-        Some(_) => ("", NOTHING, ""),
+/// What is said of the address itself, with a place for the number of a global.
+fn address_sentence(image: &Image, spot: Option<Spot>, address: u16) -> &'static str {
+    match spot {
+        Some(spot) if spot.segment == 0 => "the address {}, in the primitives",
+        Some(_) => "the address {}",
         None if address >= image.stack_base.get() => {
-            (", in the stack, where no code stands", NOTHING, "")
+            "the address {}, in the stack, where no code stands"
         }
         None if address >= 8 && address < 520 => {
-            let global = Part::Number(u128::from(address.saturating_sub(8)));
-            (
-                ", the cell of the global ",
-                global,
-                ", where no code stands",
-            )
+            "the address {}, the cell of the global {}, where no code stands"
         }
-        None => (", in front of all code", NOTHING, ""),
-    };
-    [
-        Part::Text("the address "),
-        Part::Number(u128::from(address)),
-        Part::Text(what),
-        global,
-        Part::Text(behind),
-    ]
+        None => "the address {}, in front of all code",
+    }
 }
 
-/// What is said of the end of a run in front of its address.
-fn before_address(stop: &Stop) -> [Part<'static>; 3] {
+/// Adds what is said of an address; `sentence` says of which kind it is.
+fn add_address(report: &mut Report, address: u16, sentence: &str) -> Result<(), Memory> {
+    let global = address.saturating_sub(8);
+    report.say(
+        sentence,
+        &[
+            Part::Number(u128::from(address)),
+            Part::Number(u128::from(global)),
+        ],
+    )
+}
+
+/// Adds what is said of the end of a run in front of its address.
+fn add_end(report: &mut Report, stop: &Stop) -> Result<(), Memory> {
     match stop.end {
-        End::ZeroDivide => [
-            Part::Text("a division or a remainder by 0, at "),
-            NOTHING,
-            NOTHING,
-        ],
-        End::BadInstruction(_) => [
-            Part::Text("the word "),
-            Part::Number(u128::from(stop.words.0)),
-            Part::Text(" is no instruction, at "),
-        ],
-        End::BudgetSpent => [
-            NOTHING,
-            Part::Number(u128::from(stop.steps)),
-            Part::Text(" instructions were carried out; the next one stands at "),
-        ],
-        End::Device => [
-            Part::Text("an input or an output failed, at "),
-            NOTHING,
-            NOTHING,
-        ],
-        End::Finished => [NOTHING; 3],
+        End::ZeroDivide => report.text("a division or a remainder by 0, at "),
+        End::BadInstruction(_) => report.say(
+            "the word {} is no instruction, at ",
+            &[Part::Number(u128::from(stop.words.0))],
+        ),
+        End::BudgetSpent => report.say(
+            "{} instructions were carried out; the next one stands at ",
+            &[Part::Number(u128::from(stop.steps))],
+        ),
+        End::Device => report.text("an input or an output failed, at "),
+        End::Finished => Ok(()),
     }
 }
 
 /// Adds what the word is, as an instruction, at which a run ended.
 fn add_instruction(report: &mut Report, words: (u16, u16)) -> Result<(), Memory> {
     let (word, following) = words;
-    report.text(": it says ")?;
-    report.all(&instruction(word, following))
+    report.say(": it says {}{}{}", &instruction(word, following))
 }
 
 /// Adds what is said of the end of a run, given what is said of its address.
-fn add_sentence(report: &mut Report, stop: &Stop, address: &[Part<'_>]) -> Result<(), Memory> {
-    if let End::Finished = stop.end {
-        return Ok(());
-    }
-    report.all(&before_address(stop))?;
-    report.all(address)?;
+fn add_sentence(report: &mut Report, stop: &Stop, address: &str) -> Result<(), Memory> {
+    add_end(report, stop)?;
     match stop.end {
-        End::BadInstruction(_) => add_instruction(report, stop.words),
-        _ => Ok(()),
+        End::Finished => Ok(()),
+        End::BadInstruction(_) => add_bad_instruction(report, stop, address),
+        _ => add_address(report, stop.address, address),
     }
+}
+
+/// Adds at which address a word stands that is no instruction, and what it is.
+fn add_bad_instruction(report: &mut Report, stop: &Stop, address: &str) -> Result<(), Memory> {
+    add_address(report, stop.address, address)?;
+    add_instruction(report, stop.words)
 }
 
 /// What to do about the end of a run.
@@ -226,7 +218,7 @@ fn help_for(stop: &Stop, is_code: bool) -> Option<&'static str> {
 
 /// What so many words are called.
 fn unit(words: usize) -> Part<'static> {
-    Part::Text(if words == 1 { " word" } else { " words" })
+    Part::Text(if words == 1 { "word" } else { "words" })
 }
 
 /// Adds which routine stands in front of a spot.
@@ -235,28 +227,28 @@ fn add_routine(report: &mut Report, global: u16, distance: usize) -> Result<(), 
         Some(name) => (", ", name),
         None => ("", ""),
     };
-    report.line(&[
-        Part::Text("  the nearest routine of a global in front of it is that of "),
-        Part::Number(u128::from(global)),
-        Part::Text(comma),
-        Part::Text(name),
-        Part::Text(", which begins "),
-        Part::Number(distance as u128),
-        unit(distance),
-        Part::Text(" before"),
-    ])
+    report.line(
+        "  the nearest routine of a global in front of it is that of {}{}{}, which begins {} {} before",
+        &[
+            Part::Number(u128::from(global)),
+            Part::Text(comma),
+            Part::Text(name),
+            Part::Number(distance as u128),
+            unit(distance),
+        ],
+    )
 }
 
 /// Adds which label stands in front of a spot.
 fn add_label(report: &mut Report, label: u16, distance: usize) -> Result<(), Memory> {
-    report.line(&[
-        Part::Text("  the nearest label in front of it is "),
-        Part::Number(u128::from(label)),
-        Part::Text(", "),
-        Part::Number(distance as u128),
-        unit(distance),
-        Part::Text(" before"),
-    ])
+    report.line(
+        "  the nearest label in front of it is {}, {} {} before",
+        &[
+            Part::Number(u128::from(label)),
+            Part::Number(distance as u128),
+            unit(distance),
+        ],
+    )
 }
 
 /// Adds which routine and label stand in front of a spot.
@@ -283,7 +275,7 @@ fn place_of<'a>(texts: &[Text<'a>], spot: Option<Spot>) -> Option<Placed<'a>> {
 fn add_ended(
     report: &mut Report,
     stop: &Stop,
-    address: &[Part<'_>],
+    address: &str,
     placed: Option<Placed<'_>>,
 ) -> Result<(), Memory> {
     if let Some(placed) = placed {
@@ -307,6 +299,19 @@ fn add_advice(report: &mut Report, stop: &Stop, spot: Option<Spot>) -> Result<()
     }
 }
 
+/// Adds all that is said of the end of a run at this spot.
+fn add_stop(
+    report: &mut Report,
+    texts: &[Text<'_>],
+    image: &Image,
+    stop: &Stop,
+    spot: Option<Spot>,
+) -> Result<(), Memory> {
+    let address = address_sentence(image, spot, stop.address);
+    add_ended(report, stop, address, place_of(texts, spot))?;
+    add_advice(report, stop, spot)
+}
+
 /// The lines on a run that ended otherwise than by finishing: the item at which it ended, in its text, and the routine. The segments
 /// are those of the texts behind the primitives, and the image is theirs. Memory is answered where a growth was refused.
 pub fn ended_lines(
@@ -317,9 +322,7 @@ pub fn ended_lines(
     stop: &Stop,
 ) -> Result<String, Memory> {
     let spot = spot_at(alloc, segments, image, usize::from(stop.address))?;
-    let address = address_sentence(image, spot, stop.address);
     let mut report = Report::new(alloc);
-    add_ended(&mut report, stop, &address, place_of(texts, spot))?;
-    add_advice(&mut report, stop, spot)?;
+    add_stop(&mut report, texts, image, stop, spot)?;
     Ok(report.into_text())
 }

@@ -1,5 +1,5 @@
 use crate::placed::{Placed, Text};
-use crate::report::{NOTHING, Part, Report};
+use crate::report::{Part, Report};
 use crate::text_items::item_at;
 use bc_link::LinkError;
 use bc_text_items::{Base, Item, Segment};
@@ -59,14 +59,27 @@ fn spoken_at<'a>(
 
 /// Adds what is said of a label that stands nowhere.
 fn label_unset(report: &mut Report, placed: Placed<'_>, label: u16) -> Result<(), Memory> {
-    let sentence = [
-        Part::Text("the label "),
-        Part::Number(u128::from(label)),
-        Part::Text(" stands nowhere in this segment"),
-    ];
-    let help =
-        "each segment has labels of its own; what another segment has is reached by a global";
-    report.fault(placed, &sentence, help)
+    report.fault(
+        placed,
+        "the label {} stands nowhere in this segment",
+        &[Part::Number(u128::from(label))],
+        "each segment has labels of its own; what another segment has is reached by a global",
+    )
+}
+
+/// Where an item stands, if it sets a label.
+fn set_by<'a>(
+    texts: &[Text<'a>],
+    segment: usize,
+    index: usize,
+    item: &Item,
+    label: u16,
+) -> Option<Placed<'a>> {
+    if sets(item, label) {
+        place_of(texts, segment, index)
+    } else {
+        None
+    }
 }
 
 /// Where a label is set for the time with this index, the times counted from 0.
@@ -79,14 +92,12 @@ fn set_at<'a>(
 ) -> Option<Placed<'a>> {
     let mut left = time;
     for (index, item) in segments.get(segment)?.items().iter().enumerate() {
-        if sets(item, label) {
-            let place = place_of(texts, segment, index);
-            if place.is_some() {
-                if left == 0 {
-                    return place;
-                }
-                left -= 1;
+        let placed = set_by(texts, segment, index, item, label);
+        if placed.is_some() {
+            if left == 0 {
+                return placed;
             }
+            left -= 1;
         }
     }
     None
@@ -101,11 +112,8 @@ fn label_twice(
 ) -> Result<(), Memory> {
     report.place(
         second,
-        &[
-            Part::Text("the label "),
-            Part::Number(u128::from(label)),
-            Part::Text(" stands here once more"),
-        ],
+        "the label {} stands here once more",
+        &[Part::Number(u128::from(label))],
     )?;
     report.note(first, "it stands here already")?;
     report.help("a segment has each label once; a Z may be missing between two segments")
@@ -149,20 +157,15 @@ fn global_set_at<'a>(
 
 /// Adds that a global is set once more.
 fn set_again(report: &mut Report, placed: Placed<'_>, number: u16) -> Result<(), Memory> {
-    let (comma, name, behind) = match library_name(number) {
-        Some(name) => (", ", name, " of the library, is set here once more"),
-        None => ("", "", " is set here once more"),
-    };
-    report.place(
-        placed,
-        &[
-            Part::Text("the global "),
-            Part::Number(u128::from(number)),
-            Part::Text(comma),
-            Part::Text(name),
-            Part::Text(behind),
-        ],
-    )
+    let global = Part::Number(u128::from(number));
+    match library_name(number) {
+        Some(name) => report.place(
+            placed,
+            "the global {}, {} of the library, is set here once more",
+            &[global, Part::Text(name)],
+        ),
+        None => report.place(placed, "the global {} is set here once more", &[global]),
+    }
 }
 
 /// Adds what is said of a global that is set twice.
@@ -181,18 +184,15 @@ fn global_twice(
     }
 }
 
-/// What a segment is called.
-fn name_of<'a>(texts: &[Text<'a>], segment: usize) -> [Part<'a>; 4] {
-    let number = Part::Number(segment as u128);
+/// Adds what a segment is called.
+fn add_name(name: &mut Report, texts: &[Text<'_>], segment: usize) -> Result<(), Memory> {
     match place_of(texts, segment, 0) {
-        Some(placed) => [
-            Part::Text(placed.text.path),
-            Part::Text(", segment "),
-            number,
-            Part::Text(" of all"),
-        ],
-        None if segment == 0 => [Part::Text("the primitives"), NOTHING, NOTHING, NOTHING],
-        None => [Part::Text("segment "), number, NOTHING, NOTHING],
+        Some(placed) => name.say(
+            "{}, segment {} of all",
+            &[Part::Text(placed.text.path), Part::Number(segment as u128)],
+        ),
+        None if segment == 0 => name.text("the primitives"),
+        None => name.say("segment {}", &[Part::Number(segment as u128)]),
     }
 }
 
@@ -205,22 +205,31 @@ fn size_of(
 ) -> Result<SegmentSize, Memory> {
     let words = segment_words(alloc, segment.items())?;
     let mut name = Report::new(alloc);
-    name.all(&name_of(texts, number))?;
+    add_name(&mut name, texts, number)?;
     Ok(SegmentSize {
         name: name.into_text(),
         words,
     })
 }
 
-/// Adds what is said of segments that take too many words.
-fn add_sizes(report: &mut Report, texts: &[Text<'_>], segments: &[Segment]) -> Result<(), Memory> {
-    let alloc = report.alloc();
+/// The names and the sizes of segments.
+fn sizes_of(
+    alloc: Global,
+    texts: &[Text<'_>],
+    segments: &[Segment],
+) -> Result<Vec<SegmentSize>, Memory> {
     let mut sizes = Vec::new(alloc);
     for (number, segment) in segments.iter().enumerate() {
         sizes.push(size_of(alloc, texts, number, segment)?)?;
     }
-    let lines = too_large(alloc, sizes.as_slice())?;
-    report.line(&[Part::Text(lines.as_str())])
+    Ok(sizes)
+}
+
+/// Adds what is said of segments that take too many words.
+fn add_sizes(report: &mut Report, texts: &[Text<'_>], segments: &[Segment]) -> Result<(), Memory> {
+    let sizes = sizes_of(report.alloc(), texts, segments)?;
+    let lines = too_large(report.alloc(), sizes.as_slice())?;
+    report.line("{}", &[Part::Text(lines.as_str())])
 }
 
 /// Adds what is said of a label that stands nowhere in its segment.

@@ -8,7 +8,7 @@ use std::alloc::Global;
 /// How many characters of a name are told.
 const SHOWN: usize = 40;
 
-/// What a sentence is made of.
+/// What a place of a sentence is filled with.
 #[derive(Clone, Copy)]
 pub enum Part<'a> {
     Text(&'a str),
@@ -22,9 +22,6 @@ pub enum Part<'a> {
     /// What stands at a place: a byte, or nothing.
     Found(Option<u8>),
 }
-
-/// What adds nothing to a sentence.
-pub const NOTHING: Part<'static> = Part::Text("");
 
 /// A report that is being written.
 #[derive(Drop)]
@@ -133,17 +130,30 @@ impl Report {
         }
     }
 
-    /// Adds these, one behind the other.
-    pub fn all(&mut self, parts: &[Part<'_>]) -> Result<(), Memory> {
-        for part in parts {
-            self.part(*part)?;
+    /// Adds the part with this index, where there is one.
+    fn nth(&mut self, parts: &[Part<'_>], index: usize) -> Result<(), Memory> {
+        match parts.get(index) {
+            Some(part) => self.part(*part),
+            None => Ok(()),
+        }
+    }
+
+    /// Adds a sentence, in which each `{}` is the place of the next of these parts.
+    pub fn say(&mut self, sentence: &str, parts: &[Part<'_>]) -> Result<(), Memory> {
+        let mut at: usize = 0;
+        for text in sentence.split("{}") {
+            if at > 0 {
+                self.nth(parts, at - 1)?;
+            }
+            self.text(text)?;
+            at = at.saturating_add(1);
         }
         Ok(())
     }
 
-    /// Adds these, and ends the line.
-    pub fn line(&mut self, parts: &[Part<'_>]) -> Result<(), Memory> {
-        self.all(parts)?;
+    /// Adds a sentence as a line.
+    pub fn line(&mut self, sentence: &str, parts: &[Part<'_>]) -> Result<(), Memory> {
+        self.say(sentence, parts)?;
         self.text("\n")
     }
 
@@ -154,14 +164,14 @@ impl Report {
         let line = line_of(placed);
         let start = line.start.min(at);
         let column = column_at(self.alloc, &text.bytes[start..], at - start)?;
-        self.all(&[
-            Part::Text(text.path),
-            Part::Text(":"),
-            Part::Number(line.number as u128),
-            Part::Text(":"),
-            Part::Number(column as u128),
-            Part::Text(": "),
-        ])
+        self.say(
+            "{}:{}:{}: ",
+            &[
+                Part::Text(text.path),
+                Part::Number(line.number as u128),
+                Part::Number(column as u128),
+            ],
+        )
     }
 
     /// Ends the sentence on a place, and adds the line of the text with a mark below the stretch.
@@ -174,9 +184,14 @@ impl Report {
     }
 
     /// Adds `PATH:LINE:COLUMN: SENTENCE`, and the line of the text with a mark below the stretch.
-    pub fn place(&mut self, placed: Placed<'_>, sentence: &[Part<'_>]) -> Result<(), Memory> {
+    pub fn place(
+        &mut self,
+        placed: Placed<'_>,
+        sentence: &str,
+        parts: &[Part<'_>],
+    ) -> Result<(), Memory> {
         self.begin_place(placed)?;
-        self.all(sentence)?;
+        self.say(sentence, parts)?;
         self.end_place(placed)
     }
 
@@ -184,22 +199,23 @@ impl Report {
     pub fn fault(
         &mut self,
         placed: Placed<'_>,
-        sentence: &[Part<'_>],
+        sentence: &str,
+        parts: &[Part<'_>],
         help: &str,
     ) -> Result<(), Memory> {
-        self.place(placed, sentence)?;
+        self.place(placed, sentence, parts)?;
         self.help(help)
     }
 
     /// Adds a further place.
     pub fn note(&mut self, placed: Placed<'_>, sentence: &str) -> Result<(), Memory> {
         self.text("  ")?;
-        self.place(placed, &[Part::Text(sentence)])
+        self.place(placed, sentence, &[])
     }
 
     /// Adds what to do.
     pub fn help(&mut self, help: &str) -> Result<(), Memory> {
-        self.line(&[Part::Text("  help: "), Part::Text(help)])
+        self.line("  help: {}", &[Part::Text(help)])
     }
 
     pub fn into_text(self) -> String {

@@ -1,6 +1,6 @@
 use crate::certificate::Entry;
 use crate::derived::{rooted_of, takes};
-use crate::report::{NOTHING, Part, Report};
+use crate::report::{Part, Report};
 use bc_cert_lines::{NodeLine, RootLine, node_line};
 use bc_cert_trees::Stack;
 use bc_rules_defs::{Rule, Table};
@@ -70,11 +70,11 @@ impl<'a> Trial<'a> {
         before: &'static str,
         right: &mut Vec<Name>,
     ) -> Result<(), Memory> {
-        for name in NAMES {
-            if right.len() < MOST && self.takes(trees, before, name)? {
+        for name in NAMES.iter() {
+            if right.len() < MOST && self.takes(trees, before, *name)? {
                 right.push(Name {
                     front: before,
-                    behind: Part::Text(name),
+                    behind: Part::Text(*name),
                 })?;
             }
         }
@@ -100,8 +100,8 @@ fn right_rules(
         nodes,
         front: entry.lined.front(entry.line(node), 6),
     };
-    for before in FRONTS {
-        trial.add_taken(trees, before, &mut right)?;
+    for before in FRONTS.iter() {
+        trial.add_taken(trees, *before, &mut right)?;
     }
     Ok(right)
 }
@@ -134,9 +134,9 @@ fn assignment(rule: Rule) -> &'static str {
 /// A root line as a certificate has it.
 fn root_name(root: RootLine) -> Name {
     let (front, behind) = match root {
-        RootLine::Value => ("R V", NOTHING),
-        RootLine::Test(false) => ("R F", NOTHING),
-        RootLine::Test(true) => ("R T", NOTHING),
+        RootLine::Value => ("R V", Part::Text("")),
+        RootLine::Test(false) => ("R F", Part::Text("")),
+        RootLine::Test(true) => ("R T", Part::Text("")),
         RootLine::Assign(rule, level) => (assignment(rule), Part::Number(u128::from(level))),
     };
     Name { front, behind }
@@ -187,19 +187,33 @@ fn between(index: usize, count: usize) -> &'static str {
 
 /// Adds which of these would do, by what the lines in front show.
 fn add_right(report: &mut Report, right: &[Name]) -> Result<(), Memory> {
-    report.text(if right.len() == 1 {
-        "  help: by what the lines of its parts show, this does: "
-    } else {
-        "  help: by what the lines of its parts show, these do: "
-    })?;
+    let count = right.len();
+    let does = if count == 1 { "this does" } else { "these do" };
+    report.say(
+        "  help: by what the lines of its parts show, {}: ",
+        &[Part::Text(does)],
+    )?;
     for (index, name) in right.iter().enumerate() {
-        report.all(&[
-            Part::Text(between(index, right.len())),
-            Part::Text(name.front),
-            name.behind,
-        ])?;
+        let between = Part::Text(between(index, count));
+        report.say("{}{}{}", &[between, Part::Text(name.front), name.behind])?;
     }
     report.text("\n")
+}
+
+/// Adds which root lines would do, where some would.
+fn add_roots(report: &mut Report, right: &[Name]) -> Result<(), Memory> {
+    if right.is_empty() {
+        return Ok(());
+    }
+    add_right(report, right)
+}
+
+/// Adds which rules would do, or that none would.
+fn add_rules(report: &mut Report, right: &[Name]) -> Result<(), Memory> {
+    if right.is_empty() {
+        return report.help("no rules do, by what the lines of its parts show");
+    }
+    add_right(report, right)
 }
 
 /// Adds what is said of a root that its trees show no rules for.
@@ -210,12 +224,9 @@ fn wrong_root(
     root: RootLine,
 ) -> Result<(), Memory> {
     let placed = entry.lined.place(entry.root_index());
-    report.place(placed, &[Part::Text(root_sentence(root))])?;
+    report.place(placed, root_sentence(root), &[])?;
     let right = right_roots(trees, report.alloc(), entry, root)?;
-    if right.is_empty() {
-        return Ok(());
-    }
-    add_right(report, right.as_slice())
+    add_roots(report, right.as_slice())
 }
 
 /// Adds what is said of rules of a node that make no derivation.
@@ -225,16 +236,11 @@ fn wrong_node(
     entry: &Entry<'_>,
     node: usize,
 ) -> Result<(), Memory> {
+    let placed = entry.lined.field(entry.line(node), 6);
     let sentence = "these rules make no derivation of this node in so many words";
-    report.place(
-        entry.lined.field(entry.line(node), 6),
-        &[Part::Text(sentence)],
-    )?;
+    report.place(placed, sentence, &[])?;
     let right = right_rules(trees, report.alloc(), entry, node)?;
-    if right.is_empty() {
-        return report.help("no rules do, by what the lines of its parts show");
-    }
-    add_right(report, right.as_slice())
+    add_rules(report, right.as_slice())
 }
 
 /// Adds what is said of rules of a node that make no derivation, or of a root that its trees show no rules for. Memory is answered where a

@@ -20,12 +20,10 @@ fn repeated<'a>(names: &[&'a str]) -> Option<&'a str> {
 /// Adds that a name stands twice, where one does.
 fn add_repeated<'a>(report: &mut Report, names: &[&'a str], side: &'a str) -> Result<(), Memory> {
     match repeated(names) {
-        Some(name) => report.line(&[
-            Part::Text("two "),
-            Part::Text(side),
-            Part::Text(" have the name "),
-            Part::Front(name),
-        ]),
+        Some(name) => report.line(
+            "two {} have the name {}",
+            &[Part::Text(side), Part::Front(name)],
+        ),
         None => Ok(()),
     }
 }
@@ -35,17 +33,15 @@ fn add_long<'a>(report: &mut Report, name: &'a str, side: &'a str) -> Result<(),
     if name.len() <= MOST {
         return Ok(());
     }
-    report.line(&[
-        Part::Text("the name "),
-        Part::Front(name),
-        Part::Text(" of one of the "),
-        Part::Text(side),
-        Part::Text(" has "),
-        Part::Number(name.len() as u128),
-        Part::Text(" bytes, and "),
-        Part::Number(MOST as u128),
-        Part::Text(" are the most"),
-    ])
+    report.line(
+        "the name {} of one of the {} has {} bytes, and {} are the most",
+        &[
+            Part::Front(name),
+            Part::Text(side),
+            Part::Number(name.len() as u128),
+            Part::Number(MOST as u128),
+        ],
+    )
 }
 
 /// Adds what is wrong with the names of the streams of one side, `side` being what these are called.

@@ -69,11 +69,6 @@ fn one_byte(text: Text<'_>, at: usize) -> Placed<'_> {
     }
 }
 
-/// What stands at an offset.
-fn found_at(bytes: &[u8], at: usize) -> Part<'static> {
-    Part::Found(bytes.get(at).copied())
-}
-
 /// What to do about a byte that begins no item.
 fn character_help(byte: Option<u8>) -> &'static str {
     match byte {
@@ -88,9 +83,13 @@ fn character_help(byte: Option<u8>) -> &'static str {
 
 /// Adds what is said of a byte that begins no item.
 fn bad_character(report: &mut Report, text: Text<'_>, at: usize) -> Result<(), Memory> {
-    let sentence = [Part::Text("no item begins with "), found_at(text.bytes, at)];
-    let help = character_help(text.bytes.get(at).copied());
-    report.fault(one_byte(text, at), &sentence, help)
+    let found = text.bytes.get(at).copied();
+    report.fault(
+        one_byte(text, at),
+        "no item begins with {}",
+        &[Part::Found(found)],
+        character_help(found),
+    )
 }
 
 /// The stretch of the number that begins at `at`.
@@ -112,19 +111,18 @@ fn is_digit(bytes: &[u8], at: usize) -> bool {
 
 /// Adds what is said of a number that is missing behind these letters.
 fn no_number(report: &mut Report, text: Text<'_>, at: usize, letters: &[u8]) -> Result<(), Memory> {
-    let wanted = if letters.is_empty() {
-        "a number is wanted here"
+    let sentence = if letters.is_empty() {
+        "a number is wanted here{}, and {} stands here"
     } else {
-        "a number is wanted behind "
+        "a number is wanted behind {}, and {} stands here"
     };
-    let sentence = [
-        Part::Text(wanted),
-        Part::Letters(letters),
-        Part::Text(", and "),
-        found_at(text.bytes, at),
-        Part::Text(" stands here"),
-    ];
-    report.fault(one_byte(text, at), &sentence, ITEMS)
+    let found = text.bytes.get(at).copied();
+    report.fault(
+        one_byte(text, at),
+        sentence,
+        &[Part::Letters(letters), Part::Found(found)],
+        ITEMS,
+    )
 }
 
 /// Adds what is said of a number that is missing or out of its range, and where it is.
@@ -139,19 +137,18 @@ fn bad_number(report: &mut Report, text: Text<'_>, at: usize) -> Result<(), Memo
         text,
         stretch: number_at(bytes, at),
     };
-    let sentence = [Part::Text(range(letters, is_negative))];
-    report.fault(placed, &sentence, RANGES)
+    report.fault(placed, range(letters, is_negative), &[], RANGES)
 }
 
 /// Adds what is said of a global without its label.
 fn missing_label(report: &mut Report, text: Text<'_>, at: usize) -> Result<(), Memory> {
-    let sentence = [
-        Part::Text("`L` and the number of a label are wanted here, and "),
-        found_at(text.bytes, at),
-        Part::Text(" stands here"),
-    ];
-    let help = "G5L7 says that the global 5 begins as the address of the label 7";
-    report.fault(one_byte(text, at), &sentence, help)
+    let found = text.bytes.get(at).copied();
+    report.fault(
+        one_byte(text, at),
+        "`L` and the number of a label are wanted here, and {} stands here",
+        &[Part::Found(found)],
+        "G5L7 says that the global 5 begins as the address of the label 7",
+    )
 }
 
 /// The last byte of a text that is no blank.
@@ -164,10 +161,10 @@ fn last_byte(bytes: &[u8]) -> usize {
 
 /// Adds what is said of a text that ends within a segment.
 fn unended(report: &mut Report, text: Text<'_>) -> Result<(), Memory> {
-    let sentence = "the text ends within a segment: no Z stands behind its last item";
     report.fault(
         one_byte(text, last_byte(text.bytes)),
-        &[Part::Text(sentence)],
+        "the text ends within a segment: no Z stands behind its last item",
+        &[],
         "each segment ends with Z; perhaps the end of the file is lost",
     )
 }

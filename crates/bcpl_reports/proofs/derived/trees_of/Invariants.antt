@@ -3,4 +3,4 @@ use Rattle.bc_cert_trees.specs.View.{stack}
 use Rattle.bcpl_reports.proofs.derived.trees_of.Given as goal
 
 abbrev pub invariant-loop-node : goal.invariant-loop-node
-invariant-loop-node l = AreParallel (stack l.trees.new)
+invariant-loop-node l = AreParallel (stack l.trees)
