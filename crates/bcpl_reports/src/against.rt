@@ -236,6 +236,29 @@ fn add_mismatch(
     }
 }
 
+/// Adds what is said of a mismatch of a certificate.
+fn add_entry(
+    report: &mut Report,
+    certificate: Text<'_>,
+    verdict: &Verdict,
+    compared: (&[Text<'_>], &[Segment]),
+    mismatch: Mismatch,
+) -> Result<(), Memory> {
+    let entry = match mismatch {
+        Mismatch::CodeDiffers(entry) | Mismatch::OutsideText(entry) | Mismatch::Order(entry) =>
+            entry,
+    };
+    let lines = lines_of(report.alloc(), certificate.bytes)?;
+    let lined = Lined {
+        text: certificate,
+        lines: lines.as_slice(),
+    };
+    match verdict.entries.get(as_index(entry)) {
+        Some(judged) => add_mismatch(report, At { lined, entry }, judged, compared, mismatch),
+        None => Ok(()),
+    }
+}
+
 /// The lines on a certificate whose code the texts, with these segments, don't have: what the text has, and what the certificate says.
 /// Memory is answered where a growth was refused.
 pub fn against_lines(
@@ -245,18 +268,7 @@ pub fn against_lines(
     compared: (&[Text<'_>], &[Segment]),
     mismatch: Mismatch,
 ) -> Result<String, Memory> {
-    let entry = match mismatch {
-        Mismatch::CodeDiffers(entry) | Mismatch::OutsideText(entry) | Mismatch::Order(entry) =>
-            entry,
-    };
-    let lines = lines_of(alloc, certificate.bytes)?;
-    let lined = Lined {
-        text: certificate,
-        lines: lines.as_slice(),
-    };
     let mut report = Report::new(alloc);
-    if let Some(judged) = verdict.entries.get(as_index(entry)) {
-        add_mismatch(&mut report, At { lined, entry }, judged, compared, mismatch)?;
-    }
+    add_entry(&mut report, certificate, verdict, compared, mismatch)?;
     Ok(report.into_text())
 }

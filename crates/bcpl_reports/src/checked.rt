@@ -148,15 +148,20 @@ fn add_fault(report: &mut Report, lined: Lined<'_>, fault: CheckFault) -> Result
     }
 }
 
-/// The lines on the refusal of a certificate: its line, what stands there and what should. None where nothing more is known. Memory is
-/// answered where a growth was refused.
-pub fn check_lines(alloc: Global, text: Text<'_>, fault: CheckFault) -> Result<String, Memory> {
-    let lines = lines_of(alloc, text.bytes)?;
+/// Adds what is said of a fault of this certificate.
+fn add_check(report: &mut Report, text: Text<'_>, fault: CheckFault) -> Result<(), Memory> {
+    let lines = lines_of(report.alloc(), text.bytes)?;
     let lined = Lined {
         text,
         lines: lines.as_slice(),
     };
+    add_fault(report, lined, fault)
+}
+
+/// The lines on the refusal of a certificate: its line, what stands there and what should. None where nothing more is known. Memory is
+/// answered where a growth was refused.
+pub fn check_lines(alloc: Global, text: Text<'_>, fault: CheckFault) -> Result<String, Memory> {
     let mut report = Report::new(alloc);
-    add_fault(&mut report, lined, fault)?;
+    add_check(&mut report, text, fault)?;
     Ok(report.into_text())
 }

@@ -13,45 +13,45 @@ const NUMBERS: [&str; 4] = [
     "of a test that jumps on true",
 ];
 
-/// A number of a node line that is not the least.
+/// A number of a node line: which one it is, by its index, the least one, and the one that stands there.
 #[derive(Clone, Copy)]
-struct WrongNumber {
-    /// The index of its field.
-    field: usize,
-    what: &'static str,
+struct NodeNumber {
+    index: usize,
     right: Option<u128>,
     written: Option<u128>,
 }
 
+/// The number of a node line with this index.
+fn number(index: usize, right: Option<u128>, written: Option<u64>) -> NodeNumber {
+    let written = match written {
+        Some(words) => Some(u128::from(words)),
+        None => None,
+    };
+    NodeNumber {
+        index,
+        right,
+        written,
+    }
+}
+
 /// The first number of a node line that is not the least.
-fn wrong_number(least: &LeastWords, line: &NodeLine) -> Option<WrongNumber> {
+fn wrong_number(least: &LeastWords, line: &NodeLine) -> Option<NodeNumber> {
     let costs = line.costs;
-    let right = [least.any, least.push, least.on_false, least.on_true];
-    let written = [
-        Some(costs.any),
-        costs.push,
-        Some(costs.on_false),
-        Some(costs.on_true),
+    let numbers = [
+        number(0, least.any, Some(costs.any)),
+        number(1, least.push, costs.push),
+        number(2, least.on_false, Some(costs.on_false)),
+        number(3, least.on_true, Some(costs.on_true)),
     ];
-    for (index, what) in NUMBERS.iter().enumerate() {
-        let right = right.get(index).copied()?;
-        let written = match written.get(index).copied()? {
-            Some(words) => Some(u128::from(words)),
-            None => None,
-        };
-        if right != written {
-            return Some(WrongNumber {
-                field: index.saturating_add(2),
-                what: *what,
-                right,
-                written,
-            });
+    for number in &numbers {
+        if number.right != number.written {
+            return Some(*number);
         }
     }
     None
 }
 
-/// A number of a node line, which has a sign where there is none.
+/// How many words, with a sign where there is no number.
 fn words(number: Option<u128>) -> Part<'static> {
     match number {
         Some(number) => Part::Number(number),
@@ -64,30 +64,24 @@ fn add_wrong(
     report: &mut Report,
     entry: &Entry<'_>,
     node: usize,
-    wrong: WrongNumber,
+    wrong: NodeNumber,
 ) -> Result<(), Memory> {
     let sentence = if wrong.right.is_some() {
         "the least words {} are {} by the parts, and {} stands here"
     } else {
         "no code {} can be made from the parts, so {} is to stand here, and {} stands here"
     };
+    let what = NUMBERS.get(wrong.index).copied().unwrap_or("");
+    let field = wrong.index.saturating_add(2);
     report.place(
-        entry.lined.field(entry.line(node), wrong.field),
+        entry.lined.field(entry.line(node), field),
         sentence,
-        &[
-            Part::Text(wrong.what),
-            words(wrong.right),
-            words(wrong.written),
-        ],
+        &[Part::Text(what), words(wrong.right), words(wrong.written)],
     )
 }
 
 /// The first number of a node that is not the least; none where that isn't known.
-fn wrong_at(
-    report: &Report,
-    entry: &Entry<'_>,
-    node: usize,
-) -> Result<Option<WrongNumber>, Memory> {
+fn wrong_at(report: &Report, entry: &Entry<'_>, node: usize) -> Result<Option<NodeNumber>, Memory> {
     let nodes = entry.nodes.get(..node.saturating_add(1)).unwrap_or(&[]);
     let least = least_of(report.alloc(), entry.table, nodes)?;
     Ok(match (least, nodes.last()) {

@@ -21,12 +21,17 @@ fn boxed(alloc: Global, form: Form) -> Result<Box<CoreExp>, Memory> {
     Ok(Box::new(alloc, leaf(form))?)
 }
 
+/// A sum of two nodes without parts.
+fn sum(alloc: Global, left: Form, right: Form) -> Result<CoreExp, Memory> {
+    let left = boxed(alloc, left)?;
+    Ok(CoreExp::Bin(Op::Add, left, boxed(alloc, right)?))
+}
+
 /// The expression of the last of these nodes as far as an address looks into it: a sum with its sides, where these have no parts.
 fn address(alloc: Global, nodes: &[NodeLine]) -> Result<CoreExp, Memory> {
     match nodes {
-        [.., left, right, sum] if matches!(sum.form, Form::Bin(Op::Add)) => {
-            let left = boxed(alloc, left.form)?;
-            Ok(CoreExp::Bin(Op::Add, left, boxed(alloc, right.form)?))
+        [.., left, right, node] if matches!(node.form, Form::Bin(Op::Add)) => {
+            sum(alloc, left.form, right.form)
         }
         [.., node] => Ok(leaf(node.form)),
         [] => Ok(CoreExp::Valof(0)),

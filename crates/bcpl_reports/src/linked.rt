@@ -67,22 +67,21 @@ fn label_unset(report: &mut Report, placed: Placed<'_>, label: u16) -> Result<()
     )
 }
 
-/// Where an item stands, if it sets a label.
-fn set_by<'a>(
-    texts: &[Text<'a>],
-    segment: usize,
-    index: usize,
-    item: &Item,
-    label: u16,
-) -> Option<Placed<'a>> {
-    if sets(item, label) {
-        place_of(texts, segment, index)
-    } else {
-        None
+/// The index of the item that sets a label for the time with this index, the times counted from 0.
+fn nth_setting(segment: &Segment, label: u16, time: usize) -> Option<usize> {
+    let mut left = time;
+    for (index, item) in segment.items().iter().enumerate() {
+        if sets(item, label) {
+            if left == 0 {
+                return Some(index);
+            }
+            left -= 1;
+        }
     }
+    None
 }
 
-/// Where a label is set for the time with this index, the times counted from 0.
+/// Where a label is set for the time with this index.
 fn set_at<'a>(
     texts: &[Text<'a>],
     segments: &[Segment],
@@ -90,17 +89,8 @@ fn set_at<'a>(
     label: u16,
     time: usize,
 ) -> Option<Placed<'a>> {
-    let mut left = time;
-    for (index, item) in segments.get(segment)?.items().iter().enumerate() {
-        let placed = set_by(texts, segment, index, item, label);
-        if placed.is_some() {
-            if left == 0 {
-                return placed;
-            }
-            left -= 1;
-        }
-    }
-    None
+    let index = nth_setting(segments.get(segment)?, label, time)?;
+    place_of(texts, segment, index)
 }
 
 /// Adds what is said of a label that stands twice.
@@ -144,7 +134,7 @@ fn setter(segments: &[Segment], wanted: u16, time: usize) -> Option<(usize, usiz
     None
 }
 
-/// Where a global is set for the time with this index, the times counted from 0.
+/// Where a global is set for the time with this index.
 fn global_set_at<'a>(
     texts: &[Text<'a>],
     segments: &[Segment],

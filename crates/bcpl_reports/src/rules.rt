@@ -37,10 +37,9 @@ fn with_rules(
     before: &str,
     name: &str,
 ) -> Result<Option<NodeLine>, Memory> {
-    let mut line = Vec::new(alloc);
-    for part in [front, before.as_bytes(), name.as_bytes()] {
-        line.extend_from_slice(part)?;
-    }
+    let mut line = Vec::from_slice(alloc, front)?;
+    line.extend_from_slice(before.as_bytes())?;
+    line.extend_from_slice(name.as_bytes())?;
     Ok(node_line(line.as_slice()))
 }
 
@@ -63,7 +62,24 @@ impl<'a> Trial<'a> {
         }
     }
 
-    /// Adds the rules with this in front of them that the checker takes.
+    /// Adds rules, where the checker takes the next node with them.
+    fn add_if_taken(
+        &self,
+        trees: &mut Stack,
+        before: &'static str,
+        name: &'static str,
+        right: &mut Vec<Name>,
+    ) -> Result<(), Memory> {
+        if self.takes(trees, before, name)? {
+            right.push(Name {
+                front: before,
+                behind: Part::Text(name),
+            })?;
+        }
+        Ok(())
+    }
+
+    /// Adds the rules with this in front of them that the checker takes, up to so many as are told.
     fn add_taken(
         &self,
         trees: &mut Stack,
@@ -71,14 +87,20 @@ impl<'a> Trial<'a> {
         right: &mut Vec<Name>,
     ) -> Result<(), Memory> {
         for name in NAMES.iter() {
-            if right.len() < MOST && self.takes(trees, before, *name)? {
-                right.push(Name {
-                    front: before,
-                    behind: Part::Text(*name),
-                })?;
+            if right.len() < MOST {
+                self.add_if_taken(trees, before, *name, right)?;
             }
         }
         Ok(())
+    }
+
+    /// The rules that the checker takes, as the next node's line would name them.
+    fn right(&self, trees: &mut Stack) -> Result<Vec<Name>, Memory> {
+        let mut right = Vec::new(self.alloc);
+        for before in FRONTS.iter() {
+            self.add_taken(trees, *before, &mut right)?;
+        }
+        Ok(right)
     }
 }
 
@@ -89,10 +111,9 @@ fn right_rules(
     entry: &Entry<'_>,
     node: usize,
 ) -> Result<Vec<Name>, Memory> {
-    let mut right = Vec::new(alloc);
     let nodes = entry.nodes.get(..node).unwrap_or(&[]);
     if nodes.len() > MOST_NODES {
-        return Ok(right);
+        return Ok(Vec::new(alloc));
     }
     let trial = Trial {
         alloc,
@@ -100,10 +121,7 @@ fn right_rules(
         nodes,
         front: entry.lined.front(entry.line(node), 6),
     };
-    for before in FRONTS.iter() {
-        trial.add_taken(trees, *before, &mut right)?;
-    }
-    Ok(right)
+    trial.right(trees)
 }
 
 /// The root lines of which one may do where another one doesn't.
@@ -158,6 +176,17 @@ fn root_sentence(root: RootLine) -> &'static str {
     }
 }
 
+/// Whether the checker takes this root line behind the nodes of an entry.
+fn takes_root(
+    trees: &mut Stack,
+    alloc: Global,
+    entry: &Entry<'_>,
+    root: RootLine,
+) -> Result<bool, Memory> {
+    let rooted = rooted_of(trees, alloc, entry.table, entry.nodes, root)?;
+    Ok(rooted.is_some())
+}
+
 /// The root lines that the checker would take behind the nodes of an entry, in the place of this one.
 fn right_roots(
     trees: &mut Stack,
@@ -165,10 +194,11 @@ fn right_roots(
     entry: &Entry<'_>,
     root: RootLine,
 ) -> Result<Vec<Name>, Memory> {
+    let candidates = roots_like(root);
     let mut right = Vec::new(alloc);
-    for candidate in roots_like(root) {
-        if rooted_of(trees, alloc, entry.table, entry.nodes, candidate)?.is_some() {
-            right.push(root_name(candidate))?;
+    for candidate in &candidates {
+        if takes_root(trees, alloc, entry, *candidate)? {
+            right.push(root_name(*candidate))?;
         }
     }
     Ok(right)
