@@ -1,6 +1,6 @@
 use Rattle.std.proofs.Common.{◌≡◌, ◌-◌, ◌+◌, ◌*◌, ◌≤◌, ℕ, length}
 use Rattle.bc_parse_tree.specs.Tree.{none, no_labels, no_entries, no_declarations, no_items, no_definitions}
-use Rattle.bc_parse_tree.specs.View.{exp_view, exps_view, command_view, definitions_view, labels_view, entries_view}
+use Rattle.bc_parse_tree.specs.View.{exps_view, command_view, definitions_view, labels_view, entries_view}
 use Rattle.bc_parse_defs.specs.Reading.{piece, turns, exp_of, command_of, definition_of, exps_turn, grow_turn, repeat_turn, label_read, label_start, entry_turn, definition_turn, place_turn}
 use Rattle.bc_parse.specs.Seen.{seen, read_view, box_view, list_view, levelled_view, parts_view}
 use Rattle.bc_parse.proofs.+parser.Given as goal
