@@ -18,7 +18,7 @@ below_true : (a b : ℕ) → a ≤ b → nat_le a b ≡ true
 below_true a b h = le-leb a b h
 
 pub too_large : (f size : ℕ) (old new : State) → 65536 < f + size → Framed forms.TooLarge f size old new
-too_large f size old new h r streams = ap (λ t. choose t (in_turn r) wild (state_of old streams)) (above_false (f + size) 65536 h)
+too_large f size old new h = (h, λ r streams. ap (λ t. choose t (in_turn r) wild (state_of old streams)) (above_false (f + size) 65536 h))
 
 pub no_turn : (f size : ℕ) (old new : State) → f + size ≤ 65536 → Turned false old new → Framed forms.NoTurn f size old new
 no_turn f size old new h t r streams = ap (λ t. choose t (in_turn r) wild (state_of old streams)) (below_true (f + size) 65536 h) ∙ t.0 r streams

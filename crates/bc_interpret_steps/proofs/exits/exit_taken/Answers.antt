@@ -2,22 +2,23 @@ use Rattle.std.proofs.Common.{sym, subst}
 use Rattle.bc_core.specs.View.{block_of}
 use Rattle.bc_interpret_defs.specs.Machine.{Left, next}
 use Rattle.bc_interpret_steps.specs.Code.{spot_of, exit_of, exit_rest, stack, given}
-use Rattle.bc_interpret_steps.specs.Came.{Came, Goes}
+use Rattle.bc_interpret_steps.specs.Came.{CameOrMalformed, GoesOrMalformed}
 use Rattle.bc_interpret_steps.proofs.Loops.{for_behind}
+use Rattle.bc_interpret_steps.proofs.Quiet.{loosen}
 use Rattle.bc_interpret_steps.proofs.exits.exit_taken.Goals as goal
 
 pub returns-in-Returns : goal.returns-in-Returns
 returns-in-Returns c program =
     let before = c.args.stacks.now.rests.items in
     let st = c.args.state.now in
-    subst (λ r. Goes (next program (exit_rest r) (Left (exit_of c.args.exit))) before st c.returned-stacks.result before st) (sym c.in-Returns.is)
+    subst (λ r. GoesOrMalformed (next program (exit_rest r) (Left (exit_of c.args.exit))) before st c.returned-stacks.result before st) (sym c.in-Returns.is)
     (c.returned-stacks.ensures st program (stack before) (given before))
 
 pub returns-in-Results : goal.returns-in-Results
 returns-in-Results c program =
     let before = c.args.stacks.now.rests.items in
     let st = c.args.state.now in
-    subst (λ r. Goes (next program (exit_rest r) (Left (exit_of c.args.exit))) before st c.resulted-stacks.result before st) (sym c.in-Results.is)
+    subst (λ r. GoesOrMalformed (next program (exit_rest r) (Left (exit_of c.args.exit))) before st c.resulted-stacks.result before st) (sym c.in-Results.is)
     (c.resulted-stacks.ensures st program (stack before) (given before))
 
 pub returns-in_ok-stacks-in-None-behind-3 : goal.returns-in_ok-stacks-in-None-behind-3
@@ -27,7 +28,7 @@ returns-in_ok-stacks-in-None-behind-3 c program =
     let new = c.step_variable.new.state in
     let t = c.in-ForBody in
     let came = c.in_ok-stacks-in-None-behind-3 in
-    subst (λ r. Goes (next program (exit_rest r) (Left (exit_of c.args.exit))) before old came.field-0 before new) (sym t.is)
-    (subst (λ r. Came r old came.field-0 (stack before) (given before) new)
+    subst (λ r. GoesOrMalformed (next program (exit_rest r) (Left (exit_of c.args.exit))) before old came.field-0 before new) (sym t.is)
+    (subst (λ r. CameOrMalformed r old came.field-0 (stack before) (given before) new)
     (for_behind program (spot_of t.spot) t.limit t.by (block_of t.body.now) t.s (exit_of c.args.exit) (stack before) c.in-None-behind-3.ensures)
-    (came.ensures program (stack before) (given before)))
+    (loosen _ old came.field-0 (stack before) (given before) new (came.ensures program (stack before) (given before))))
