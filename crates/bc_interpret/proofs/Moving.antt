@@ -90,7 +90,7 @@ pub going : (program : List Placed) (n : ℕ) (w : Work) (rests : List Rest) (ol
 going program n w rests old rests1 new streams h l = through program n w rests old streams _ (h.1 streams) l
 
 pub was_wild : (program : List Placed) (n : ℕ) (w : Work) (rests : List Rest) (old : State) (c : Cause) (rests1 : List Rest) (new : State) (streams : Content) → StepIs program w rests old (progress.Wild c) rests1 new → old.turns < n → left_of program n w rests old streams ≡ meanings.Wild
-was_wild program n w rests old c rests1 new streams h l = through program n w rests old streams _ (h.1.0 streams) l
+was_wild program n w rests old c rests1 new streams h l = through program n w rests old streams _ (h.1 streams) l
 
 -- comings to a wild access
 
@@ -110,7 +110,7 @@ pub at_once : (program : List Placed) (from : machine.At) (start : outcomes.Stat
 at_once program from start c e m = record { steps = 0; at = from; state = start; comes = refl; wild = e; meets = m }
 
 pub was_met : (program : List Placed) (w : Work) (rests : List Rest) (old : State) (c : Cause) (rests1 : List Rest) (new : State) (streams : Content) → StepIs program w rests old (progress.Wild c) rests1 new → Names program (at_of w rests) (state_of old streams) (outs.Wild c)
-was_met program w rests old c rests1 new streams h = at_once program (at_of w rests) (state_of old streams) (cause_of c) (h.1.0 streams) h.1.1
+was_met program w rests old c rests1 new streams h = at_once program (at_of w rests) (state_of old streams) (cause_of c) (h.1 streams) h.2
 
 served_leads : (program : List Placed) (w : Work) (rests : List Rest) (old : State) (q : Primitive) (f v : ℕ) (rests1 : List Rest) (mid new : State) (before after : Content) (c : met.Cause) → StepIs program w rests old (progress.Serve q f) rests1 mid → Serves (λ st. left 1 (f + 2) (primitive_work (primitive_of q) f st)) mid before (forms.Number v) new after
     → ComesTo program (at_of (works.Number v) rests1) (state_of new after) c → ComesTo program (at_of w rests) (state_of old before) c

@@ -64,7 +64,7 @@ pub listed_on : (E : machine.Spot) (s : ℕ) (left behind : List ListItem) (firs
 listed_on E s left behind first at next before after old new along p h is split =
     let P : Along → Type 0 = λ x. IsAlong E first behind s at before old x p after new in
     let on = subst P is h in
-    (on.0, λ rs streams. ap (λ xs. list_step E (items xs) s (entry_of at) rs (state_of old streams)) split ∙ on.1.0 rs streams, on.1.1)
+    (on.0, λ rs streams. ap (λ xs. list_step E (items xs) s (entry_of at) rs (state_of old streams)) split ∙ on.1 rs streams, on.2)
 
 pub listed_over : (E : machine.Spot) (s : ℕ) (all left behind : List ListItem) (first : ListItem) (entry at : Entry) (before cur after : List Rest) (st old new : State) (along : Along) (p : Progress) → IsAlong E first behind s at cur old along p after new → along ≡ alongs.Over → left ≡ first ∷ behind → cur ≡ before → Stood st.store old.store
     → ((rs : List machine.Rest) (streams : Content) → list_step E (items all) s (entry_of entry) rs (state_of st streams) ≡ list_step E (items left) s (entry_of at) rs (state_of old streams)) → Goes (list_step E (items all) s (entry_of entry)) before st p after new

@@ -10,9 +10,9 @@ loop-left-preserved c =
     let i = c.loop-left.invariant in
     let on = listed_on (spot_of c.args.spot) c.args.s c.loop-left.left.now (take (length c.loop-left.left.now - 1) (drop 1 c.loop-left.left.now)) c.first-item.result c.loop-left.at c.in-On.next c.loop-left.stacks.rests.items c.list_item.new.stacks.rests.items c.loop-left.state c.list_item.new.state c.in_ok-along.along c.list_item.new.stacks.next c.in_ok-along.ensures c.in-On.is (first_of (search (rules, apart), grind (arith, common_steps, apart))) in
     record {
-      kept = λ rs streams. i.kept rs streams ∙ on.1.0 rs streams;
+      kept = λ rs streams. i.kept rs streams ∙ on.1 rs streams;
       rests = on.0 ∙ i.rests;
-      stood = λ cause h. i.stood cause (on.1.1 cause h);
+      stood = λ cause h. i.stood cause (on.2 cause h);
     }
 
 pub returns-in-Over : goal.returns-in-Over
