@@ -19,7 +19,7 @@ use Rattle.bc_interpret_defs.specs.Causes as met
 use Rattle.bc_interpret_defs.specs.Causes.{StandsIn}
 use Rattle.bc_interpret_defs.specs.Meeting.{Meets, ByArgument, after_steps, ComesTo}
 use Rattle.bc_interpret_quiet.specs.declared.sight.Cause.{Cause}
-use Rattle.bc_interpret_quiet.specs.Views.{cause_of}
+use Rattle.bc_interpret_quiet.specs.Causes.{cause_of}
 use Rattle.bc_interpret_steps.specs.declared.forms.Work.{Work}
 use Rattle.bc_interpret_steps.specs.declared.forms.Work.TheVariants as works
 use Rattle.bc_interpret_steps.specs.declared.forms.Progress.{Progress}

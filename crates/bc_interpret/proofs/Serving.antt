@@ -47,7 +47,7 @@ low_byte st address k at word b e h odd is streams =
 pub no_byte : (st : State) (address k at : ℕ) (c : Cause) → at ≡ (address + k / 2) % 65536 → Gets (read at) st (Err c) → Gets (byte_of_string address k) st (Err c)
 no_byte st address k at c e h = (
   λ streams. ap (λ a. followed (read a (state_of st streams)) (λ w. Done (cond (k % 2 == 0) (w / 256) (w % 256)))) (sym e)
-  ∙ ap (λ o. followed o (λ w. Done (cond (k % 2 == 0) (w / 256) (w % 256)))) (h.0 streams),
+      ∙ ap (λ o. followed o (λ w. Done (cond (k % 2 == 0) (w / 256) (w % 256)))) (h.0 streams),
   h.1,
 )
 

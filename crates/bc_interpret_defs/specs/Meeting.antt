@@ -36,13 +36,13 @@ pub data Meets (program : List Placed) (w : Work) (rs : List Rest) (cells : List
   ByCell : StandsIn cause cells → Meets program w rs cells cause
   -- a primitive is called, and the cell stands so once it has its argument
   ByArgument :
-    (value : ℕ) (arguments : List ℕ) (f : ℕ) (primitive : Primitive)
-    → IsCall w rs value arguments f → callee program value ≡ Some (OfLibrary primitive) → StandsIn cause (passed 1 (f + 2) arguments cells)
-    → Meets program w rs cells cause
+      (value : ℕ) (arguments : List ℕ) (f : ℕ) (primitive : Primitive)
+      → IsCall w rs value arguments f → callee program value ≡ Some (OfLibrary primitive) → StandsIn cause (passed 1 (f + 2) arguments cells)
+      → Meets program w rs cells cause
   -- a value is called that is no routine's address, or whose frame is too large
   ByCall :
-    (value : ℕ) (arguments : List ℕ) (f : ℕ)
-    → IsCall w rs value arguments f → Refused (callee program value) value f cause → Meets program w rs cells cause
+      (value : ℕ) (arguments : List ℕ) (f : ℕ)
+      → IsCall w rs value arguments f → Refused (callee program value) value f cause → Meets program w rs cells cause
   -- it is wild whatever the cells hold
   ByForm : cause ≡ Malformed → ((st : State) → step program w rs st ≡ Wild) → Meets program w rs cells cause
 

@@ -4,8 +4,7 @@ use Rattle.bc_core.specs.Tree.{Exp}
 use Rattle.bc_core.specs.Value.{has_call}
 use Rattle.bc_core.specs.View.{exp}
 use Rattle.bc_interpret_quiet.specs.declared.sight.Sight.{Sight}
-use Rattle.bc_interpret_quiet.specs.declared.sight.Cause.{Cause}
-use Rattle.bc_interpret_quiet.specs.declared.sight.Cause.TheVariants as cause_forms
+use Rattle.bc_interpret_quiet.specs.Causes.{cause_of}
 use Rattle.bc_interpret_quiet.specs.declared.forms.Work.{Work}
 use Rattle.bc_interpret_quiet.specs.declared.forms.Work.TheVariants as works
 use Rattle.bc_interpret_quiet.specs.declared.forms.Rest.{Rest}
@@ -17,20 +16,10 @@ use Rattle.bc_interpret_quiet.specs.declared.worth.Truth.{Truth}
 use Rattle.bc_interpret_quiet.specs.declared.worth.Truth.TheVariants as truth_forms
 use Rattle.bc_interpret_quiet.specs.declared.worth.Worth.TheVariants as worth_forms
 use Rattle.bc_interpret_defs.specs.Quiet.{worth, QuietWork, QuietRest, QuietStep, Stops, on, QuietAnswer, quiet_meant, quiet_weight}
-use Rattle.bc_interpret_defs.specs.Causes as causes
 use Rattle.bc_interpret_defs.specs.Quiet as quiet
 
 abbrev pub sight_of : Sight → quiet.Sight
 sight_of S = record { cells = S.store.now; address = λ l. slice_index_or S.addresses.now l 0; frame = S.frame }
-
--- the wild access that is told
-abbrev pub cause_of : Cause → causes.Cause
-cause_of (cause_forms.Unset a) = causes.Unset a
-cause_of (cause_forms.Dead a) = causes.Dead a
-cause_of (cause_forms.NoCell a) = causes.NoCell a
-cause_of (cause_forms.NotRoutine v) = causes.NotRoutine v
-cause_of (cause_forms.FrameTooLarge f) = causes.FrameTooLarge f
-cause_of cause_forms.Malformed = causes.Malformed
 
 abbrev pub work_of : Work → QuietWork
 work_of (works.Evaluate e) = quiet.Evaluate (exp e.now)

@@ -59,6 +59,7 @@ landed program v vs f rs rs0 old p rs1 vs1 new e h =
     subst (λ q. Stepped program (machine.Give (machine.Number v)) q old p rs1 vs1 new) (sym e) (by_progress p h) where
       call : IsCall (machine.Give (machine.Number v)) (machine.Calls vs f ∷ rs0) v vs f
       call = record { behind = rs0; work = refl; rests = refl }
+
       by_progress : (p : Progress) → Lands (machine.arrive (callee program v) vs f rs0) (callee program v) v vs f old p rs1 vs1 new → Stepped program (machine.Give (machine.Number v)) (machine.Calls vs f ∷ rs0) old p rs1 vs1 new
       by_progress (progress.On x) g = (tt, g)
       by_progress (progress.Serve q d) g = (tt, record { value = v; arguments = vs; frame = f; calls = call; served = g })

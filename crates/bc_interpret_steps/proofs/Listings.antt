@@ -1,11 +1,13 @@
 -- Along a list.
-use Rattle.std.proofs.Common.{◌≡◌, ℕ, Option, Some, None, List, ◌∷◌, sym, ap, subst, ◌∙◌}
+use Rattle.std.proofs.Common.{◌≡◌, ℕ, true, Option, Some, None, List, ◌∷◌, sym, ap, subst, ◌∙◌}
 use Rattle.std.specs.Borrow.{Bor}
 use Rattle.bc_machine_defs.specs.Streams.{Content}
 use Rattle.bc_core.specs.declared.command.Command.{Command}
 use Rattle.bc_core.specs.declared.command.ListItem.{ListItem}
 use Rattle.bc_core.specs.Commands as commands
-use Rattle.bc_core.specs.Lists.{Beginning}
+use Rattle.bc_core.specs.Exit.{Jumped}
+use Rattle.bc_core.specs.Lists.{Beginning, AtLabel, has_label}
+use Rattle.bc_core.specs.Map.{Placed}
 use Rattle.bc_core.specs.Outcome as outcomes
 use Rattle.bc_core.specs.View.{items, items_before, command as command_view}
 use Rattle.bc_interpret_defs.specs.Machine as machine
@@ -22,10 +24,10 @@ use Rattle.bc_interpret_steps.specs.declared.lists.Along.TheVariants as alongs
 use Rattle.bc_interpret_steps.specs.declared.forms.Progress.{Progress}
 use Rattle.bc_interpret_steps.specs.declared.rests.Rest.{Rest}
 use Rattle.bc_interpret_steps.specs.Code.{entry_of, stack, given}
-use Rattle.bc_interpret_steps.specs.Came.{state_of, Goes}
+use Rattle.bc_interpret_steps.specs.Came.{state_of, Came, CameOrMalformed, Goes}
 use Rattle.bc_interpret_steps.specs.Along.{IsAlong}
 use Rattle.bc_interpret_steps.specs.Assigns.{IsNext, IsDone}
-use Rattle.bc_interpret_steps.proofs.Quiet.{moved_came}
+use Rattle.bc_interpret_steps.proofs.Quiet.{loosen, same_came, moved_came}
 
 -- what came of the first command
 pub told_done : (E : machine.Spot) (c : commands.Command) (old : State) (found : Option Assigned) (came : Assigned) (new : State) → IsDone E c old found new → found ≡ Some came → IsDone E c old (Some came) new
@@ -74,3 +76,12 @@ listed_over E s all left behind first entry at before cur after st old new along
     (λ streams. kept (stack before) streams
     ∙ (ap (λ xs. list_step E (items xs) s (entry_of at) (stack before) (state_of old streams)) split
     ∙ ap (λ q. list_step E (items_before first (items behind)) s (entry_of at) (stack q) (state_of old streams)) (sym same))) (subst P is h)
+
+-- a list that a jump enters again
+pub listed_again : (program : List Placed) (E : machine.Spot) (is : List ListItem) (s l : ℕ) (rs rs1 rs2 : List machine.Rest) (old : State) (p : Progress) (vs : List ℕ) (new : State) → has_label (items is) l ≡ true → rs1 ≡ machine.Listed E (items is) s ∷ rs
+    → Came (list_step E (items is) s (AtLabel l) rs1) old p rs2 vs new → CameOrMalformed (machine.next program (machine.Listed E (items is) s) (machine.Left (Jumped l)) rs) old p rs2 vs new
+listed_again program E is s l rs rs1 rs2 old p vs new here e h =
+    let r = machine.next program (machine.Listed E (items is) s) (machine.Left (Jumped l)) rs in
+    loosen r old p rs2 vs new
+    (same_came r (list_step E (items is) s (AtLabel l) rs1) old p rs2 vs new
+    (λ streams. ap (λ t. machine.jump E (items is) s l t rs (state_of old streams)) here ∙ ap (λ q. list_step E (items is) s (AtLabel l) q (state_of old streams)) (sym e)) h)

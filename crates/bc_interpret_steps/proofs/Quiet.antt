@@ -19,14 +19,16 @@ use Rattle.bc_interpret_quiet.specs.declared.worth.Truth.{Truth}
 use Rattle.bc_interpret_quiet.specs.declared.worth.Truth.TheVariants as truths
 use Rattle.bc_interpret_quiet.specs.declared.sight.Cause.{Cause}
 use Rattle.bc_interpret_quiet.specs.declared.sight.Cause.TheVariants as causes
-use Rattle.bc_interpret_quiet.specs.Views.{cause_of, seen, seen_truth, IsWorth, IsTruth}
+use Rattle.bc_interpret_quiet.specs.Causes.{cause_of}
+use Rattle.bc_interpret_quiet.specs.Views.{seen, seen_truth, IsWorth, IsTruth}
 use Rattle.bc_interpret_steps.specs.declared.state.State.{State}
+use Rattle.bc_interpret_steps.specs.declared.rests.Rest.{Rest}
 use Rattle.bc_interpret_steps.specs.declared.forms.Progress.{Progress}
 use Rattle.bc_interpret_steps.specs.declared.forms.Progress.TheVariants as progress
 use Rattle.bc_interpret_steps.specs.declared.forms.Work.{Work}
-use Rattle.bc_interpret_steps.specs.Code.{work_of}
+use Rattle.bc_interpret_steps.specs.Code.{work_of, stack, given}
 use Rattle.bc_interpret_steps.specs.declared.forms.Ending.TheVariants as endings
-use Rattle.bc_interpret_steps.specs.Came.{state_of, Came, CameOrMalformed, progress_of, progress_of_truth, sight}
+use Rattle.bc_interpret_steps.specs.Came.{state_of, Came, CameOrMalformed, Goes, GoesOrMalformed, progress_of, progress_of_truth, sight}
 
 -- what comes of a step comes of one that is the same
 pub same_came : (r q : machine.Step) (old : State) (p : Progress) (rs : List machine.Rest) (vs : List ℕ) (new : State) → ((streams : Content) → r (state_of old streams) ≡ q (state_of old streams)) → Came q old p rs vs new → Came r old p rs vs new
@@ -59,6 +61,9 @@ loosen r old (progress.Wild (causes.NoCell a)) rs vs new h = h
 loosen r old (progress.Wild (causes.NotRoutine v)) rs vs new h = h
 loosen r old (progress.Wild (causes.FrameTooLarge f)) rs vs new h = h
 loosen r old (progress.Wild causes.Malformed) rs vs new h = absurd h.1
+
+pub loosened : (f : List machine.Rest → machine.Step) (before : List Rest) (old : State) (p : Progress) (after : List Rest) (new : State) → Goes f before old p after new → GoesOrMalformed f before old p after new
+loosened f before old p after new h = loosen (f (stack before)) old p (stack after) (given after) new h
 
 -- what was found
 pub told_worth : (S : quiet_forms.Sight) (e : Exp) (found : Option Worth) (w : Worth) → IsWorth S e found → found ≡ Some w → (has_call e ≡ false) × (seen w ≡ (worth S e).value)

@@ -15,7 +15,7 @@ use Rattle.bc_interpret_steps.specs.declared.arguments.Given.TheVariants as form
 use Rattle.bc_interpret_defs.specs.Machine as machine
 use Rattle.bc_interpret_defs.specs.Machine.{give, arrive}
 use Rattle.bc_interpret_defs.specs.Meeting.{Refused}
-use Rattle.bc_interpret_quiet.specs.Views.{cause_of}
+use Rattle.bc_interpret_quiet.specs.Causes.{cause_of}
 use Rattle.bc_interpret_steps.specs.declared.forms.Arguments.{Arguments}
 use Rattle.bc_interpret_steps.specs.declared.rests.Rest.{Rest}
 use Rattle.bc_interpret_steps.specs.declared.state.State.{State}
@@ -70,7 +70,8 @@ abbrev pub Enters :
     {A E : Type 0} → Option Callee → (value frame : ℕ) → (before : Stacks) → (old : State) → Result A E → (after : Stacks) → (new : State) → Type 0
 Enters called value f before old result after new =
     let vs = reverse before.arguments.items in
-    OnOk result (Lands (arrive called vs f (stack before.rests.items)) called value vs f old after.next (stack after.rests.items) (given after.rests.items) new)
+    OnOk result (Lands (arrive called vs f (stack before.rests.items)) called value vs f old after.next (stack after.rests.items)
+    (given after.rests.items) new)
 
 -- a value is called, with the arguments that are given, or with none where the call is fresh
 abbrev pub Arrives :
@@ -80,5 +81,5 @@ abbrev pub Arrives :
 Arrives table value fresh f before old result after new =
     (program : List Placed) → IsTable program table
     → let vs = given_for fresh (given before.rests.items) in
-    OnOk result (Lands (arrive (callee program value) vs f (stack before.rests.items)) (callee program value) value vs f old after.next (stack after.rests.items)
-    (given after.rests.items) new)
+    OnOk result (Lands (arrive (callee program value) vs f (stack before.rests.items)) (callee program value) value vs f old after.next
+    (stack after.rests.items) (given after.rests.items) new)

@@ -10,7 +10,7 @@ use Rattle.bc_core.specs.Lists as lists
 use Rattle.bc_core.specs.Primitive as primitives
 use Rattle.bc_interpret_quiet.specs.declared.sight.Cause.{Cause}
 use Rattle.bc_interpret_quiet.specs.declared.sight.Cause.TheVariants as causes
-use Rattle.bc_interpret_quiet.specs.Views.{cause_of}
+use Rattle.bc_interpret_quiet.specs.Causes.{cause_of}
 use Rattle.bc_interpret_quiet.specs.declared.worth.Worth.{Worth}
 use Rattle.bc_interpret_quiet.specs.declared.worth.Worth.TheVariants as worths
 use Rattle.bc_interpret_quiet.specs.declared.worth.Truth.{Truth}
@@ -104,8 +104,10 @@ IsBehindCases out within = (st : outcomes.State) → lists.behind_cases within s
 
 -- whether a call goes on in a frame at f
 abbrev pub Framed : Fit → (f size : ℕ) → State → State → Type 0
-Framed fits.Fits f size old new = (r : machine.Step) (streams : Content) → frame_taken f size r (state_of old streams) ≡ r (state_of new streams)
-Framed fits.TooLarge f size old new = (65536 < f + size) × ((r : machine.Step) (streams : Content) → frame_taken f size r (state_of old streams) ≡ outcomes.Wild)
+Framed fits.Fits f size old new =
+    ((r : machine.Step) (streams : Content) → frame_taken f size r (state_of old streams) ≡ r (state_of new streams)) × (new.store ≡ old.store)
+Framed fits.TooLarge f size old new =
+    (65536 < f + size) × ((r : machine.Step) (streams : Content) → frame_taken f size r (state_of old streams) ≡ outcomes.Wild)
 Framed fits.NoTurn f size old new = (r : machine.Step) (streams : Content) → frame_taken f size r (state_of old streams) ≡ outcomes.Going streams
 
 abbrev pub primitive_if : Option Primitive → Option primitives.Primitive

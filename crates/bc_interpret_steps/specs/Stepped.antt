@@ -9,7 +9,7 @@ use Rattle.bc_core.specs.Outcome as outcomes
 use Rattle.bc_core.specs.Primitive as primitives
 use Rattle.bc_interpret_defs.specs.Machine.{step, next}
 use Rattle.bc_interpret_defs.specs.Meeting.{IsCall, Meets}
-use Rattle.bc_interpret_quiet.specs.Views.{cause_of}
+use Rattle.bc_interpret_quiet.specs.Causes.{cause_of}
 use Rattle.bc_interpret_defs.specs.Running.{Moves}
 use Rattle.bc_interpret_steps.specs.declared.state.State.{State}
 use Rattle.bc_interpret_steps.specs.declared.forms.Progress.{Progress}
@@ -61,7 +61,8 @@ Takes r a before old result p after new = (program : List Placed) → OnOk resul
 abbrev pub TakesOrMalformed :
     {A E : Type 0}
     → machine.Rest → machine.Answer → (before : Vec Rest Global) → (old : State) → Result A E → Progress → (after : Vec Rest Global) → (new : State) → Type 0
-TakesOrMalformed r a before old result p after new = (program : List Placed) → OnOk result (GoesOrMalformed (next program r a) before.items old p after.items new)
+TakesOrMalformed r a before old result p after new =
+    (program : List Placed) → OnOk result (GoesOrMalformed (next program r a) before.items old p after.items new)
 
 -- which leaves what is behind it alone,
 abbrev pub Gives : machine.Rest → machine.Answer → (old : State) → Progress → (new : State) → Type 0

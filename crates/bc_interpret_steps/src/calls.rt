@@ -58,6 +58,7 @@ fn primitive_at(address: u16) -> Option<Primitive>
 }
 
 /// Into a primitive, in the frame at this address.
+#[tactic(auto, using(crate::proofs::Frames::served))]
 fn enter_primitive<'c>(
     primitive: Primitive,
     frame: u32,

@@ -94,7 +94,8 @@ pub(crate) fn evaluate<'c>(
     stacks: &mut Stacks<'c>,
     state: &State,
 ) -> Result<(), Memory>
-    ensures { ProceedsOrMalformed (machine.evaluate (spot_of spot.entry) (exp e.now) s) stacks.old.rests state.now result stacks.new.next stacks.new.rests state.now }
+    ensures { ProceedsOrMalformed (machine.evaluate (spot_of spot.entry)
+        (exp e.now) s) stacks.old.rests state.now result stacks.new.next stacks.new.rests state.now }
 {
     match worth_at(&spot, e, &mut stacks.room, state)? {
         Some(worth) => {

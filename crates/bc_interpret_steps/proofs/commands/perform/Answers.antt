@@ -3,10 +3,10 @@ use Rattle.bc_core.specs.View.{exp, items, command, block_of}
 use Rattle.bc_core.proofs.Rows.{if_view, test_view, while_view, repeat_view, repeat_while_view, for_view, switchon_view, nested_view}
 use Rattle.bc_interpret_defs.specs.Machine as machine
 use Rattle.bc_interpret_defs.specs.Machine.{perform_step}
-use Rattle.bc_interpret_steps.specs.Code.{spot_of, stack, given}
-use Rattle.bc_interpret_steps.specs.Came.{GoesOrMalformed}
+use Rattle.bc_interpret_steps.specs.Code.{spot_of, stack}
+use Rattle.bc_interpret_steps.specs.Came.{Goes, GoesOrMalformed}
 use Rattle.bc_interpret_steps.proofs.Performs.{for_performed}
-use Rattle.bc_interpret_steps.proofs.Quiet.{loosen}
+use Rattle.bc_interpret_steps.proofs.Quiet.{loosened}
 use Rattle.bc_interpret_steps.proofs.commands.perform.Goals as goal
 
 pub returns-in_ok-behind_value-in-Call : goal.returns-in_ok-behind_value-in-Call
@@ -35,38 +35,44 @@ returns-in_ok-behind_value-in-ResultIs c =
 pub returns-in_ok-enter-in-Nested : goal.returns-in_ok-enter-in-Nested
 returns-in_ok-enter-in-Nested c =
     let t = c.in-Nested in
-    subst (λ k. GoesOrMalformed (perform_step (spot_of c.args.spot) k c.args.s) c.args.stacks.now.rests.items c.args.state.now c.enter.new.stacks.next c.enter.new.stacks.rests.items c.enter.new.state)
-    (sym (ap command t.is ∙ nested_view t.body)) (loosen _ c.args.state.now c.enter.new.stacks.next (stack c.enter.new.stacks.rests.items) (given c.enter.new.stacks.rests.items) c.enter.new.state c.in_ok-enter-in-Nested.ensures)
+    loosened (perform_step (spot_of c.args.spot) (command c.args.command.now) c.args.s) c.args.stacks.now.rests.items c.args.state.now c.enter.new.stacks.next c.enter.new.stacks.rests.items c.enter.new.state
+    (subst (λ k. Goes (perform_step (spot_of c.args.spot) k c.args.s) c.args.stacks.now.rests.items c.args.state.now c.enter.new.stacks.next c.enter.new.stacks.rests.items c.enter.new.state)
+    (sym (ap command t.is ∙ nested_view t.body)) c.in_ok-enter-in-Nested.ensures)
 
 pub returns-in_ok-if_so-in-If : goal.returns-in_ok-if_so-in-If
 returns-in_ok-if_so-in-If c =
     let t = c.in-If in
-    subst (λ k. GoesOrMalformed (perform_step (spot_of c.args.spot) k c.args.s) c.args.stacks.now.rests.items c.args.state.now c.if_so.new.stacks.next c.if_so.new.stacks.rests.items c.if_so.new.state)
-    (sym (ap command t.is ∙ if_view t.condition t.body)) (loosen _ c.args.state.now c.if_so.new.stacks.next (stack c.if_so.new.stacks.rests.items) (given c.if_so.new.stacks.rests.items) c.if_so.new.state c.in_ok-if_so-in-If.ensures)
+    loosened (perform_step (spot_of c.args.spot) (command c.args.command.now) c.args.s) c.args.stacks.now.rests.items c.args.state.now c.if_so.new.stacks.next c.if_so.new.stacks.rests.items c.if_so.new.state
+    (subst (λ k. Goes (perform_step (spot_of c.args.spot) k c.args.s) c.args.stacks.now.rests.items c.args.state.now c.if_so.new.stacks.next c.if_so.new.stacks.rests.items c.if_so.new.state)
+    (sym (ap command t.is ∙ if_view t.condition t.body)) c.in_ok-if_so-in-If.ensures)
 
 pub returns-in_ok-while_loop-in-While : goal.returns-in_ok-while_loop-in-While
 returns-in_ok-while_loop-in-While c =
     let t = c.in-While in
-    subst (λ k. GoesOrMalformed (perform_step (spot_of c.args.spot) k c.args.s) c.args.stacks.now.rests.items c.args.state.now c.while_loop.new.stacks.next c.while_loop.new.stacks.rests.items c.while_loop.new.state)
-    (sym (ap command t.is ∙ while_view t.condition t.body)) (loosen _ c.args.state.now c.while_loop.new.stacks.next (stack c.while_loop.new.stacks.rests.items) (given c.while_loop.new.stacks.rests.items) c.while_loop.new.state c.in_ok-while_loop-in-While.ensures)
+    loosened (perform_step (spot_of c.args.spot) (command c.args.command.now) c.args.s) c.args.stacks.now.rests.items c.args.state.now c.while_loop.new.stacks.next c.while_loop.new.stacks.rests.items c.while_loop.new.state
+    (subst (λ k. Goes (perform_step (spot_of c.args.spot) k c.args.s) c.args.stacks.now.rests.items c.args.state.now c.while_loop.new.stacks.next c.while_loop.new.stacks.rests.items c.while_loop.new.state)
+    (sym (ap command t.is ∙ while_view t.condition t.body)) c.in_ok-while_loop-in-While.ensures)
 
 pub returns-in_ok-test_which-in-Test : goal.returns-in_ok-test_which-in-Test
 returns-in_ok-test_which-in-Test c =
     let t = c.in-Test in
-    subst (λ k. GoesOrMalformed (perform_step (spot_of c.args.spot) k c.args.s) c.args.stacks.now.rests.items c.args.state.now c.test_which.new.stacks.next c.test_which.new.stacks.rests.items c.args.state.now)
-    (sym (ap command t.is ∙ test_view t.test t.this t.that)) (loosen _ c.args.state.now c.test_which.new.stacks.next (stack c.test_which.new.stacks.rests.items) (given c.test_which.new.stacks.rests.items) c.args.state.now c.in_ok-test_which-in-Test.ensures)
+    loosened (perform_step (spot_of c.args.spot) (command c.args.command.now) c.args.s) c.args.stacks.now.rests.items c.args.state.now c.test_which.new.stacks.next c.test_which.new.stacks.rests.items c.args.state.now
+    (subst (λ k. Goes (perform_step (spot_of c.args.spot) k c.args.s) c.args.stacks.now.rests.items c.args.state.now c.test_which.new.stacks.next c.test_which.new.stacks.rests.items c.args.state.now)
+    (sym (ap command t.is ∙ test_view t.test t.this t.that)) c.in_ok-test_which-in-Test.ensures)
 
 pub returns-in_ok-repeat-in-Repeat : goal.returns-in_ok-repeat-in-Repeat
 returns-in_ok-repeat-in-Repeat c =
     let t = c.in-Repeat in
-    subst (λ k. GoesOrMalformed (perform_step (spot_of c.args.spot) k c.args.s) c.args.stacks.now.rests.items c.args.state.now c.repeat.new.stacks.next c.repeat.new.stacks.rests.items c.args.state.now)
-    (sym (ap command t.is ∙ repeat_view t.body)) (loosen _ c.args.state.now c.repeat.new.stacks.next (stack c.repeat.new.stacks.rests.items) (given c.repeat.new.stacks.rests.items) c.args.state.now (c.in_ok-repeat-in-Repeat.ensures c.args.state.now))
+    loosened (perform_step (spot_of c.args.spot) (command c.args.command.now) c.args.s) c.args.stacks.now.rests.items c.args.state.now c.repeat.new.stacks.next c.repeat.new.stacks.rests.items c.args.state.now
+    (subst (λ k. Goes (perform_step (spot_of c.args.spot) k c.args.s) c.args.stacks.now.rests.items c.args.state.now c.repeat.new.stacks.next c.repeat.new.stacks.rests.items c.args.state.now)
+    (sym (ap command t.is ∙ repeat_view t.body)) (c.in_ok-repeat-in-Repeat.ensures c.args.state.now))
 
 pub returns-in_ok-repeat_while-in-RepeatWhile : goal.returns-in_ok-repeat_while-in-RepeatWhile
 returns-in_ok-repeat_while-in-RepeatWhile c =
     let t = c.in-RepeatWhile in
-    subst (λ k. GoesOrMalformed (perform_step (spot_of c.args.spot) k c.args.s) c.args.stacks.now.rests.items c.args.state.now c.repeat_while.new.stacks.next c.repeat_while.new.stacks.rests.items c.args.state.now)
-    (sym (ap command t.is ∙ repeat_while_view t.body t.condition)) (loosen _ c.args.state.now c.repeat_while.new.stacks.next (stack c.repeat_while.new.stacks.rests.items) (given c.repeat_while.new.stacks.rests.items) c.args.state.now (c.in_ok-repeat_while-in-RepeatWhile.ensures c.args.state.now))
+    loosened (perform_step (spot_of c.args.spot) (command c.args.command.now) c.args.s) c.args.stacks.now.rests.items c.args.state.now c.repeat_while.new.stacks.next c.repeat_while.new.stacks.rests.items c.args.state.now
+    (subst (λ k. Goes (perform_step (spot_of c.args.spot) k c.args.s) c.args.stacks.now.rests.items c.args.state.now c.repeat_while.new.stacks.next c.repeat_while.new.stacks.rests.items c.args.state.now)
+    (sym (ap command t.is ∙ repeat_while_view t.body t.condition)) (c.in_ok-repeat_while-in-RepeatWhile.ensures c.args.state.now))
 
 pub returns-in_ok-above-in-For : goal.returns-in_ok-above-in-For
 returns-in_ok-above-in-For c =

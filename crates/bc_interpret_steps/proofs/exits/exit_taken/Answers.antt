@@ -1,6 +1,7 @@
 use Rattle.std.proofs.Common.{sym, subst}
+use Rattle.bc_core.specs.Exit.{Past}
 use Rattle.bc_core.specs.View.{block_of}
-use Rattle.bc_interpret_defs.specs.Machine.{Left, next}
+use Rattle.bc_interpret_defs.specs.Machine.{Left, ForBody, next}
 use Rattle.bc_interpret_steps.specs.Code.{spot_of, exit_of, exit_rest, stack, given}
 use Rattle.bc_interpret_steps.specs.Came.{CameOrMalformed, GoesOrMalformed}
 use Rattle.bc_interpret_steps.proofs.Loops.{for_behind}
@@ -31,4 +32,4 @@ returns-in_ok-stacks-in-None-behind-3 c program =
     subst (λ r. GoesOrMalformed (next program (exit_rest r) (Left (exit_of c.args.exit))) before old came.field-0 before new) (sym t.is)
     (subst (λ r. CameOrMalformed r old came.field-0 (stack before) (given before) new)
     (for_behind program (spot_of t.spot) t.limit t.by (block_of t.body.now) t.s (exit_of c.args.exit) (stack before) c.in-None-behind-3.ensures)
-    (loosen _ old came.field-0 (stack before) (given before) new (came.ensures program (stack before) (given before))))
+    (loosen (next program (ForBody (spot_of t.spot) t.limit t.by (block_of t.body.now) t.s) (Left Past) (stack before)) old came.field-0 (stack before) (given before) new (came.ensures program (stack before) (given before))))
