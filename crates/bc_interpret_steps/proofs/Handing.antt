@@ -1,5 +1,5 @@
 -- An answer that is handed on.
-use Rattle.std.proofs.Common.{◌≡◌, ℕ, Bool, List, [], ◌∷◌, refl, sym, subst}
+use Rattle.std.proofs.Common.{◌≡◌, ℕ, List, ◌∷◌, refl, sym, subst}
 use Rattle.bc_core.specs.Map.{Placed}
 use Rattle.bc_interpret_defs.specs.Machine as machine
 use Rattle.bc_core.specs.Meaning.{callee}

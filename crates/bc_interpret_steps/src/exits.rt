@@ -60,7 +60,6 @@ fn step_variable<'c>(
 }
 
 /// What is done where control leaves a command.
-#[tactic(auto, using(crate::proofs::Listings::listed_again))]
 pub(crate) fn exit_taken<'c>(
     rest: &ExitRest<'c>,
     exit: Exit,

@@ -1,5 +1,5 @@
-use Rattle.std.proofs.Common.{◌≡◌, Some, reverse, sym, ap, subst, ◌∙◌, OnOk}
-use Rattle.bc_core.specs.Meaning.{OfLibrary, callee, of_library}
+use Rattle.std.proofs.Common.{Some, reverse, sym, ap, subst, ◌∙◌, OnOk}
+use Rattle.bc_core.specs.Meaning.{OfLibrary, of_library}
 use Rattle.bc_interpret_defs.specs.Machine.{arrive}
 use Rattle.bc_interpret_steps.specs.Code.{given_for, stack, given}
 use Rattle.bc_interpret_steps.specs.Came.{primitive_of}
