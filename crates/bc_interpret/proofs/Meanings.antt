@@ -48,8 +48,9 @@ meaning_is program cores map base turns before after o e b h =
 pub run_names : (program : List Placed) (base turns : ℕ) (rests : List Rest) (st : State) (before : Content) (o : Outcome) → st.store ≡ start_cells (standing program) → st.turns ≡ turns
     → stack rests ≡ machine.Loads ∷ machine.Calls [] (base + 2) ∷ [] → Names program (at_of (works.Number 9) rests) (state_of st before) o → Names program (start_at base) (start_state program before turns) o
 run_names program base turns rests st before o e t r h =
+    let begun : state_of st before ≡ start_state program before turns = λ i. record { cells = e i; streams = before; turns = t i } in
     subst (λ rs. Names program (record { work = machine.Give (machine.Number 9); rests = rs }) (start_state program before turns) o) r
-    (subst (λ s. Names program (at_of (works.Number 9) rests) s o) (λ i. record { cells = e i; streams = before; turns = t i }) h)
+    (subst (λ s. Names program (at_of (works.Number 9) rests) s o) begun h)
 
 pub names_is : (program : List Placed) (cores : List Core) (map : Map) (base turns : ℕ) (before : Content) (o : Outcome) → program ≡ placed cores map.places → base ≡ map.stack_base
     → Names program (start_at base) (start_state program before turns) o → NamesFrom cores map before turns o
