@@ -7,6 +7,7 @@ use Rattle.bc_core.specs.Meaning.{Result, calls, result_of, run_of, entered_at, 
 use Rattle.bc_core.specs.Start.{start_cells}
 use Rattle.bc_interpret_defs.specs.Machine as machine
 use Rattle.bc_interpret_defs.specs.Resume.{meant}
+use Rattle.bc_interpret_defs.specs.Running.{start_at, start_state}
 use Rattle.bc_interpret_laws.proofs.Running.{start_means}
 use Rattle.bc_interpret_steps.specs.declared.forms.Work.TheVariants as works
 use Rattle.bc_interpret_steps.specs.declared.rests.Rest.{Rest}
@@ -15,8 +16,9 @@ use Rattle.bc_interpret_steps.specs.Code.{stack}
 use Rattle.bc_interpret_steps.specs.Came.{state_of}
 use Rattle.bc_interpret.specs.declared.run.Outcome.{Outcome}
 use Rattle.bc_interpret.specs.declared.run.Outcome.TheVariants as outs
-use Rattle.bc_interpret.specs.Results.{IsResult}
-use Rattle.bc_interpret.specs.Moving.{left_of}
+use Rattle.bc_interpret.specs.Results.{IsResult, Names}
+use Rattle.bc_interpret.specs.Interpreted.{NamesFrom}
+use Rattle.bc_interpret.specs.Moving.{at_of, left_of}
 
 pub result_from : (r r1 : Result) (o : Outcome) (streams : Content) → r ≡ r1 → IsResult r1 o streams → IsResult r o streams
 result_from r r1 (outs.Ended e) streams h k = h ∙ k
@@ -41,3 +43,18 @@ meaning_is program cores map base turns before after o e b h =
     let program1 = placed cores map.places in
     subst (λ n. IsResult (meaning_over (start_cells (standing program1)) (entered_at program1) n before turns) o after) b
     (subst (λ p. IsResult (meaning_over (start_cells (standing p)) (entered_at p) base before turns) o after) e h)
+
+-- the wild access that is named, from the start
+pub run_names : (program : List Placed) (base turns : ℕ) (rests : List Rest) (st : State) (before : Content) (o : Outcome) → st.store ≡ start_cells (standing program) → st.turns ≡ turns
+    → stack rests ≡ machine.Loads ∷ machine.Calls [] (base + 2) ∷ [] → Names program (at_of (works.Number 9) rests) (state_of st before) o → Names program (start_at base) (start_state program before turns) o
+run_names program base turns rests st before o e t r h =
+    let begun : state_of st before ≡ start_state program before turns = λ i. record { cells = e i; streams = before; turns = t i } in
+    subst (λ rs. Names program (record { work = machine.Give (machine.Number 9); rests = rs }) (start_state program before turns) o) r
+    (subst (λ s. Names program (at_of (works.Number 9) rests) s o) begun h)
+
+pub names_is : (program : List Placed) (cores : List Core) (map : Map) (base turns : ℕ) (before : Content) (o : Outcome) → program ≡ placed cores map.places → base ≡ map.stack_base
+    → Names program (start_at base) (start_state program before turns) o → NamesFrom cores map before turns o
+names_is program cores map base turns before o e b h =
+    let program1 = placed cores map.places in
+    subst (λ n. Names program1 (start_at n) (start_state program1 before turns) o) b
+    (subst (λ p. Names p (start_at base) (start_state p before turns) o) e h)

@@ -12,17 +12,18 @@ use Rattle.bc_core.specs.Outcome.{Outcome, Done, Ended, Going, Wild, Run, follow
 use Rattle.bc_core.specs.Primitive.{byte_of_string, bytes_of_string, string_of, on_streams, primitive_work}
 use Rattle.bc_core.specs.Primitive as primitives
 use Rattle.bc_interpret_quiet.specs.declared.sight.Cause.{Cause}
+use Rattle.bc_interpret_quiet.specs.declared.sight.Cause.TheVariants as causes
 use Rattle.bc_interpret_steps.specs.declared.state.State.{State}
 use Rattle.bc_interpret_steps.specs.Came.{state_of}
 use Rattle.bc_interpret.specs.declared.serve.Served.{Served}
 use Rattle.bc_interpret.specs.declared.serve.Served.TheVariants as forms
 use Rattle.bc_interpret.specs.Serving.{Gets, GetsName, Naming, Serves, Numbers}
 
-pub read_dead : (st : State) (a : ℕ) (c : Cause) → Dead ≡ cell_at st.store a → Gets (read a) st (Err c)
-read_dead st a c e streams = ap (λ x. content_of_cell x (state_of st streams)) (sym e)
+pub read_dead : (st : State) (a : ℕ) → Dead ≡ cell_at st.store a → Gets (read a) st (Err (causes.Dead a))
+read_dead st a e = (λ streams. ap (λ x. content_of_cell x (state_of st streams)) (sym e), sym e)
 
-pub read_unset : (st : State) (a : ℕ) (c : Cause) → Unset ≡ cell_at st.store a → Gets (read a) st (Err c)
-read_unset st a c e streams = ap (λ x. content_of_cell x (state_of st streams)) (sym e)
+pub read_unset : (st : State) (a : ℕ) → Unset ≡ cell_at st.store a → Gets (read a) st (Err (causes.Unset a))
+read_unset st a e = (λ streams. ap (λ x. content_of_cell x (state_of st streams)) (sym e), sym e)
 
 pub read_set : (st : State) (a w : ℕ) → Set w ≡ cell_at st.store a → Gets (read a) st (Ok w)
 read_set st a w e streams = ap (λ x. content_of_cell x (state_of st streams)) (sym e)
@@ -44,9 +45,11 @@ low_byte st address k at word b e h odd is streams =
     ∙ ap (λ x. Done x (state_of st streams)) (sym is)))
 
 pub no_byte : (st : State) (address k at : ℕ) (c : Cause) → at ≡ (address + k / 2) % 65536 → Gets (read at) st (Err c) → Gets (byte_of_string address k) st (Err c)
-no_byte st address k at c e h streams =
-    ap (λ a. followed (read a (state_of st streams)) (λ w. Done (cond (k % 2 == 0) (w / 256) (w % 256)))) (sym e)
-    ∙ ap (λ o. followed o (λ w. Done (cond (k % 2 == 0) (w / 256) (w % 256)))) (h streams)
+no_byte st address k at c e h = (
+  λ streams. ap (λ a. followed (read a (state_of st streams)) (λ w. Done (cond (k % 2 == 0) (w / 256) (w % 256)))) (sym e)
+      ∙ ap (λ o. followed o (λ w. Done (cond (k % 2 == 0) (w / 256) (w % 256)))) (h.0 streams),
+  h.1,
+)
 
 -- the bytes of a name, one by one
 
@@ -85,7 +88,7 @@ naming_fails st address length k name c l h g streams =
     let e : length - k ≡ suc (length - (k + 1)) = omega arith in
     h streams
     ∙ (ap (λ n. followed (bytes_of_string n (k + 1) address S) (λ rest. Done (name ++ rest))) e
-    ∙ ap (λ o. followed (followed o (λ byte. then_do (bytes_of_string (length - (k + 1)) (k + 1 + 1) address) (λ bytes. Done (byte ∷ bytes)))) (λ rest. Done (name ++ rest))) (g streams))
+    ∙ ap (λ o. followed (followed o (λ byte. then_do (bytes_of_string (length - (k + 1)) (k + 1 + 1) address) (λ bytes. Done (byte ∷ bytes)))) (λ rest. Done (name ++ rest))) (g.0 streams))
 
 naming_whole : (st : State) (address length : ℕ) (name : List ℕ) → Naming st address length length name → (streams : Content) → bytes_of_string length 1 address (state_of st streams) ≡ Done name (state_of st streams)
 naming_whole st address length name h streams =
@@ -99,17 +102,17 @@ named st address length name g h streams =
     ap (λ o. followed o (λ n. bytes_of_string n 1 address)) (g streams) ∙ naming_whole st address length name h streams
 
 pub no_length : (st : State) (address : ℕ) (name : List ℕ) (c : Cause) → Gets (byte_of_string address 0) st (Err c) → GetsName (string_of address) st (Some c) name
-no_length st address name c g streams = ap (λ o. followed o (λ n. bytes_of_string n 1 address)) (g streams)
+no_length st address name c g = (λ streams. ap (λ o. followed o (λ n. bytes_of_string n 1 address)) (g.0 streams), g.1)
 
 pub no_name : (st : State) (address length k : ℕ) (name name1 : List ℕ) (c : Cause) → Gets (byte_of_string address 0) st (Ok length) → k < length → Naming st address length k name → Gets (byte_of_string address (k + 1)) st (Err c) → GetsName (string_of address) st (Some c) name1
-no_name st address length k name name1 c g l h fails streams =
-    ap (λ o. followed o (λ n. bytes_of_string n 1 address)) (g streams) ∙ naming_fails st address length k name c l h fails streams
+no_name st address length k name name1 c g l h fails =
+    (λ streams. ap (λ o. followed o (λ n. bytes_of_string n 1 address)) (g streams) ∙ naming_fails st address length k name c l h fails streams, fails.1)
 
 -- the primitives, over any streams
 
 pub not_read : (st : State) (a f : ℕ) (c : Cause) (then : ℕ → Run ℕ) → a ≡ f + 2 → Gets (read a) st (Err c) → (streams : Content) → then_do (read (f + 2)) then (state_of st streams) ≡ Wild
 not_read st a f c then e h streams =
-    ap (λ x. followed (read x (state_of st streams)) then) (sym e) ∙ ap (λ o. followed o then) (h streams)
+    ap (λ x. followed (read x (state_of st streams)) then) (sym e) ∙ ap (λ o. followed o then) (h.0 streams)
 
 argued : (st : State) (a f n : ℕ) (then : ℕ → Run ℕ) → a ≡ f + 2 → Gets (read a) st (Ok n) → (streams : Content) → then_do (read (f + 2)) then (state_of st streams) ≡ then n (state_of st streams)
 argued st a f n then e h streams =
@@ -129,7 +132,7 @@ found st side a f address name e h g streams =
 pub not_found : (st : State) (side : Side) (a f address : ℕ) (name : List ℕ) (c : Cause) → a ≡ f + 2 → Gets (read a) st (Ok address) → GetsName (string_of address) st (Some c) name → (streams : Content) → primitive_work (primitives.Find side) f (state_of st streams) ≡ Wild
 not_found st side a f address name c e h g streams =
     argued st a f address (λ x. then_do (string_of x) (λ bytes s. Done (find_stream side bytes s.streams) s)) e h streams
-    ∙ ap (λ o. followed o (λ bytes s. Done (find_stream side bytes s.streams) s)) (g streams)
+    ∙ ap (λ o. followed o (λ bytes s. Done (find_stream side bytes s.streams) s)) (g.0 streams)
 
 pub was_read : (st : State) (f v : ℕ) (byte : Option ℕ) (before after : Content) → v ≡ byte_or_end byte → byte ≡ read_byte before → after ≡ after_read before → primitive_work primitives.ReadByte f (state_of st before) ≡ Done v (state_of st after)
 was_read st f v byte before after e b a =
@@ -141,7 +144,7 @@ was_read st f v byte before after e b a =
 pub closed_serves : (r : Run ℕ) (a : ℕ) (old new : State) (before after : Content) (s : Served) → new.store ≡ closed 1 a old.store → new.turns ≡ old.turns → Serves r old before s old after → Serves (λ st. left 1 a (r st)) old before s new after
 closed_serves r a old new before after (forms.Number v) e t h =
     ap (λ o. left 1 a o) h ∙ (λ i. Done v (record { cells = sym e i; streams = after; turns = sym t i }))
-closed_serves r a old new before after (forms.Wild c) e t h = ap (λ o. left 1 a o) h
+closed_serves r a old new before after (forms.Wild c) e t h = (ap (λ o. left 1 a o) h.0, h.1)
 closed_serves r a old new before after forms.Device e t h = tt
 
 pub closed_numbers : (r : Run ℕ) (a : ℕ) (old new : State) (s : Served) → new.store ≡ closed 1 a old.store → new.turns ≡ old.turns → Numbers r old s old → Numbers (λ st. left 1 a (r st)) old s new

@@ -6,21 +6,28 @@ use Rattle.bc_machine_image.specs.declared.image.Image.{Image}
 use Rattle.bc_machine_image.specs.declared.image.SegmentPlace.{SegmentPlace}
 use Rattle.bc_link.specs.Labels.{label_address}
 use Rattle.bc_core.specs.Commands.{Core}
-use Rattle.bc_core.specs.Map.{Map}
+use Rattle.bc_core.specs.Map.{Map, placed}
 use Rattle.bc_core.specs.Meaning.{meaning}
+use Rattle.bc_interpret_defs.specs.Running.{start_at, start_state}
 use Rattle.bc_interpret.specs.declared.run.Outcome.{Outcome}
 use Rattle.bc_interpret.specs.declared.run.Outcome.TheVariants.{Device}
-use Rattle.bc_interpret.specs.Results.{IsResult}
+use Rattle.bc_interpret.specs.Results.{IsResult, Names}
 
 -- where an image has the places of its sections, which stand behind the primitives, and where its stack begins
 abbrev pub map_of : Image → Map
 map_of image = record { places = map (λ (place : SegmentPlace). label_address place.labels) (drop 1 image.places); stack_base = image.stack_base }
 
+-- the machine comes from the start of the sections' run to the wild access that the run is said to have met
+abbrev pub NamesFrom : List Core → Map → Content → (turns : ℕ) → Outcome → Type 0
+NamesFrom cores map streams turns outcome =
+    let program = placed cores map.places in Names program (start_at map.stack_base) (start_state program streams turns) outcome
+
 -- Over streams whose content may be known: where it is, it stays so, and the run came to what the sections mean, with the output that
--- the meaning has. A device fails only where the count of failures rose or stands at its greatest value.
+-- the meaning has, and by the wild access that is named. A device fails only where the count of failures rose or stands at its greatest value.
 pub record Interpreted (cores : List Core) (image : Image) (turns : ℕ)
     (known tells : Type 0) (before after : Content) (failures risen : ℕ) (outcome : Outcome) : Type 0 where
   pub means : known → IsResult (meaning cores (map_of image) before turns) outcome after
+  pub names : known → NamesFrom cores (map_of image) before turns outcome
   pub kept : known → tells
   pub failed : outcome ≡ Device → Rose failures risen
   pub counted : failures ≤ risen

@@ -4,10 +4,14 @@ use Rattle.bc_machine_defs.specs.Streams.{Content}
 use Rattle.bc_machine.specs.Rose.{Rose}
 use Rattle.bc_core.specs.Map.{Placed, standing}
 use Rattle.bc_core.specs.Start.{start_cells}
+use Rattle.bc_core.specs.Outcome as outcomes
 use Rattle.bc_core.specs.Meaning.{Result, calls, result_of, meaning_over, entered_at}
 use Rattle.bc_interpret_defs.specs.Machine as machine
 use Rattle.bc_interpret_defs.specs.Resume.{meant}
 use Rattle.bc_interpret_defs.specs.Weight.{weight}
+use Rattle.bc_interpret_defs.specs.Causes.{Cause}
+use Rattle.bc_interpret_defs.specs.Meeting.{ComesTo}
+use Rattle.bc_interpret_defs.specs.Running.{start_at, start_state}
 use Rattle.bc_interpret_steps.specs.declared.forms.Work.{Work}
 use Rattle.bc_interpret_steps.specs.declared.forms.Work.TheVariants as works
 use Rattle.bc_interpret_steps.specs.declared.forms.Progress.{Progress}
@@ -25,7 +29,7 @@ use Rattle.bc_interpret.specs.declared.run.Outcome.{Outcome}
 use Rattle.bc_interpret.specs.declared.run.Outcome.TheVariants as outs
 use Rattle.bc_interpret.specs.declared.serve.Served.{Served}
 use Rattle.bc_interpret.specs.declared.serve.Served.TheVariants as forms
-use Rattle.bc_interpret.specs.Results.{IsResult}
+use Rattle.bc_interpret.specs.Results.{IsResult, Names}
 
 -- some program has this table
 abbrev pub HasProgram : List Callable → Type 0
@@ -62,6 +66,16 @@ Keeps table w old before moved new after =
     (program : List Placed) → IsTable program table → (n : ℕ) → old.state.turns < n
     → Comes program n (left_of program n w old.stacks.rests.items old.state before) moved new after
 
+-- a wild access to which the machine comes from what is to be done next, it comes to from here; or it comes to the one that is named
+abbrev pub Leads : List Placed → machine.At → outcomes.State → Moved → Run → Content → Type 0
+Leads program from start (On w) run streams =
+    (cause : Cause) → ComesTo program (at_of w run.stacks.rests.items) (state_of run.state streams) cause → ComesTo program from start cause
+Leads program from start (Over o) run streams = Names program from start o
+
+abbrev pub Tracks : List Callable → Work → Run → Content → Moved → Run → Content → Type 0
+Tracks table w old before moved new after =
+    (program : List Placed) → IsTable program table → Leads program (at_of w old.stacks.rests.items) (state_of old.state before) moved new after
+
 abbrev pub Lessened : Work → Run → Moved → Run → Type 0
 Lessened w old (On next) new =
     (new.state.turns ≤ old.state.turns) × (old.state.turns ≤ new.state.turns → weight_of next new.stacks.rests.items < weight_of w old.stacks.rests.items)
@@ -75,6 +89,7 @@ TookTurn (Over o) old new = Unit {0}
 pub record Advanced (table : List Callable) (w : Work) (old new : Run)
     (known tells : Type 0) (before after : Content) (failures risen : ℕ) (moved : Moved) : Type 0 where
   pub keeps : known → Keeps table w old before moved new after
+  pub tracks : known → Tracks table w old before moved new after
   pub lessened : Lessened w old moved new
   pub kept : known → tells
   pub failed : moved ≡ Over outs.Device → Rose failures risen
@@ -84,6 +99,7 @@ pub record Advanced (table : List Callable) (w : Work) (old new : Run)
 pub record Stretched (table : List Callable) (w : Work) (old new : Run)
     (known tells : Type 0) (before after : Content) (failures risen : ℕ) (moved : Moved) : Type 0 where
   pub keeps : known → Keeps table w old before moved new after
+  pub tracks : known → Tracks table w old before moved new after
   pub turn : TookTurn moved old new
   pub kept : known → tells
   pub failed : moved ≡ Over outs.Device → Rose failures risen
@@ -94,6 +110,7 @@ pub record Completed (table : List Callable) (w : Work) (old : Run)
     (known tells : Type 0) (before after : Content) (failures risen : ℕ) (outcome : Outcome) : Type 0 where
   pub means : known → (program : List Placed) → IsTable program table → (n : ℕ) → old.state.turns < n
       → IsResult (left_of program n w old.stacks.rests.items old.state before) outcome after
+  pub names : known → (program : List Placed) → IsTable program table → Names program (at_of w old.stacks.rests.items) (state_of old.state before) outcome
   pub kept : known → tells
   pub failed : outcome ≡ outs.Device → Rose failures risen
   pub counted : failures ≤ risen
@@ -119,6 +136,7 @@ CompletedOn {T} known content failures table w old streams streams_new outcome =
 pub record RunOf (program : List Placed) (stack_base turns : ℕ)
     (known tells : Type 0) (before after : Content) (failures risen : ℕ) (outcome : Outcome) : Type 0 where
   pub means : known → IsResult (meaning_over (start_cells (standing program)) (entered_at program) stack_base before turns) outcome after
+  pub names : known → Names program (start_at stack_base) (start_state program before turns) outcome
   pub kept : known → tells
   pub failed : outcome ≡ outs.Device → Rose failures risen
   pub counted : failures ≤ risen

@@ -5,21 +5,23 @@ use Rattle.bc_machine.specs.Rose.{Rose}
 use Rattle.bc_core.specs.Outcome as outcomes
 use Rattle.bc_core.specs.Outcome.{Run, followed, left}
 use Rattle.bc_core.specs.Primitive.{Primitive, bytes_of_string, primitive_work}
+use Rattle.bc_interpret_defs.specs.Causes.{StandsIn}
 use Rattle.bc_interpret_quiet.specs.declared.sight.Cause.{Cause}
+use Rattle.bc_interpret_quiet.specs.Causes.{cause_of}
 use Rattle.bc_interpret_steps.specs.declared.state.State.{State}
 use Rattle.bc_interpret_steps.specs.Came.{state_of}
 use Rattle.bc_interpret.specs.declared.serve.Served.{Served}
 use Rattle.bc_interpret.specs.declared.serve.Served.TheVariants as forms
 
--- what a run that changes nothing comes to, whatever the streams hold
+-- what a run that changes nothing comes to, whatever the streams hold; where it meets a wild access, the cell stands so
 abbrev pub Gets : {A : Type 0} → Run A → State → Result A Cause → Type 0
 Gets r st (Ok x) = (streams : Content) → r (state_of st streams) ≡ outcomes.Done x (state_of st streams)
-Gets r st (Err c) = (streams : Content) → r (state_of st streams) ≡ outcomes.Wild
+Gets r st (Err c) = ((streams : Content) → r (state_of st streams) ≡ outcomes.Wild) × StandsIn (cause_of c) st.store
 
 -- the same of the bytes of a name
 abbrev pub GetsName : Run (List ℕ) → State → Option Cause → List ℕ → Type 0
 GetsName r st None bytes = (streams : Content) → r (state_of st streams) ≡ outcomes.Done bytes (state_of st streams)
-GetsName r st (Some c) bytes = (streams : Content) → r (state_of st streams) ≡ outcomes.Wild
+GetsName r st (Some c) bytes = ((streams : Content) → r (state_of st streams) ≡ outcomes.Wild) × StandsIn (cause_of c) st.store
 
 -- so many bytes of the string at this address are there, and the others are left
 abbrev pub Naming : State → (address length k : ℕ) → List ℕ → Type 0
@@ -27,10 +29,10 @@ Naming st address length k name =
     (streams : Content) → bytes_of_string length 1 address (state_of st streams)
     ≡ followed (bytes_of_string (length - k) (k + 1) address (state_of st streams)) (λ rest. outcomes.Done (name ++ rest))
 
--- what a run comes to over these streams
+-- what a run comes to over these streams; where it meets a wild access, the cell stood so as it began
 abbrev pub Serves : Run ℕ → (old : State) → (before : Content) → Served → (new : State) → (after : Content) → Type 0
 Serves r old before (forms.Number v) new after = r (state_of old before) ≡ outcomes.Done v (state_of new after)
-Serves r old before (forms.Wild c) new after = r (state_of old before) ≡ outcomes.Wild
+Serves r old before (forms.Wild c) new after = (r (state_of old before) ≡ outcomes.Wild) × StandsIn (cause_of c) old.store
 Serves r old before forms.Device new after = Unit {0}
 
 -- where it came to a number, it comes to some number whatever the streams hold

@@ -1,4 +1,8 @@
+pub mod CauseExamples
+pub mod Causes
 pub mod Machine
+pub mod Meeting
+pub mod MeetingExamples
 pub mod Quiet
 pub mod Resume
 pub mod Running

@@ -1,6 +1,8 @@
 -- For proofs: what an expression without call and VALOF comes to, and a machine that works it out. It reads cells and changes
--- nothing, and a zero divisor ends it only where no wild cell is read beside it.
+-- nothing, and a zero divisor ends it only where no wild cell is read beside it. What fails says by which access: the first one.
 use Rattle.bc_interpret_defs.specs.Weight.{weight_of}
+use Rattle.bc_interpret_defs.specs.Causes.{Cause, Malformed}
+use Rattle.bc_interpret_defs.specs.Causes as causes
 use Rattle.std.specs.Prelude.{ℕ, ◌≡◌, ◌<◌, ◌+◌, ◌%◌, cond, Bool, true, false, not, List, [], ◌∷◌, Option, Some, None}
 use Rattle.bc_word.specs.declared.operator.Op.{Op}
 use Rattle.bc_word.specs.declared.operator.Op.TheVariants.{And, Or}
@@ -15,33 +17,34 @@ use Rattle.bc_core.specs.Meaning.{Call as Calling}
 pub data Worth (A : Type 0) : Type 0 where
   Is : A → Worth A
   Divides : Worth A
-  Fails : Worth A
+  Fails : Cause → Worth A
 
 abbrev pub settled : {A : Type 0} → Worth A → Run A
 settled (Is x) = Done x
 settled Divides = ends ZeroDivide
-settled Fails = wild
+settled (Fails c) = wild
 
 abbrev pub chained : {A B : Type 0} → Worth A → (A → Worth B) → Worth B
 chained (Is x) f = f x
 chained Divides f = Divides
-chained Fails f = Fails
+chained (Fails c) f = Fails c
 
 abbrev pub beside : {A B : Type 0} → Worth A → Worth B
 beside (Is x) = Divides
 beside Divides = Divides
-beside Fails = Fails
+beside (Fails c) = Fails c
 
 -- a wild second side outweighs a zero divisor in the first
 abbrev pub paired : {A B C : Type 0} → Worth A → Worth B → (A → B → Worth C) → Worth C
 paired (Is x) w f = chained w (f x)
 paired Divides w f = beside w
-paired Fails w f = Fails
+paired (Fails c) w f = Fails c
 
-abbrev pub found : Cell → Worth ℕ
-found Dead = Fails
-found Unset = Fails
-found (Set w) = Is w
+-- what is read at an address where this cell is
+abbrev pub found : ℕ → Cell → Worth ℕ
+found a Dead = Fails (causes.Dead a)
+found a Unset = Fails (causes.Unset a)
+found a (Set w) = Is w
 
 abbrev pub quotient : Option ℕ → Worth ℕ
 quotient None = Divides
@@ -80,7 +83,7 @@ worth S (Num n) = by_worth (Is n)
 worth S (Frame k) = by_worth (Is ((S.frame + k) % 65536))
 worth S (Glob n) = by_worth (Is ((8 + n) % 65536))
 worth S (Place m) = by_worth (Is (S.address m))
-worth S (Load e) = by_worth (chained (worth S e).value (λ a. found (cell_at S.cells a)))
+worth S (Load e) = by_worth (chained (worth S e).value (λ a. found a (cell_at S.cells a)))
 worth S (Neg e) = by_worth (chained (worth S e).value (λ v. Is (negated v)))
 worth S (Not e) = record {
   value = chained (worth S e).value (λ v. Is (complemented v));
@@ -88,7 +91,7 @@ worth S (Not e) = record {
 }
 worth S (Bin op a b) = operator_worths op (worth S a) (worth S b)
 worth S (Cond c x y) = by_worth (chained (worth S c).truth (λ t. cond t (worth S x).value (worth S y).value))
-worth S _ = by_worth Fails
+worth S _ = by_worth (Fails Malformed)
 
 -- the machine: what is done next, and what is left to do with an answer
 pub data QuietAnswer : Type 0 where
@@ -120,11 +123,15 @@ pub record QuietAt : Type 0 where
   pub work : QuietWork
   pub rests : List QuietRest
 
--- what is to be done then, or nothing where a wild cell was read
-abbrev pub on : QuietWork → List QuietRest → Option QuietAt
-on w rs = Some (record { work = w; rests = rs })
+-- what is to be done then, or the wild access
+pub data QuietStep : Type 0 where
+  On : QuietAt → QuietStep
+  Stops : Cause → QuietStep
 
-abbrev pub evaluates : Sight → Exp → List QuietRest → Option QuietAt
+abbrev pub on : QuietWork → List QuietRest → QuietStep
+on w rs = On (record { work = w; rests = rs })
+
+abbrev pub evaluates : Sight → Exp → List QuietRest → QuietStep
 evaluates S (Num n) rs = on (Give (Number n)) rs
 evaluates S (Frame k) rs = on (Give (Number ((S.frame + k) % 65536))) rs
 evaluates S (Glob n) rs = on (Give (Number ((8 + n) % 65536))) rs
@@ -134,22 +141,22 @@ evaluates S (Neg e) rs = on (Evaluate e) (Negates ∷ rs)
 evaluates S (Not e) rs = on (Evaluate e) (Complements ∷ rs)
 evaluates S (Bin op a b) rs = on (Evaluate a) (Operates op b ∷ rs)
 evaluates S (Cond c x y) rs = on (Decide c) (Selects x y ∷ rs)
-evaluates S _ rs = None
+evaluates S _ rs = Stops Malformed
 
-abbrev pub decides_operator : Op → Exp → Exp → List QuietRest → Option QuietAt
+abbrev pub decides_operator : Op → Exp → Exp → List QuietRest → QuietStep
 decides_operator And a b rs = on (Decide a) (Conjoins b ∷ rs)
 decides_operator Or a b rs = on (Decide a) (Disjoins b ∷ rs)
 decides_operator op a b rs = on (Evaluate (Bin op a b)) (Tests ∷ rs)
 
-abbrev pub decides : Exp → List QuietRest → Option QuietAt
+abbrev pub decides : Exp → List QuietRest → QuietStep
 decides (Not e) rs = on (Decide e) (Opposes ∷ rs)
 decides (Bin op a b) rs = decides_operator op a b rs
 decides e rs = on (Evaluate e) (Tests ∷ rs)
 
-abbrev pub gives : Worth QuietAnswer → List QuietRest → Option QuietAt
+abbrev pub gives : Worth QuietAnswer → List QuietRest → QuietStep
 gives (Is a) rs = on (Give a) rs
 gives Divides rs = on Divided rs
-gives Fails rs = None
+gives (Fails c) rs = Stops c
 
 abbrev pub as_number : Worth ℕ → Worth QuietAnswer
 as_number w = chained w (λ v. Is (Number v))
@@ -157,41 +164,41 @@ as_number w = chained w (λ v. Is (Number v))
 abbrev pub as_verdict : Worth Bool → Worth QuietAnswer
 as_verdict w = chained w (λ t. Is (Verdict t))
 
-abbrev pub number_taken : Sight → QuietRest → ℕ → List QuietRest → Option QuietAt
-number_taken S Loads v rs = gives (as_number (found (cell_at S.cells v))) rs
+abbrev pub number_taken : Sight → QuietRest → ℕ → List QuietRest → QuietStep
+number_taken S Loads v rs = gives (as_number (found v (cell_at S.cells v))) rs
 number_taken S Negates v rs = on (Give (Number (negated v))) rs
 number_taken S Complements v rs = on (Give (Number (complemented v))) rs
 number_taken S Tests v rs = on (Give (Verdict (is_true v))) rs
 number_taken S (Operates op b) v rs = on (Evaluate b) (Operated op v ∷ rs)
 number_taken S (Operated op x) v rs = gives (as_number (combined op x v)) rs
 number_taken S Beside v rs = on Divided rs
-number_taken S _ v rs = None
+number_taken S _ v rs = Stops Malformed
 
-abbrev pub verdict_taken : QuietRest → Bool → List QuietRest → Option QuietAt
+abbrev pub verdict_taken : QuietRest → Bool → List QuietRest → QuietStep
 verdict_taken Opposes t rs = on (Give (Verdict (not t))) rs
 verdict_taken (Conjoins b) t rs = cond t (on (Decide b) rs) (on (Give (Verdict false)) rs)
 verdict_taken (Disjoins b) t rs = cond t (on (Give (Verdict true)) rs) (on (Decide b) rs)
 verdict_taken (Selects x y) t rs = cond t (on (Evaluate x) rs) (on (Evaluate y) rs)
-verdict_taken _ t rs = None
+verdict_taken _ t rs = Stops Malformed
 
-abbrev pub divided : QuietRest → List QuietRest → Option QuietAt
+abbrev pub divided : QuietRest → List QuietRest → QuietStep
 divided (Operates op b) rs = on (Evaluate b) (Beside ∷ rs)
 divided _ rs = on Divided rs
 
-abbrev pub number_given : Sight → ℕ → List QuietRest → Option QuietAt
+abbrev pub number_given : Sight → ℕ → List QuietRest → QuietStep
 number_given S v [] = on (Give (Number v)) []
 number_given S v (r ∷ rs) = number_taken S r v rs
 
-abbrev pub verdict_given : Bool → List QuietRest → Option QuietAt
+abbrev pub verdict_given : Bool → List QuietRest → QuietStep
 verdict_given t [] = on (Give (Verdict t)) []
 verdict_given t (r ∷ rs) = verdict_taken r t rs
 
-abbrev pub divided_given : List QuietRest → Option QuietAt
+abbrev pub divided_given : List QuietRest → QuietStep
 divided_given [] = on Divided []
 divided_given (r ∷ rs) = divided r rs
 
 -- one step; where nothing is left to do it stays
-abbrev pub quiet_step : Sight → QuietWork → List QuietRest → Option QuietAt
+abbrev pub quiet_step : Sight → QuietWork → List QuietRest → QuietStep
 quiet_step S (Evaluate e) rs = evaluates S e rs
 quiet_step S (Decide e) rs = decides e rs
 quiet_step S (Give (Number v)) rs = number_given S v rs
@@ -201,20 +208,20 @@ quiet_step S Divided rs = divided_given rs
 -- what it means
 abbrev pub for_number : {A : Type 0} → (ℕ → Worth A) → QuietAnswer → Worth A
 for_number f (Number v) = f v
-for_number f (Verdict t) = Fails
+for_number f (Verdict t) = Fails Malformed
 
 abbrev pub for_verdict : {A : Type 0} → (Bool → Worth A) → QuietAnswer → Worth A
-for_verdict f (Number v) = Fails
+for_verdict f (Number v) = Fails Malformed
 for_verdict f (Verdict t) = f t
 
 abbrev pub first_side : Op → Worth QuietAnswer → Worth ℕ → Worth QuietAnswer
 first_side op (Is (Number x)) w = chained w (λ y. as_number (combined op x y))
-first_side op (Is (Verdict t)) w = Fails
+first_side op (Is (Verdict t)) w = Fails Malformed
 first_side op Divides w = beside w
-first_side op Fails w = Fails
+first_side op (Fails c) w = Fails c
 
 abbrev pub quiet_rest : Sight → QuietRest → Worth QuietAnswer → Worth QuietAnswer
-quiet_rest S Loads w = chained w (for_number (λ a. as_number (found (cell_at S.cells a))))
+quiet_rest S Loads w = chained w (for_number (λ a. as_number (found a (cell_at S.cells a))))
 quiet_rest S Negates w = chained w (for_number (λ v. Is (Number (negated v))))
 quiet_rest S Complements w = chained w (for_number (λ v. Is (Number (complemented v))))
 quiet_rest S Opposes w = chained w (for_verdict (λ t. Is (Verdict (not t))))
@@ -239,9 +246,9 @@ quiet_doing S Divided = Divides
 abbrev pub quiet_meant : Sight → QuietWork → List QuietRest → Worth QuietAnswer
 quiet_meant S w rs = quiet_resume S rs (quiet_doing S w)
 
-abbrev pub quiet_after : Sight → Option QuietAt → Worth QuietAnswer
-quiet_after S None = Fails
-quiet_after S (Some at) = quiet_meant S at.work at.rests
+abbrev pub quiet_after : Sight → QuietStep → Worth QuietAnswer
+quiet_after S (Stops c) = Fails c
+quiet_after S (On at) = quiet_meant S at.work at.rests
 
 -- a number that each quiet step lessens
 abbrev pub quiet_weight_of : Exp → ℕ
@@ -266,9 +273,9 @@ quiet_rests_weight (r ∷ rs) = quiet_rest_weight r + quiet_rests_weight rs
 abbrev pub quiet_weight : QuietWork → List QuietRest → ℕ
 quiet_weight w rs = quiet_work_weight w + quiet_rests_weight rs
 
-abbrev pub IsLighter : ℕ → Option QuietAt → Type 0
-IsLighter m None = Unit {0}
-IsLighter m (Some at) = quiet_weight at.work at.rests < m
+abbrev pub IsLighter : ℕ → QuietStep → Type 0
+IsLighter m (Stops c) = Unit {0}
+IsLighter m (On at) = quiet_weight at.work at.rests < m
 
 -- something is left to do
 abbrev pub QuietMoves : QuietWork → List QuietRest → Type 0

@@ -1,5 +1,6 @@
 pub mod Alike
 pub mod Doing
+pub mod Failures
 pub mod Fuel
 pub mod Joining
 pub mod Kept

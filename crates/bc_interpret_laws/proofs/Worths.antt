@@ -12,12 +12,13 @@ use Rattle.bc_core.specs.Value.{Sense, has_call, is_true, given, truth_of_value,
 use Rattle.bc_core.specs.Meaning.{Call as Calling, context}
 use Rattle.bc_core.proofs.Calm.{no_left, no_right}
 use Rattle.bc_interpret_laws.specs.Laws.{WorthIsValue, QuietStepsKeep, QuietStepsLessen}
+use Rattle.bc_interpret_defs.specs.Causes.{Cause, Malformed}
 use Rattle.bc_interpret_defs.specs.Quiet.{Worth, Is, Divides, Fails, settled, chained, paired, beside, found, quotient, Sight, Worths, truth_of_worth, operator_worth, combined, worth, QuietAnswer, Number, Verdict, Evaluate, Decide, Give, Divided, QuietRest, Loads, Negates, Complements, Opposes, Tests, Operates, Operated, Beside, Conjoins, Disjoins, Selects, evaluates, decides_operator, decides, gives, as_number, as_verdict, number_taken, verdict_taken, divided, for_number, for_verdict, first_side, quiet_rest, quiet_resume, quiet_meant, quiet_after, quiet_weight, quiet_rests_weight, IsLighter}
 
-settled_found : (c : Cell) (st : State) → content_of_cell c st ≡ settled (found c) st
-settled_found Dead st = refl
-settled_found Unset st = refl
-settled_found (Set w) st = refl
+settled_found : (a : ℕ) (c : Cell) (st : State) → content_of_cell c st ≡ settled (found a c) st
+settled_found a Dead st = refl
+settled_found a Unset st = refl
+settled_found a (Set w) st = refl
 
 settled_quotient : (v : Option ℕ) (st : State) → given v st ≡ settled (quotient v) st
 settled_quotient None st = refl
@@ -27,7 +28,7 @@ settled_quotient (Some v) st = refl
 settled_then : {A B : Type 0} (w : Worth A) (f : A → Run B) (g : A → Worth B) (st : State) → ((x : A) → f x st ≡ settled (g x) st) → followed (settled w st) f ≡ settled (chained w g) st
 settled_then (Is x) f g st h = h x
 settled_then Divides f g st h = refl
-settled_then Fails f g st h = refl
+settled_then (Fails c) f g st h = refl
 
 then_settled : {A B : Type 0} (r : Run A) (w : Worth A) (f : A → Run B) (g : A → Worth B) (st : State) → r st ≡ settled w st → ((x : A) → f x st ≡ settled (g x) st) → then_do r f st ≡ settled (chained w g) st
 then_settled r w f g st e h = ap (λ o. followed o f) e ∙ settled_then w f g st h
@@ -36,8 +37,8 @@ settled_sides : (op : Op) (wa wb : Worth ℕ) (rb : Run ℕ) (st : State) → rb
 settled_sides op (Is x) wb rb st e = then_settled rb wb (λ y. given (value_of op x y)) (combined op x) st e (λ y. settled_quotient (value_of op x y) st)
 settled_sides op Divides (Is y) rb st e = ap (outcomes.outweighed ZeroDivide st.streams) e
 settled_sides op Divides Divides rb st e = ap (outcomes.outweighed ZeroDivide st.streams) e
-settled_sides op Divides Fails rb st e = ap (outcomes.outweighed ZeroDivide st.streams) e
-settled_sides op Fails wb rb st e = refl
+settled_sides op Divides (Fails c) rb st e = ap (outcomes.outweighed ZeroDivide st.streams) e
+settled_sides op (Fails c) wb rb st e = refl
 
 settled_operated : (op : Op) (ra rb : Run ℕ) (wa wb : Worth ℕ) (st : State) → ra st ≡ settled wa st → rb st ≡ settled wb st → operated op false ra rb st ≡ settled (paired wa wb (combined op)) st
 settled_operated op ra rb wa wb st ea eb = ap (λ o. second_side false o rb (λ x y. given (value_of op x y)) st) ea ∙ settled_sides op wa wb rb st eb
@@ -67,8 +68,8 @@ worth_is place call valof (Place m) h p s st = (refl, refl)
 worth_is place call valof (Load e) h p s st =
     let r = (sense (context place call valof) e p s).value in
     let w = (worth (sight place p st) e).value in
-    let k = then_settled r w read (λ a. found (cell_at st.cells a)) st (worth_is place call valof e h p s st).0 (λ a. settled_found (cell_at st.cells a) st) in
-    (k, settled_truth (then_do r read) (chained w (λ a. found (cell_at st.cells a))) st k)
+    let k = then_settled r w read (λ a. found a (cell_at st.cells a)) st (worth_is place call valof e h p s st).0 (λ a. settled_found a (cell_at st.cells a) st) in
+    (k, settled_truth (then_do r read) (chained w (λ a. found a (cell_at st.cells a))) st k)
 worth_is place call valof (Neg e) h p s st =
     let r = (sense (context place call valof) e p s).value in
     let w = (worth (sight place p st) e).value in
@@ -111,54 +112,54 @@ worth_is_value place call valof e h p s st = worth_is place call valof e h p s s
 re : {A B C D : Type 0} (w : Worth A) (f : A → Worth B) (g : B → Worth D) (h : A → Worth C) (k : C → Worth D) → ((x : A) → chained (f x) g ≡ chained (h x) k) → chained (chained w f) g ≡ chained (chained w h) k
 re (Is x) f g h k e = e x
 re Divides f g h k e = refl
-re Fails f g h k e = refl
+re (Fails c) f g h k e = refl
 
 by_number : {A : Type 0} (w : Worth ℕ) (f : ℕ → Worth A) → chained w f ≡ chained (as_number w) (for_number f)
 by_number (Is x) f = refl
 by_number Divides f = refl
-by_number Fails f = refl
+by_number (Fails c) f = refl
 
 beside_number : (w : Worth ℕ) → beside {B = QuietAnswer} w ≡ chained (as_number w) (for_number (λ v. Divides))
 beside_number (Is x) = refl
 beside_number Divides = refl
-beside_number Fails = refl
+beside_number (Fails c) = refl
 
 as_beside : (w : Worth ℕ) → as_number (beside w) ≡ beside w
 as_beside (Is x) = refl
 as_beside Divides = refl
-as_beside Fails = refl
+as_beside (Fails c) = refl
 
 as_chained : (w : Worth ℕ) (f : ℕ → Worth ℕ) → as_number (chained w f) ≡ chained w (λ y. as_number (f y))
 as_chained (Is x) f = refl
 as_chained Divides f = refl
-as_chained Fails f = refl
+as_chained (Fails c) f = refl
 
 sides_worth : (op : Op) (a b : Worth ℕ) → as_number (paired a b (combined op)) ≡ first_side op (as_number a) b
 sides_worth op (Is x) b = as_chained b (combined op x)
 sides_worth op Divides b = as_beside b
-sides_worth op Fails b = refl
+sides_worth op (Fails c) b = refl
 
-rest_fails : (S : Sight) (r : QuietRest) → quiet_rest S r Fails ≡ Fails
-rest_fails S Loads = refl
-rest_fails S Negates = refl
-rest_fails S Complements = refl
-rest_fails S Opposes = refl
-rest_fails S Tests = refl
-rest_fails S (Operates op b) = refl
-rest_fails S (Operated op x) = refl
-rest_fails S Beside = refl
-rest_fails S (Conjoins b) = refl
-rest_fails S (Disjoins b) = refl
-rest_fails S (Selects x y) = refl
+rest_fails : (S : Sight) (c : Cause) (r : QuietRest) → quiet_rest S r (Fails c) ≡ Fails c
+rest_fails S c Loads = refl
+rest_fails S c Negates = refl
+rest_fails S c Complements = refl
+rest_fails S c Opposes = refl
+rest_fails S c Tests = refl
+rest_fails S c (Operates op b) = refl
+rest_fails S c (Operated op x) = refl
+rest_fails S c Beside = refl
+rest_fails S c (Conjoins b) = refl
+rest_fails S c (Disjoins b) = refl
+rest_fails S c (Selects x y) = refl
 
-resume_fails : (S : Sight) (rs : List QuietRest) → quiet_resume S rs Fails ≡ Fails
-resume_fails S [] = refl
-resume_fails S (r ∷ rs) = ap (quiet_resume S rs) (rest_fails S r) ∙ resume_fails S rs
+resume_fails : (S : Sight) (c : Cause) (rs : List QuietRest) → quiet_resume S rs (Fails c) ≡ Fails c
+resume_fails S c [] = refl
+resume_fails S c (r ∷ rs) = ap (quiet_resume S rs) (rest_fails S c r) ∙ resume_fails S c rs
 
 gives_kept : (S : Sight) (w : Worth QuietAnswer) (rs : List QuietRest) → quiet_resume S rs w ≡ quiet_after S (gives w rs)
 gives_kept S (Is a) rs = refl
 gives_kept S Divides rs = refl
-gives_kept S Fails rs = resume_fails S rs
+gives_kept S (Fails c) rs = resume_fails S c rs
 
 tests_kept : (S : Sight) (v : Worth ℕ) (rs : List QuietRest) → quiet_resume S rs (as_verdict (truth_of_worth v)) ≡ quiet_resume S (Tests ∷ rs) (as_number v)
 tests_kept S v rs = ap (quiet_resume S rs) (re v (λ x. Is (is_true x)) (λ t. Is (Verdict t)) (λ x. Is (Number x)) (for_number (λ x. Is (Verdict (is_true x)))) (λ x. refl))
@@ -169,7 +170,7 @@ evaluates_kept S (Frame k) rs = refl
 evaluates_kept S (Glob n) rs = refl
 evaluates_kept S (Place m) rs = refl
 evaluates_kept S (Load e) rs =
-    ap (quiet_resume S rs) (re (worth S e).value (λ a. found (cell_at S.cells a)) (λ x. Is (Number x)) (λ x. Is (Number x)) (for_number (λ a. as_number (found (cell_at S.cells a)))) (λ x. refl))
+    ap (quiet_resume S rs) (re (worth S e).value (λ a. found a (cell_at S.cells a)) (λ x. Is (Number x)) (λ x. Is (Number x)) (for_number (λ a. as_number (found a (cell_at S.cells a)))) (λ x. refl))
 evaluates_kept S (Neg e) rs =
     ap (quiet_resume S rs) (re (worth S e).value (λ v. Is (negated v)) (λ x. Is (Number x)) (λ x. Is (Number x)) (for_number (λ v. Is (Number (negated v)))) (λ x. refl))
 evaluates_kept S (Not e) rs =
@@ -177,8 +178,8 @@ evaluates_kept S (Not e) rs =
 evaluates_kept S (Bin op a b) rs = ap (quiet_resume S rs) (sides_worth op (worth S a).value (worth S b).value)
 evaluates_kept S (Cond c x y) rs =
     ap (quiet_resume S rs) (re (worth S c).truth (λ t. cond t (worth S x).value (worth S y).value) (λ v. Is (Number v)) (λ t. Is (Verdict t)) (for_verdict (λ t. as_number (cond t (worth S x).value (worth S y).value))) (λ t. refl))
-evaluates_kept S (Call es f) rs = resume_fails S rs
-evaluates_kept S (Valof n) rs = resume_fails S rs
+evaluates_kept S (Call es f) rs = resume_fails S Malformed rs
+evaluates_kept S (Valof n) rs = resume_fails S Malformed rs
 
 decides_operator_kept : (S : Sight) (op : Op) (a b : Exp) (rs : List QuietRest) → quiet_meant S (Decide (Bin op a b)) rs ≡ quiet_after S (decides_operator op a b rs)
 decides_operator_kept S operators.And a b rs =
@@ -194,14 +195,14 @@ decides_kept S (Bin op a b) rs = decides_operator_kept S op a b rs
 decides_kept S e rs = tests_kept S (worth S e).value rs
 
 number_kept : (S : Sight) (r : QuietRest) (v : ℕ) (rs : List QuietRest) → quiet_meant S (Give (Number v)) (r ∷ rs) ≡ quiet_after S (number_taken S r v rs)
-number_kept S Loads v rs = gives_kept S (as_number (found (cell_at S.cells v))) rs
+number_kept S Loads v rs = gives_kept S (as_number (found v (cell_at S.cells v))) rs
 number_kept S Negates v rs = refl
 number_kept S Complements v rs = refl
 number_kept S Tests v rs = refl
 number_kept S (Operates op b) v rs = ap (quiet_resume S rs) (by_number (worth S b).value (λ y. as_number (combined op v y)))
 number_kept S (Operated op x) v rs = gives_kept S (as_number (combined op x v)) rs
 number_kept S Beside v rs = refl
-number_kept S r v rs = resume_fails S rs
+number_kept S r v rs = resume_fails S Malformed rs
 
 verdict_kept : (S : Sight) (r : QuietRest) (t : Bool) (rs : List QuietRest) → quiet_meant S (Give (Verdict t)) (r ∷ rs) ≡ quiet_after S (verdict_taken r t rs)
 verdict_kept S Opposes t rs = refl
@@ -211,7 +212,7 @@ verdict_kept S (Disjoins b) true rs = refl
 verdict_kept S (Disjoins b) false rs = refl
 verdict_kept S (Selects x y) true rs = refl
 verdict_kept S (Selects x y) false rs = refl
-verdict_kept S r t rs = resume_fails S rs
+verdict_kept S r t rs = resume_fails S Malformed rs
 
 divided_kept : (S : Sight) (r : QuietRest) (rs : List QuietRest) → quiet_meant S Divided (r ∷ rs) ≡ quiet_after S (divided r rs)
 divided_kept S (Operates op b) rs = ap (quiet_resume S rs) (beside_number (worth S b).value)
@@ -230,7 +231,7 @@ quiet_steps_keep S Divided (r ∷ rs) = divided_kept S r rs
 lighter_gives : (S : Sight) (m : ℕ) (w : Worth QuietAnswer) (rs : List QuietRest) → quiet_rests_weight rs < m → IsLighter m (gives w rs)
 lighter_gives S m (Is a) rs l = omega arith
 lighter_gives S m Divides rs l = omega arith
-lighter_gives S m Fails rs l = tt
+lighter_gives S m (Fails c) rs l = tt
 
 evaluates_lighter : (S : Sight) (e : Exp) (rs : List QuietRest) → IsLighter (quiet_weight (Evaluate e) rs) (evaluates S e rs)
 evaluates_lighter S (Num n) rs = omega arith
@@ -256,7 +257,7 @@ decides_lighter (Bin op a b) rs = decides_operator_lighter op a b rs
 decides_lighter e rs = omega arith
 
 number_lighter : (S : Sight) (r : QuietRest) (v : ℕ) (rs : List QuietRest) → IsLighter (quiet_weight (Give (Number v)) (r ∷ rs)) (number_taken S r v rs)
-number_lighter S Loads v rs = lighter_gives S _ (as_number (found (cell_at S.cells v))) rs (omega arith)
+number_lighter S Loads v rs = lighter_gives S _ (as_number (found v (cell_at S.cells v))) rs (omega arith)
 number_lighter S Negates v rs = omega arith
 number_lighter S Complements v rs = omega arith
 number_lighter S Tests v rs = omega arith

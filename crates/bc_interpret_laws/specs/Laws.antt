@@ -11,7 +11,8 @@ use Rattle.bc_interpret_defs.specs.Machine.{Answer, Work, Rest, step}
 use Rattle.bc_interpret_defs.specs.Resume.{meant}
 use Rattle.bc_interpret_defs.specs.Weight.{weight, Lessens}
 use Rattle.bc_interpret_defs.specs.Running.{Moves, ran, start_at, start_state, result_if}
-use Rattle.bc_interpret_defs.specs.Quiet.{Sight, settled, worth, QuietWork, QuietRest, quiet_step, quiet_meant, quiet_after, quiet_weight, IsLighter, QuietMoves}
+use Rattle.bc_interpret_defs.specs.Causes.{Cause, StandsIn}
+use Rattle.bc_interpret_defs.specs.Quiet.{Sight, Worth, Is, Divides, Fails, settled, worth, QuietWork, QuietRest, quiet_step, quiet_meant, quiet_after, quiet_weight, IsLighter, QuietMoves}
 
 -- any two numbers greater than the turns that are left give the same outcome of a call
 abbrev pub FuelNeverEnds : Type 0
@@ -57,3 +58,15 @@ QuietStepsKeep = (S : Sight) (w : QuietWork) (rs : List QuietRest) → quiet_mea
 -- each quiet step lessens that number
 abbrev pub QuietStepsLessen : Type 0
 QuietStepsLessen = (S : Sight) (w : QuietWork) (rs : List QuietRest) → QuietMoves w rs → IsLighter (quiet_weight w rs) (quiet_step S w rs)
+
+-- what fails, fails by such a wild access
+abbrev pub FailsBy : {A : Type 0} → (Cause → Type 0) → Worth A → Type 0
+FailsBy P (Is x) = Unit {0}
+FailsBy P Divides = Unit {0}
+FailsBy P (Fails c) = P c
+
+-- the wild access that an expression without call and VALOF fails by is a read of a cell that stands so
+abbrev pub FailuresStand : Type 0
+FailuresStand =
+    (S : Sight) (e : Exp) → has_call e ≡ false
+    → FailsBy (λ c. StandsIn c S.cells) (worth S e).value × FailsBy (λ c. StandsIn c S.cells) (worth S e).truth

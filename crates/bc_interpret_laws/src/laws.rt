@@ -1,6 +1,6 @@
 //! Laws of the meaning that the interpreter rests on. Each is the contract of a function that does nothing.
 
-ghost use Rattle.bc_interpret_laws.specs.Laws.{FuelNeverEnds, WorthIsValue, QuietStepsKeep, QuietStepsLessen, StepsKeep, StepsLessen, MachineMeans, MachineIsRight};
+ghost use Rattle.bc_interpret_laws.specs.Laws.{FuelNeverEnds, WorthIsValue, QuietStepsKeep, QuietStepsLessen, StepsKeep, StepsLessen, MachineMeans, MachineIsRight, FailuresStand};
 
 /// The number that bounds how deep calls nest is never met before the turns run out: any two numbers
 /// greater than the turns that are left give the same outcome.
@@ -41,4 +41,9 @@ pub fn quiet_steps_keep()
 /// Each step of that machine lessens the weight of what is left to do.
 pub fn quiet_steps_lessen()
     ensures { QuietStepsLessen }
+{}
+
+/// The wild access that an expression without call and VALOF fails by is one to a cell, which stands so.
+pub fn failures_stand()
+    ensures { FailuresStand }
 {}

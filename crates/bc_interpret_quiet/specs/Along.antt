@@ -14,5 +14,5 @@ IsQuickTruth S e (Some t) = (has_call e ≡ false) × ((worth S e).truth ≡ Is 
 IsQuickTruth S e None = Unit {0}
 
 abbrev pub IsWordAt : Sight → ℕ → Option ℕ → Type 0
-IsWordAt S a (Some w) = found (cell_at S.cells a) ≡ Is w
+IsWordAt S a (Some w) = found a (cell_at S.cells a) ≡ Is w
 IsWordAt S a None = Unit {0}

@@ -1,3 +1,4 @@
 pub mod Along
+pub mod Causes
 pub mod Views
 pub mod Waits

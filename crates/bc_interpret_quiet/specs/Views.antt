@@ -4,6 +4,7 @@ use Rattle.bc_core.specs.Tree.{Exp}
 use Rattle.bc_core.specs.Value.{has_call}
 use Rattle.bc_core.specs.View.{exp}
 use Rattle.bc_interpret_quiet.specs.declared.sight.Sight.{Sight}
+use Rattle.bc_interpret_quiet.specs.Causes.{cause_of}
 use Rattle.bc_interpret_quiet.specs.declared.forms.Work.{Work}
 use Rattle.bc_interpret_quiet.specs.declared.forms.Work.TheVariants as works
 use Rattle.bc_interpret_quiet.specs.declared.forms.Rest.{Rest}
@@ -14,7 +15,7 @@ use Rattle.bc_interpret_quiet.specs.declared.worth.Worth.{Worth}
 use Rattle.bc_interpret_quiet.specs.declared.worth.Truth.{Truth}
 use Rattle.bc_interpret_quiet.specs.declared.worth.Truth.TheVariants as truth_forms
 use Rattle.bc_interpret_quiet.specs.declared.worth.Worth.TheVariants as worth_forms
-use Rattle.bc_interpret_defs.specs.Quiet.{worth, QuietWork, QuietRest, QuietAt, on, QuietAnswer, quiet_meant, quiet_weight}
+use Rattle.bc_interpret_defs.specs.Quiet.{worth, QuietWork, QuietRest, QuietStep, Stops, on, QuietAnswer, quiet_meant, quiet_weight}
 use Rattle.bc_interpret_defs.specs.Quiet as quiet
 
 abbrev pub sight_of : Sight → quiet.Sight
@@ -56,13 +57,13 @@ Popped (Some r) old new = old ≡ rest_of r ∷ new
 abbrev pub seen : Worth → quiet.Worth ℕ
 seen (worth_forms.Is v) = quiet.Is v
 seen worth_forms.Divides = quiet.Divides
-seen (worth_forms.Fails c) = quiet.Fails
+seen (worth_forms.Fails c) = quiet.Fails (cause_of c)
 
 -- the truth that the program found
 abbrev pub seen_truth : Truth → quiet.Worth Bool
 seen_truth (truth_forms.Is t) = quiet.Is t
 seen_truth truth_forms.Divides = quiet.Divides
-seen_truth (truth_forms.Fails c) = quiet.Fails
+seen_truth (truth_forms.Fails c) = quiet.Fails (cause_of c)
 
 -- no call stands in an expression, and it is worth this; or one stands in it
 abbrev pub IsWorth : quiet.Sight → Exp → Option Worth → Type 0
@@ -74,12 +75,12 @@ IsTruth S e (Some t) = (has_call e ≡ false) × (seen_truth t ≡ (worth S e).t
 IsTruth S e None = has_call e ≡ true
 
 -- For proofs: this came of a step.
-abbrev pub Came : Step → Option QuietAt → List QuietRest → Type 0
+abbrev pub Came : Step → QuietStep → List QuietRest → Type 0
 Came (steps.On w) o rs = o ≡ on (work_of w) rs
 Came (steps.Number v) o rs = ⊥
 Came (steps.Verdict t) o rs = ⊥
 Came steps.Divides o rs = ⊥
-Came (steps.Fails c) o rs = o ≡ None
+Came (steps.Fails c) o rs = o ≡ Stops (cause_of c)
 
 -- For proofs: what is left means what was left, and is less; or this is what was left.
 abbrev pub Kept : Step → quiet.Sight → QuietWork → (old new : List QuietRest) → Type 0
@@ -87,4 +88,4 @@ Kept (steps.On next) S w rs rs1 = (quiet_meant S (work_of next) rs1 ≡ quiet_me
 Kept (steps.Number v) S w rs rs1 = quiet_meant S w rs ≡ quiet.Is (quiet.Number v)
 Kept (steps.Verdict t) S w rs rs1 = quiet_meant S w rs ≡ quiet.Is (quiet.Verdict t)
 Kept steps.Divides S w rs rs1 = quiet_meant S w rs ≡ quiet.Divides
-Kept (steps.Fails c) S w rs rs1 = quiet_meant S w rs ≡ quiet.Fails
+Kept (steps.Fails c) S w rs rs1 = quiet_meant S w rs ≡ quiet.Fails (cause_of c)

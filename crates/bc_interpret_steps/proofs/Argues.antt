@@ -70,7 +70,7 @@ last_valued st E vs level f n s rs rs1 ws found w p h is a q =
       by_worth : has_call f ≡ false → (w : Worth) → seen w ≡ (worth (sight st E) f).value → Came (then_do (value (quiet E) f E.frame (routine_level s n)) (called E vs s rs)) st (progress_of w) rs1 ws st
       by_worth plain (worths.Is v) is1 = λ streams. ap (λ o. followed o (called E vs s rs)) (quiet_value st E f (routine_level s n) streams plain (worths.Is v) is1) ∙ ap (λ q. give (machine.Number v) q (state_of st streams)) (sym a)
       by_worth plain worths.Divides is1 = λ streams. ap (λ o. followed o (called E vs s rs)) (quiet_value st E f (routine_level s n) streams plain worths.Divides is1)
-      by_worth plain (worths.Fails c) is1 = λ streams. ap (λ o. followed o (called E vs s rs)) (quiet_value st E f (routine_level s n) streams plain (worths.Fails c) is1)
+      by_worth plain (worths.Fails c) is1 = value_fails st E f (routine_level s n) c (called E vs s rs) rs1 ws st plain is1
 
 pub last_calls : (st : State) (E : machine.Spot) (vs : List ℕ) (level : ℕ) (f : Exp) (n s : ℕ) (p : Progress) (rs rs1 : List machine.Rest) (ws : List ℕ) → has_call f ≡ true → Came (last_waits E vs f n s rs) st p rs1 ws st → Came (argue E vs no_argument level f n s rs) st p rs1 ws st
 last_calls st E vs level f n s p rs rs1 ws calls h =

@@ -1,23 +1,69 @@
 -- An answer that is handed on.
-use Rattle.std.proofs.Common.{◌≡◌, ℕ, List, [], ◌∷◌, sym, subst}
+use Rattle.std.proofs.Common.{◌≡◌, ℕ, List, ◌∷◌, refl, sym, subst}
 use Rattle.bc_core.specs.Map.{Placed}
 use Rattle.bc_interpret_defs.specs.Machine as machine
+use Rattle.bc_core.specs.Meaning.{callee}
+use Rattle.bc_core.specs.Outcome as outcomes
 use Rattle.bc_interpret_defs.specs.Machine.{step, next}
+use Rattle.bc_interpret_defs.specs.Meeting.{IsCall, ByCell, ByCall, ByForm}
+use Rattle.bc_interpret_quiet.specs.declared.sight.Cause.TheVariants as causes
 use Rattle.bc_interpret_defs.specs.Running.{Moves}
 use Rattle.bc_interpret_steps.specs.declared.state.State.{State}
 use Rattle.bc_interpret_steps.specs.declared.forms.Progress.{Progress}
 use Rattle.bc_interpret_steps.specs.declared.forms.Progress.TheVariants as progress
-use Rattle.bc_interpret_steps.specs.Came.{Came}
+use Rattle.bc_interpret_steps.specs.Came.{state_of, Came, CameOrMalformed}
+use Rattle.bc_interpret_steps.specs.Arrived.{Lands}
 use Rattle.bc_interpret_steps.specs.Stepped.{Stepped}
 
 pub stepped : (program : List Placed) (w : machine.Work) (rs : List machine.Rest) (old : State) (p : Progress) (rs1 : List machine.Rest) (vs1 : List ℕ) (new : State) → Moves w rs → Came (step program w rs) old p rs1 vs1 new → Stepped program w rs old p rs1 vs1 new
 stepped program w rs old (progress.On x) rs1 vs1 new m h = (m, h)
-stepped program w rs old (progress.Serve q f) rs1 vs1 new m h = (m, h)
+stepped program w rs old (progress.Serve q f) rs1 vs1 new m h = absurd h
 stepped program w rs old progress.Answered rs1 vs1 new m h = absurd h
 stepped program w rs old (progress.Ended e) rs1 vs1 new m h = (m, h)
 stepped program w rs old progress.Going rs1 vs1 new m h = (m, h)
-stepped program w rs old (progress.Wild c) rs1 vs1 new m h = (m, h)
+stepped program w rs old (progress.Wild c) rs1 vs1 new m h = (m, h.0, ByCell h.1)
 
+pub malformed : (program : List Placed) (w : machine.Work) (rs : List machine.Rest) (old : State) (rs1 : List machine.Rest) (vs1 : List ℕ) (new : State) → Moves w rs → ((st : outcomes.State) → step program w rs st ≡ outcomes.Wild) → Stepped program w rs old (progress.Wild causes.Malformed) rs1 vs1 new
+malformed program w rs old rs1 vs1 new m h = (m, λ streams. h (state_of old streams), ByForm refl h)
+
+pub stepped_loosely : (program : List Placed) (w : machine.Work) (rs : List machine.Rest) (old : State) (p : Progress) (rs1 : List machine.Rest) (vs1 : List ℕ) (new : State) → Moves w rs → CameOrMalformed (step program w rs) old p rs1 vs1 new → Stepped program w rs old p rs1 vs1 new
+stepped_loosely program w rs old (progress.On x) rs1 vs1 new m h = (m, h)
+stepped_loosely program w rs old (progress.Serve q f) rs1 vs1 new m h = absurd h
+stepped_loosely program w rs old progress.Answered rs1 vs1 new m h = absurd h
+stepped_loosely program w rs old (progress.Ended e) rs1 vs1 new m h = (m, h)
+stepped_loosely program w rs old progress.Going rs1 vs1 new m h = (m, h)
+stepped_loosely program w rs old (progress.Wild (causes.Unset a)) rs1 vs1 new m h = (m, h.0, ByCell h.1)
+stepped_loosely program w rs old (progress.Wild (causes.Dead a)) rs1 vs1 new m h = (m, h.0, ByCell h.1)
+stepped_loosely program w rs old (progress.Wild (causes.NoCell a)) rs1 vs1 new m h = (m, h.0, ByCell h.1)
+stepped_loosely program w rs old (progress.Wild (causes.NotRoutine v)) rs1 vs1 new m h = absurd h.1
+stepped_loosely program w rs old (progress.Wild (causes.FrameTooLarge f)) rs1 vs1 new m h = absurd h.1
+stepped_loosely program w rs old (progress.Wild causes.Malformed) rs1 vs1 new m h = malformed program w rs old rs1 vs1 new m h
+
+-- an answer that is handed on, to what is left to do first
 pub handed : (program : List Placed) (a : machine.Answer) (rs : List machine.Rest) (r : machine.Rest) (rs0 : List machine.Rest) (old : State) (p : Progress) (rs1 : List machine.Rest) (vs1 : List ℕ) (new : State) → rs ≡ r ∷ rs0 → Came (next program r a rs0) old p rs1 vs1 new → Stepped program (machine.Give a) rs old p rs1 vs1 new
 handed program a rs r rs0 old p rs1 vs1 new e h =
     subst (λ q. Stepped program (machine.Give a) q old p rs1 vs1 new) (sym e) (stepped program (machine.Give a) (r ∷ rs0) old p rs1 vs1 new tt h)
+
+pub handed_loosely : (program : List Placed) (a : machine.Answer) (rs : List machine.Rest) (r : machine.Rest) (rs0 : List machine.Rest) (old : State) (p : Progress) (rs1 : List machine.Rest) (vs1 : List ℕ) (new : State) → rs ≡ r ∷ rs0 → CameOrMalformed (next program r a rs0) old p rs1 vs1 new → Stepped program (machine.Give a) rs old p rs1 vs1 new
+handed_loosely program a rs r rs0 old p rs1 vs1 new e h =
+    subst (λ q. Stepped program (machine.Give a) q old p rs1 vs1 new) (sym e) (stepped_loosely program (machine.Give a) (r ∷ rs0) old p rs1 vs1 new tt h)
+
+-- one of another kind than is wanted
+pub misplaced : (program : List Placed) (a : machine.Answer) (rs : List machine.Rest) (r : machine.Rest) (rs0 : List machine.Rest) (old : State) (rs1 : List machine.Rest) (vs1 : List ℕ) (new : State) → rs ≡ r ∷ rs0 → ((st : outcomes.State) → next program r a rs0 st ≡ outcomes.Wild) → Stepped program (machine.Give a) rs old (progress.Wild causes.Malformed) rs1 vs1 new
+misplaced program a rs r rs0 old rs1 vs1 new e h =
+    subst (λ q. Stepped program (machine.Give a) q old (progress.Wild causes.Malformed) rs1 vs1 new) (sym e) (malformed program (machine.Give a) (r ∷ rs0) old rs1 vs1 new tt h)
+
+-- a value that is called
+pub landed : (program : List Placed) (v : ℕ) (vs : List ℕ) (f : ℕ) (rs rs0 : List machine.Rest) (old : State) (p : Progress) (rs1 : List machine.Rest) (vs1 : List ℕ) (new : State) → rs ≡ machine.Calls vs f ∷ rs0 → Lands (machine.arrive (callee program v) vs f rs0) (callee program v) v vs f old p rs1 vs1 new → Stepped program (machine.Give (machine.Number v)) rs old p rs1 vs1 new
+landed program v vs f rs rs0 old p rs1 vs1 new e h =
+    subst (λ q. Stepped program (machine.Give (machine.Number v)) q old p rs1 vs1 new) (sym e) (by_progress p h) where
+      call : IsCall (machine.Give (machine.Number v)) (machine.Calls vs f ∷ rs0) v vs f
+      call = record { behind = rs0; work = refl; rests = refl }
+
+      by_progress : (p : Progress) → Lands (machine.arrive (callee program v) vs f rs0) (callee program v) v vs f old p rs1 vs1 new → Stepped program (machine.Give (machine.Number v)) (machine.Calls vs f ∷ rs0) old p rs1 vs1 new
+      by_progress (progress.On x) g = (tt, g)
+      by_progress (progress.Serve q d) g = (tt, record { value = v; arguments = vs; frame = f; calls = call; served = g })
+      by_progress progress.Answered g = absurd g
+      by_progress (progress.Ended x) g = (tt, g)
+      by_progress progress.Going g = (tt, g)
+      by_progress (progress.Wild c) g = (tt, g.0, ByCall v vs f call g.1)

@@ -1,15 +1,18 @@
 -- Along a list.
-use Rattle.std.proofs.Common.{◌≡◌, ℕ, Option, Some, None, List, ◌∷◌, sym, ap, subst, ◌∙◌}
+use Rattle.std.proofs.Common.{◌≡◌, ℕ, true, Option, Some, None, List, ◌∷◌, sym, ap, subst, ◌∙◌}
 use Rattle.std.specs.Borrow.{Bor}
 use Rattle.bc_machine_defs.specs.Streams.{Content}
 use Rattle.bc_core.specs.declared.command.Command.{Command}
 use Rattle.bc_core.specs.declared.command.ListItem.{ListItem}
 use Rattle.bc_core.specs.Commands as commands
-use Rattle.bc_core.specs.Lists.{Beginning}
+use Rattle.bc_core.specs.Exit.{Jumped}
+use Rattle.bc_core.specs.Lists.{Beginning, AtLabel, has_label}
+use Rattle.bc_core.specs.Map.{Placed}
 use Rattle.bc_core.specs.Outcome as outcomes
 use Rattle.bc_core.specs.View.{items, items_before, command as command_view}
 use Rattle.bc_interpret_defs.specs.Machine as machine
 use Rattle.bc_interpret_defs.specs.Machine.{list_step}
+use Rattle.bc_interpret_defs.specs.Causes.{Stood}
 use Rattle.bc_interpret_quiet.specs.declared.sight.Cause.{Cause}
 use Rattle.bc_interpret_steps.specs.declared.state.State.{State}
 use Rattle.bc_interpret_steps.specs.declared.forms.Entry.{Entry}
@@ -21,10 +24,10 @@ use Rattle.bc_interpret_steps.specs.declared.lists.Along.TheVariants as alongs
 use Rattle.bc_interpret_steps.specs.declared.forms.Progress.{Progress}
 use Rattle.bc_interpret_steps.specs.declared.rests.Rest.{Rest}
 use Rattle.bc_interpret_steps.specs.Code.{entry_of, stack, given}
-use Rattle.bc_interpret_steps.specs.Came.{state_of, Goes}
+use Rattle.bc_interpret_steps.specs.Came.{state_of, Came, CameOrMalformed, Goes}
 use Rattle.bc_interpret_steps.specs.Along.{IsAlong}
 use Rattle.bc_interpret_steps.specs.Assigns.{IsNext, IsDone}
-use Rattle.bc_interpret_steps.proofs.Quiet.{moved_came}
+use Rattle.bc_interpret_steps.proofs.Quiet.{loosen, same_came, moved_came}
 
 -- what came of the first command
 pub told_done : (E : machine.Spot) (c : commands.Command) (old : State) (found : Option Assigned) (came : Assigned) (new : State) → IsDone E c old found new → found ≡ Some came → IsDone E c old (Some came) new
@@ -38,17 +41,17 @@ passed E s behind first at next h rs st = ap (λ r. r st) (h E (items behind) s 
 pub assigned : (E : machine.Spot) (s : ℕ) (behind : List ListItem) (first : ListItem) (at : Entry) (c : Bor Command) (old new : State) → IsNext (nexts.Does c) first at → IsDone E (command_view c.now) old (Some forms.Done) new
     → (rs : List machine.Rest) (streams : Content) → list_step E (items_before first (items behind)) s (entry_of at) rs (state_of old streams) ≡ list_step E (items behind) s Beginning rs (state_of new streams)
 assigned E s behind first at c old new h d rs streams =
-    ap (λ r. r (state_of old streams)) (h E (items behind) s rs) ∙ d (items behind) s rs (list_step E (items behind) s Beginning rs) streams
+    ap (λ r. r (state_of old streams)) (h E (items behind) s rs) ∙ d.0 (items behind) s rs (list_step E (items behind) s Beginning rs) streams
 
 pub divided : (E : machine.Spot) (s : ℕ) (behind : List ListItem) (first : ListItem) (at : Entry) (c : Bor Command) (old new : State) → IsNext (nexts.Does c) first at → IsDone E (command_view c.now) old (Some forms.Divides) new
     → (rs : List machine.Rest) (streams : Content) → list_step E (items_before first (items behind)) s (entry_of at) rs (state_of old streams) ≡ outcomes.Ended outcomes.ZeroDivide streams
 divided E s behind first at c old new h d rs streams =
-    ap (λ r. r (state_of old streams)) (h E (items behind) s rs) ∙ d (items behind) s rs (list_step E (items behind) s Beginning rs) streams
+    ap (λ r. r (state_of old streams)) (h E (items behind) s rs) ∙ d.0 (items behind) s rs (list_step E (items behind) s Beginning rs) streams
 
 pub failed : (E : machine.Spot) (s : ℕ) (behind : List ListItem) (first : ListItem) (at : Entry) (c : Bor Command) (cause : Cause) (old new : State) → IsNext (nexts.Does c) first at → IsDone E (command_view c.now) old (Some (forms.Fails cause)) new
     → (rs : List machine.Rest) (streams : Content) → list_step E (items_before first (items behind)) s (entry_of at) rs (state_of old streams) ≡ outcomes.Wild
 failed E s behind first at c cause old new h d rs streams =
-    ap (λ r. r (state_of old streams)) (h E (items behind) s rs) ∙ d (items behind) s rs (list_step E (items behind) s Beginning rs) streams
+    ap (λ r. r (state_of old streams)) (h E (items behind) s rs) ∙ d.0 (items behind) s rs (list_step E (items behind) s Beginning rs) streams
 
 pub performed : (E : machine.Spot) (s : ℕ) (behind : List ListItem) (first : ListItem) (at : Entry) (c : Bor Command) (old new : State) → IsNext (nexts.Does c) first at → IsDone E (command_view c.now) old None new
     → (rs : List machine.Rest) (st : outcomes.State) → list_step E (items_before first (items behind)) s (entry_of at) rs st ≡ machine.go (machine.Perform E (command_view c.now) s) (machine.Follows E (items behind) s ∷ rs) st
@@ -59,17 +62,26 @@ pub ruleset along_a_list = (passed, assigned, divided, failed, performed)
 
 -- what comes of an item comes of the whole list
 pub listed_on : (E : machine.Spot) (s : ℕ) (left behind : List ListItem) (first : ListItem) (at next : Entry) (before after : List Rest) (old new : State) (along : Along) (p : Progress) → IsAlong E first behind s at before old along p after new → along ≡ alongs.On next → left ≡ first ∷ behind
-    → (after ≡ before) × ((rs : List machine.Rest) (streams : Content) → list_step E (items left) s (entry_of at) rs (state_of old streams) ≡ list_step E (items behind) s (entry_of next) rs (state_of new streams))
+    → (after ≡ before) × ((rs : List machine.Rest) (streams : Content) → list_step E (items left) s (entry_of at) rs (state_of old streams) ≡ list_step E (items behind) s (entry_of next) rs (state_of new streams)) × Stood old.store new.store
 listed_on E s left behind first at next before after old new along p h is split =
     let P : Along → Type 0 = λ x. IsAlong E first behind s at before old x p after new in
     let on = subst P is h in
-    (on.0, λ rs streams. ap (λ xs. list_step E (items xs) s (entry_of at) rs (state_of old streams)) split ∙ on.1 rs streams)
+    (on.0, λ rs streams. ap (λ xs. list_step E (items xs) s (entry_of at) rs (state_of old streams)) split ∙ on.1 rs streams, on.2)
 
-pub listed_over : (E : machine.Spot) (s : ℕ) (all left behind : List ListItem) (first : ListItem) (entry at : Entry) (before cur after : List Rest) (st old new : State) (along : Along) (p : Progress) → IsAlong E first behind s at cur old along p after new → along ≡ alongs.Over → left ≡ first ∷ behind → cur ≡ before
+pub listed_over : (E : machine.Spot) (s : ℕ) (all left behind : List ListItem) (first : ListItem) (entry at : Entry) (before cur after : List Rest) (st old new : State) (along : Along) (p : Progress) → IsAlong E first behind s at cur old along p after new → along ≡ alongs.Over → left ≡ first ∷ behind → cur ≡ before → Stood st.store old.store
     → ((rs : List machine.Rest) (streams : Content) → list_step E (items all) s (entry_of entry) rs (state_of st streams) ≡ list_step E (items left) s (entry_of at) rs (state_of old streams)) → Goes (list_step E (items all) s (entry_of entry)) before st p after new
-listed_over E s all left behind first entry at before cur after st old new along p h is split same kept =
+listed_over E s all left behind first entry at before cur after st old new along p h is split same stood kept =
     let P : Along → Type 0 = λ x. IsAlong E first behind s at cur old x p after new in
-    moved_came (list_step E (items all) s (entry_of entry) (stack before)) (list_step E (items_before first (items behind)) s (entry_of at) (stack cur)) st old p (stack after) (given after) new
+    moved_came (list_step E (items all) s (entry_of entry) (stack before)) (list_step E (items_before first (items behind)) s (entry_of at) (stack cur)) st old p (stack after) (given after) new stood
     (λ streams. kept (stack before) streams
     ∙ (ap (λ xs. list_step E (items xs) s (entry_of at) (stack before) (state_of old streams)) split
     ∙ ap (λ q. list_step E (items_before first (items behind)) s (entry_of at) (stack q) (state_of old streams)) (sym same))) (subst P is h)
+
+-- a list that a jump enters again
+pub listed_again : (program : List Placed) (E : machine.Spot) (is : List ListItem) (s l : ℕ) (rs rs1 rs2 : List machine.Rest) (old : State) (p : Progress) (vs : List ℕ) (new : State) → has_label (items is) l ≡ true → rs1 ≡ machine.Listed E (items is) s ∷ rs
+    → Came (list_step E (items is) s (AtLabel l) rs1) old p rs2 vs new → CameOrMalformed (machine.next program (machine.Listed E (items is) s) (machine.Left (Jumped l)) rs) old p rs2 vs new
+listed_again program E is s l rs rs1 rs2 old p vs new here e h =
+    let r = machine.next program (machine.Listed E (items is) s) (machine.Left (Jumped l)) rs in
+    loosen r old p rs2 vs new
+    (same_came r (list_step E (items is) s (AtLabel l) rs1) old p rs2 vs new
+    (λ streams. ap (λ t. machine.jump E (items is) s l t rs (state_of old streams)) here ∙ ap (λ q. list_step E (items is) s (AtLabel l) q (state_of old streams)) (sym e)) h)

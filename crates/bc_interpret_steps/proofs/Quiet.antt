@@ -9,38 +9,61 @@ use Rattle.bc_interpret_defs.specs.Machine as machine
 use Rattle.bc_interpret_defs.specs.Machine.{quiet, give, tested, evaluate_parts, evaluate, decide_parts, decide}
 use Rattle.bc_interpret_defs.specs.Quiet as quiet_forms
 use Rattle.bc_interpret_defs.specs.Quiet.{settled, worth}
+use Rattle.bc_interpret_defs.specs.Causes.{StandsIn, Stood}
+use Rattle.bc_interpret_laws.specs.Laws.{FailsBy}
+use Rattle.bc_interpret_laws.proofs.Failures.{failures_stand}
 use Rattle.bc_interpret_laws.proofs.Worths.{worth_is_value}
 use Rattle.bc_interpret_quiet.specs.declared.worth.Worth.{Worth}
 use Rattle.bc_interpret_quiet.specs.declared.worth.Worth.TheVariants as worths
 use Rattle.bc_interpret_quiet.specs.declared.worth.Truth.{Truth}
 use Rattle.bc_interpret_quiet.specs.declared.worth.Truth.TheVariants as truths
 use Rattle.bc_interpret_quiet.specs.declared.sight.Cause.{Cause}
+use Rattle.bc_interpret_quiet.specs.declared.sight.Cause.TheVariants as causes
+use Rattle.bc_interpret_quiet.specs.Causes.{cause_of}
 use Rattle.bc_interpret_quiet.specs.Views.{seen, seen_truth, IsWorth, IsTruth}
 use Rattle.bc_interpret_steps.specs.declared.state.State.{State}
+use Rattle.bc_interpret_steps.specs.declared.rests.Rest.{Rest}
 use Rattle.bc_interpret_steps.specs.declared.forms.Progress.{Progress}
 use Rattle.bc_interpret_steps.specs.declared.forms.Progress.TheVariants as progress
 use Rattle.bc_interpret_steps.specs.declared.forms.Work.{Work}
-use Rattle.bc_interpret_steps.specs.Code.{work_of}
+use Rattle.bc_interpret_steps.specs.Code.{work_of, stack, given}
 use Rattle.bc_interpret_steps.specs.declared.forms.Ending.TheVariants as endings
-use Rattle.bc_interpret_steps.specs.Came.{state_of, Came, progress_of, progress_of_truth, sight}
+use Rattle.bc_interpret_steps.specs.Came.{state_of, Came, CameOrMalformed, Goes, GoesOrMalformed, progress_of, progress_of_truth, sight}
 
 -- what comes of a step comes of one that is the same
 pub same_came : (r q : machine.Step) (old : State) (p : Progress) (rs : List machine.Rest) (vs : List ℕ) (new : State) → ((streams : Content) → r (state_of old streams) ≡ q (state_of old streams)) → Came q old p rs vs new → Came r old p rs vs new
 same_came r q old (progress.On x) rs vs new e h = λ streams. e streams ∙ h streams
-same_came r q old (progress.Serve x f) rs vs new e h = λ streams. e streams ∙ h streams
+same_came r q old (progress.Serve x f) rs vs new e h = h
 same_came r q old progress.Answered rs vs new e h = h
 same_came r q old (progress.Ended x) rs vs new e h = λ streams. e streams ∙ h streams
 same_came r q old progress.Going rs vs new e h = λ streams. e streams ∙ h streams
-same_came r q old (progress.Wild c) rs vs new e h = λ streams. e streams ∙ h streams
+same_came r q old (progress.Wild c) rs vs new e h = (λ streams. e streams ∙ h.0 streams, h.1)
 
--- the same from another state
-pub moved_came : (r q : machine.Step) (old old1 : State) (p : Progress) (rs : List machine.Rest) (vs : List ℕ) (new : State) → ((streams : Content) → r (state_of old streams) ≡ q (state_of old1 streams)) → Came q old1 p rs vs new → Came r old p rs vs new
-moved_came r q old old1 (progress.On x) rs vs new e h = λ streams. e streams ∙ h streams
-moved_came r q old old1 (progress.Serve x f) rs vs new e h = λ streams. e streams ∙ h streams
-moved_came r q old old1 progress.Answered rs vs new e h = h
-moved_came r q old old1 (progress.Ended x) rs vs new e h = λ streams. e streams ∙ h streams
-moved_came r q old old1 progress.Going rs vs new e h = λ streams. e streams ∙ h streams
-moved_came r q old old1 (progress.Wild c) rs vs new e h = λ streams. e streams ∙ h streams
+-- the same from another state, to which some cells were set
+pub moved_came : (r q : machine.Step) (old old1 : State) (p : Progress) (rs : List machine.Rest) (vs : List ℕ) (new : State) → Stood old.store old1.store → ((streams : Content) → r (state_of old streams) ≡ q (state_of old1 streams)) → Came q old1 p rs vs new → Came r old p rs vs new
+moved_came r q old old1 (progress.On x) rs vs new stood e h = λ streams. e streams ∙ h streams
+moved_came r q old old1 (progress.Serve x f) rs vs new stood e h = h
+moved_came r q old old1 progress.Answered rs vs new stood e h = h
+moved_came r q old old1 (progress.Ended x) rs vs new stood e h = λ streams. e streams ∙ h streams
+moved_came r q old old1 progress.Going rs vs new stood e h = λ streams. e streams ∙ h streams
+moved_came r q old old1 (progress.Wild c) rs vs new stood e h = (λ streams. e streams ∙ h.0 streams, stood (cause_of c) h.1)
+
+-- what is wild as the cells stand, or whatever they hold
+pub loosen : (r : machine.Step) (old : State) (p : Progress) (rs : List machine.Rest) (vs : List ℕ) (new : State) → Came r old p rs vs new → CameOrMalformed r old p rs vs new
+loosen r old (progress.On x) rs vs new h = h
+loosen r old (progress.Serve x f) rs vs new h = h
+loosen r old progress.Answered rs vs new h = h
+loosen r old (progress.Ended x) rs vs new h = h
+loosen r old progress.Going rs vs new h = h
+loosen r old (progress.Wild (causes.Unset a)) rs vs new h = h
+loosen r old (progress.Wild (causes.Dead a)) rs vs new h = h
+loosen r old (progress.Wild (causes.NoCell a)) rs vs new h = h
+loosen r old (progress.Wild (causes.NotRoutine v)) rs vs new h = h
+loosen r old (progress.Wild (causes.FrameTooLarge f)) rs vs new h = h
+loosen r old (progress.Wild causes.Malformed) rs vs new h = absurd h.1
+
+pub loosened : (f : List machine.Rest → machine.Step) (before : List Rest) (old : State) (p : Progress) (after : List Rest) (new : State) → Goes f before old p after new → GoesOrMalformed f before old p after new
+loosened f before old p after new h = loosen (f (stack before)) old p (stack after) (given after) new h
 
 -- what was found
 pub told_worth : (S : quiet_forms.Sight) (e : Exp) (found : Option Worth) (w : Worth) → IsWorth S e found → found ≡ Some w → (has_call e ≡ false) × (seen w ≡ (worth S e).value)
@@ -69,12 +92,19 @@ quiet_truth st E e s streams plain w is =
     (worth_is_value E.address (λ r vs f. outcomes.wild) (λ n p s. outcomes.wild) e plain E.frame s (state_of st streams)).1
     ∙ ap (λ x. settled x (state_of st streams)) (sym is)
 
+-- what fails is a read of a cell that stands so
+pub value_stands : (st : State) (E : machine.Spot) (e : Exp) (w : Worth) → has_call e ≡ false → seen w ≡ (worth (sight st E) e).value → FailsBy (λ c. StandsIn c st.store) (seen w)
+value_stands st E e w plain is = subst (λ x. FailsBy (λ c. StandsIn c st.store) x) (sym is) (failures_stand (sight st E) e plain).0
+
+pub truth_stands : (st : State) (E : machine.Spot) (e : Exp) (w : Truth) → has_call e ≡ false → seen_truth w ≡ (worth (sight st E) e).truth → FailsBy (λ c. StandsIn c st.store) (seen_truth w)
+truth_stands st E e w plain is = subst (λ x. FailsBy (λ c. StandsIn c st.store) x) (sym is) (failures_stand (sight st E) e plain).1
+
 -- what comes behind a value
 pub value_divides : (st : State) (E : machine.Spot) (e : Exp) (s : ℕ) (f : ℕ → machine.Step) (rs : List machine.Rest) (vs : List ℕ) (new : State) → has_call e ≡ false → quiet_forms.Divides ≡ (worth (sight st E) e).value → Came (then_do (value (quiet E) e E.frame s) f) st (progress.Ended endings.ZeroDivide) rs vs new
 value_divides st E e s f rs vs new plain is = λ streams. ap (λ o. followed o f) (quiet_value st E e s streams plain worths.Divides is)
 
-pub value_fails : (st : State) (E : machine.Spot) (e : Exp) (s : ℕ) (c : Cause) (f : ℕ → machine.Step) (rs : List machine.Rest) (vs : List ℕ) (new : State) → has_call e ≡ false → quiet_forms.Fails ≡ (worth (sight st E) e).value → Came (then_do (value (quiet E) e E.frame s) f) st (progress.Wild c) rs vs new
-value_fails st E e s c f rs vs new plain is = λ streams. ap (λ o. followed o f) (quiet_value st E e s streams plain (worths.Fails c) is)
+pub value_fails : (st : State) (E : machine.Spot) (e : Exp) (s : ℕ) (c : Cause) (f : ℕ → machine.Step) (rs : List machine.Rest) (vs : List ℕ) (new : State) → has_call e ≡ false → quiet_forms.Fails (cause_of c) ≡ (worth (sight st E) e).value → Came (then_do (value (quiet E) e E.frame s) f) st (progress.Wild c) rs vs new
+value_fails st E e s c f rs vs new plain is = (λ streams. ap (λ o. followed o f) (quiet_value st E e s streams plain (worths.Fails c) is), value_stands st E e (worths.Fails c) plain is)
 
 -- what comes behind a truth
 pub truth_on : (st : State) (E : machine.Spot) (e : Exp) (s : ℕ) (t : Bool) (f : Bool → machine.Step) (p : Progress) (rs : List machine.Rest) (vs : List ℕ) (new : State) → has_call e ≡ false → quiet_forms.Is t ≡ (worth (sight st E) e).truth → Came (f t) st p rs vs new → Came (then_do (truth (quiet E) e E.frame s) f) st p rs vs new
@@ -84,20 +114,22 @@ truth_on st E e s t f p rs vs new plain is h =
 pub truth_divides : (st : State) (E : machine.Spot) (e : Exp) (s : ℕ) (f : Bool → machine.Step) (rs : List machine.Rest) (vs : List ℕ) (new : State) → has_call e ≡ false → quiet_forms.Divides ≡ (worth (sight st E) e).truth → Came (then_do (truth (quiet E) e E.frame s) f) st (progress.Ended endings.ZeroDivide) rs vs new
 truth_divides st E e s f rs vs new plain is = λ streams. ap (λ o. followed o f) (quiet_truth st E e s streams plain truths.Divides is)
 
-pub truth_fails : (st : State) (E : machine.Spot) (e : Exp) (s : ℕ) (c : Cause) (f : Bool → machine.Step) (rs : List machine.Rest) (vs : List ℕ) (new : State) → has_call e ≡ false → quiet_forms.Fails ≡ (worth (sight st E) e).truth → Came (then_do (truth (quiet E) e E.frame s) f) st (progress.Wild c) rs vs new
-truth_fails st E e s c f rs vs new plain is = λ streams. ap (λ o. followed o f) (quiet_truth st E e s streams plain (truths.Fails c) is)
+pub truth_fails : (st : State) (E : machine.Spot) (e : Exp) (s : ℕ) (c : Cause) (f : Bool → machine.Step) (rs : List machine.Rest) (vs : List ℕ) (new : State) → has_call e ≡ false → quiet_forms.Fails (cause_of c) ≡ (worth (sight st E) e).truth → Came (then_do (truth (quiet E) e E.frame s) f) st (progress.Wild c) rs vs new
+truth_fails st E e s c f rs vs new plain is = (λ streams. ap (λ o. followed o f) (quiet_truth st E e s streams plain (truths.Fails c) is), truth_stands st E e (truths.Fails c) plain is)
 
 -- an expression in which no call stands
-pub valued : (st : State) (E : machine.Spot) (e : Exp) (s : ℕ) (rs : List machine.Rest) (vs : List ℕ) (w : Worth) → has_call e ≡ false → seen w ≡ (worth (sight st E) e).value → Came (evaluate E e s rs) st (progress_of w) rs vs st
+pub valued : (st : State) (E : machine.Spot) (e : Exp) (s : ℕ) (rs : List machine.Rest) (vs : List ℕ) (w : Worth) → has_call e ≡ false → seen w ≡ (worth (sight st E) e).value → CameOrMalformed (evaluate E e s rs) st (progress_of w) rs vs st
 valued st E e s rs vs w plain is =
-    came_false (has_call e) (evaluate_parts E e s rs) (then_do (value (quiet E) e E.frame s) (λ v. give (machine.Number v) rs)) st (progress_of w) rs vs st plain (by_worth w is) where
+    loosen (evaluate E e s rs) st (progress_of w) rs vs st
+    (came_false (has_call e) (evaluate_parts E e s rs) (then_do (value (quiet E) e E.frame s) (λ v. give (machine.Number v) rs)) st (progress_of w) rs vs st plain (by_worth w is)) where
       by_worth : (w : Worth) → seen w ≡ (worth (sight st E) e).value → Came (then_do (value (quiet E) e E.frame s) (λ v. give (machine.Number v) rs)) st (progress_of w) rs vs st
       by_worth (worths.Is v) is1 = λ streams. ap (λ o. followed o (λ v. give (machine.Number v) rs)) (quiet_value st E e s streams plain (worths.Is v) is1)
       by_worth worths.Divides is1 = λ streams. ap (λ o. followed o (λ v. give (machine.Number v) rs)) (quiet_value st E e s streams plain worths.Divides is1)
-      by_worth (worths.Fails c) is1 = λ streams. ap (λ o. followed o (λ v. give (machine.Number v) rs)) (quiet_value st E e s streams plain (worths.Fails c) is1)
+      by_worth (worths.Fails c) is1 = value_fails st E e s c (λ v. give (machine.Number v) rs) rs vs st plain is1
 
-pub value_parts : (E : machine.Spot) (e : Exp) (s : ℕ) (rs : List machine.Rest) (old : State) (p : Progress) (rs1 : List machine.Rest) (vs : List ℕ) (new : State) → has_call e ≡ true → Came (evaluate_parts E e s rs) old p rs1 vs new → Came (evaluate E e s rs) old p rs1 vs new
-value_parts E e s rs old p rs1 vs new e1 h = came_true (has_call e) (evaluate_parts E e s rs) (then_do (value (quiet E) e E.frame s) (λ v. give (machine.Number v) rs)) old p rs1 vs new e1 h
+pub value_parts : (E : machine.Spot) (e : Exp) (s : ℕ) (rs : List machine.Rest) (old : State) (p : Progress) (rs1 : List machine.Rest) (vs : List ℕ) (new : State) → has_call e ≡ true → CameOrMalformed (evaluate_parts E e s rs) old p rs1 vs new → CameOrMalformed (evaluate E e s rs) old p rs1 vs new
+value_parts E e s rs old p rs1 vs new e1 h =
+    let P : Bool → Type 0 = λ z. CameOrMalformed (by_test z (evaluate_parts E e s rs) (then_do (value (quiet E) e E.frame s) (λ v. give (machine.Number v) rs))) old p rs1 vs new in subst P (sym e1) h
 
 pub judged : (st : State) (E : machine.Spot) (e : Exp) (s : ℕ) (rs : List machine.Rest) (vs : List ℕ) (w : Truth) → has_call e ≡ false → seen_truth w ≡ (worth (sight st E) e).truth → Came (decide E e s rs) st (progress_of_truth w) rs vs st
 judged st E e s rs vs w plain is =
@@ -105,7 +137,7 @@ judged st E e s rs vs w plain is =
       by_truth : (w : Truth) → seen_truth w ≡ (worth (sight st E) e).truth → Came (then_do (truth (quiet E) e E.frame s) (λ t. give (machine.Verdict t) rs)) st (progress_of_truth w) rs vs st
       by_truth (truths.Is t) is1 = λ streams. ap (λ o. followed o (λ t1. give (machine.Verdict t1) rs)) (quiet_truth st E e s streams plain (truths.Is t) is1)
       by_truth truths.Divides is1 = λ streams. ap (λ o. followed o (λ t. give (machine.Verdict t) rs)) (quiet_truth st E e s streams plain truths.Divides is1)
-      by_truth (truths.Fails c) is1 = λ streams. ap (λ o. followed o (λ t. give (machine.Verdict t) rs)) (quiet_truth st E e s streams plain (truths.Fails c) is1)
+      by_truth (truths.Fails c) is1 = truth_fails st E e s c (λ t. give (machine.Verdict t) rs) rs vs st plain is1
 
 pub truth_parts : (E : machine.Spot) (e : Exp) (s : ℕ) (rs : List machine.Rest) (old : State) (p : Progress) (rs1 : List machine.Rest) (vs : List ℕ) (new : State) → has_call e ≡ true → Came (decide_parts E e s rs) old p rs1 vs new → Came (decide E e s rs) old p rs1 vs new
 truth_parts E e s rs old p rs1 vs new e1 h = came_true (has_call e) (decide_parts E e s rs) (then_do (truth (quiet E) e E.frame s) (λ t. give (machine.Verdict t) rs)) old p rs1 vs new e1 h
@@ -130,7 +162,7 @@ pub tested_divides : (E : machine.Spot) (e : Exp) (s : ℕ) (f : Bool → machin
 tested_divides E e s f r rs old rs1 vs new plain is =
     came_false (has_call e) (machine.go (machine.Decide E e s) (r ∷ rs)) (then_do (truth (quiet E) e E.frame s) f) old (progress.Ended endings.ZeroDivide) rs1 vs new plain (truth_divides old E e s f rs1 vs new plain is)
 
-pub tested_fails : (E : machine.Spot) (e : Exp) (s : ℕ) (c : Cause) (f : Bool → machine.Step) (r : machine.Rest) (rs : List machine.Rest) (old : State) (rs1 : List machine.Rest) (vs : List ℕ) (new : State) → has_call e ≡ false → quiet_forms.Fails ≡ (worth (sight old E) e).truth → Came (tested E e s f r rs) old (progress.Wild c) rs1 vs new
+pub tested_fails : (E : machine.Spot) (e : Exp) (s : ℕ) (c : Cause) (f : Bool → machine.Step) (r : machine.Rest) (rs : List machine.Rest) (old : State) (rs1 : List machine.Rest) (vs : List ℕ) (new : State) → has_call e ≡ false → quiet_forms.Fails (cause_of c) ≡ (worth (sight old E) e).truth → Came (tested E e s f r rs) old (progress.Wild c) rs1 vs new
 tested_fails E e s c f r rs old rs1 vs new plain is =
     came_false (has_call e) (machine.go (machine.Decide E e s) (r ∷ rs)) (then_do (truth (quiet E) e E.frame s) f) old (progress.Wild c) rs1 vs new plain (truth_fails old E e s c f rs1 vs new plain is)
 
@@ -155,7 +187,7 @@ pub choice_divides : (E : machine.Spot) (c x y : Exp) (s : ℕ) (rs : List machi
 choice_divides E c x y s rs old vs plain is =
     came_false (has_call c) (machine.go (machine.Decide E c s) (machine.Selects E x y s ∷ rs)) (then_do (truth (quiet E) c E.frame s) (chosen E x y s rs)) old (progress.Ended endings.ZeroDivide) rs vs old plain (truth_divides old E c s (chosen E x y s rs) rs vs old plain is)
 
-pub choice_fails : (E : machine.Spot) (c x y : Exp) (s : ℕ) (cause : Cause) (rs : List machine.Rest) (old : State) (vs : List ℕ) → has_call c ≡ false → quiet_forms.Fails ≡ (worth (sight old E) c).truth → Came (evaluate_parts E (Cond c x y) s rs) old (progress.Wild cause) rs vs old
+pub choice_fails : (E : machine.Spot) (c x y : Exp) (s : ℕ) (cause : Cause) (rs : List machine.Rest) (old : State) (vs : List ℕ) → has_call c ≡ false → quiet_forms.Fails (cause_of cause) ≡ (worth (sight old E) c).truth → Came (evaluate_parts E (Cond c x y) s rs) old (progress.Wild cause) rs vs old
 choice_fails E c x y s cause rs old vs plain is =
     came_false (has_call c) (machine.go (machine.Decide E c s) (machine.Selects E x y s ∷ rs)) (then_do (truth (quiet E) c E.frame s) (chosen E x y s rs)) old (progress.Wild cause) rs vs old plain (truth_fails old E c s cause (chosen E x y s rs) rs vs old plain is)
 

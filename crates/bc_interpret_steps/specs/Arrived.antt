@@ -1,7 +1,11 @@
 -- For proofs: what a call comes to.
-use Rattle.std.specs.Prelude.{ℕ, ◌≡◌, Bool, List, reverse, Option, Result, OnOk}
+use Rattle.std.specs.Prelude.{ℕ, ◌≡◌, ◌+◌, Bool, List, reverse, Option, Some, Result, OnOk}
 use Rattle.bc_core.specs.Map.{Placed}
-use Rattle.bc_core.specs.Meaning.{Callee, callee}
+use Rattle.bc_core.specs.Meaning.{Callee, OfLibrary, callee, passed}
+use Rattle.bc_core.specs.Outcome as outcomes
+use Rattle.bc_core.specs.Outcome.{followed, left}
+use Rattle.bc_core.specs.Primitive as primitives
+use Rattle.bc_core.specs.Primitive.{primitive_work}
 use Rattle.bc_machine_defs.specs.Streams.{Content}
 use Rattle.bc_core.specs.Tree.{no_argument, argument}
 use Rattle.bc_core.specs.View.{exp, args}
@@ -9,15 +13,18 @@ use Rattle.bc_core.specs.declared.expression.CoreExp.{CoreExp}
 use Rattle.bc_interpret_steps.specs.declared.arguments.Given.{Given}
 use Rattle.bc_interpret_steps.specs.declared.arguments.Given.TheVariants as forms
 use Rattle.bc_interpret_defs.specs.Machine as machine
-use Rattle.bc_interpret_defs.specs.Machine.{arrive}
+use Rattle.bc_interpret_defs.specs.Machine.{give, arrive}
+use Rattle.bc_interpret_defs.specs.Meeting.{Refused}
+use Rattle.bc_interpret_quiet.specs.Causes.{cause_of}
 use Rattle.bc_interpret_steps.specs.declared.forms.Arguments.{Arguments}
 use Rattle.bc_interpret_steps.specs.declared.rests.Rest.{Rest}
 use Rattle.bc_interpret_steps.specs.declared.state.State.{State}
 use Rattle.bc_interpret_steps.specs.declared.state.Stacks.{Stacks}
 use Rattle.bc_interpret_steps.specs.declared.forms.Progress.{Progress}
+use Rattle.bc_interpret_steps.specs.declared.forms.Progress.TheVariants as progress
 use Rattle.bc_interpret_steps.specs.declared.sections.Callable.{Callable}
 use Rattle.bc_interpret_steps.specs.Code.{spot_of, given_for, stack, given}
-use Rattle.bc_interpret_steps.specs.Came.{state_of, Goes}
+use Rattle.bc_interpret_steps.specs.Came.{state_of, primitive_of, Came, Goes}
 use Rattle.bc_interpret_steps.specs.Sections.{IsTable}
 
 -- the arguments from here on, behind those that are given
@@ -39,11 +46,32 @@ IsGivenOne a first behind before st forms.Over p after =
     Goes (machine.argue (spot_of a.spot) (given_for a.fresh (given before)) (argument (exp first) (args behind)) a.level (exp a.routine.now) a.count a.s)
     before st p after st
 
+-- A primitive is called: its turn is taken, it has its argument, and its work stands in front of what is left, with its argument's cell
+-- given back behind it.
+pub record IsServed (r : machine.Step) (called : Option Callee) (arguments : List ℕ) (f : ℕ) (q : primitives.Primitive) (g : ℕ)
+    (old : State) (rs : List machine.Rest) (new : State) : Type 0 where
+  pub comes : (streams : Content)
+      → r (state_of old streams) ≡ followed (left 1 (g + 2) (primitive_work q g (state_of new streams))) (λ v. give (machine.Number v) rs)
+  pub frame : g ≡ f
+  pub is_primitive : called ≡ Some (OfLibrary q)
+  pub has_argument : new.store ≡ passed 1 (f + 2) arguments old.store
+
+-- what comes of a step that calls this, at the address that is a value, with these arguments in the frame at f
+abbrev pub Lands :
+    machine.Step → Option Callee → (value : ℕ) → (arguments : List ℕ) → (f : ℕ)
+    → (old : State) → Progress → List machine.Rest → List ℕ → (new : State) → Type 0
+Lands r called value arguments f old (progress.Serve q g) rs vs new = IsServed r called arguments f (primitive_of q) g old rs new
+Lands r called value arguments f old (progress.Wild c) rs vs new =
+    ((streams : Content) → r (state_of old streams) ≡ outcomes.Wild) × Refused called value f (cause_of c)
+Lands r called value arguments f old p rs vs new = Came r old p rs vs new
+
 -- this is called, with the arguments that were gathered
 abbrev pub Enters :
-    {A E : Type 0} → Option Callee → (frame : ℕ) → (before : Stacks) → (old : State) → Result A E → (after : Stacks) → (new : State) → Type 0
-Enters called f before old result after new =
-    OnOk result (Goes (arrive called (reverse before.arguments.items) f) before.rests.items old after.next after.rests.items new)
+    {A E : Type 0} → Option Callee → (value frame : ℕ) → (before : Stacks) → (old : State) → Result A E → (after : Stacks) → (new : State) → Type 0
+Enters called value f before old result after new =
+    let vs = reverse before.arguments.items in
+    OnOk result (Lands (arrive called vs f (stack before.rests.items)) called value vs f old after.next (stack after.rests.items)
+    (given after.rests.items) new)
 
 -- a value is called, with the arguments that are given, or with none where the call is fresh
 abbrev pub Arrives :
@@ -52,4 +80,6 @@ abbrev pub Arrives :
     → (before : Stacks) → (old : State) → Result A E → (after : Stacks) → (new : State) → Type 0
 Arrives table value fresh f before old result after new =
     (program : List Placed) → IsTable program table
-    → OnOk result (Goes (arrive (callee program value) (given_for fresh (given before.rests.items)) f) before.rests.items old after.next after.rests.items new)
+    → let vs = given_for fresh (given before.rests.items) in
+    OnOk result (Lands (arrive (callee program value) vs f (stack before.rests.items)) (callee program value) value vs f old after.next
+    (stack after.rests.items) (given after.rests.items) new)

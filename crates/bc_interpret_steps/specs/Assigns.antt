@@ -4,6 +4,9 @@ use Rattle.bc_machine_defs.specs.Streams.{Content}
 use Rattle.bc_core.specs.Tree.{Exp}
 use Rattle.bc_core.specs.Commands.{Command, Items}
 use Rattle.bc_core.specs.Lists.{Beginning}
+use Rattle.bc_interpret_laws.specs.Laws.{FailsBy}
+use Rattle.bc_interpret_defs.specs.Causes.{StandsIn, Stood}
+use Rattle.bc_interpret_quiet.specs.Causes.{cause_of}
 use Rattle.bc_core.specs.Outcome.{Outcome, Done, Ended, Wild, ZeroDivide, followed, second_side, write}
 use Rattle.bc_core.specs.Value.{has_call, assign}
 use Rattle.bc_core.specs.View.{command as command_view, items_before}
@@ -27,17 +30,25 @@ outcome_of forms.Done new streams = Done tt (state_of new streams)
 outcome_of forms.Divides new streams = Ended ZeroDivide streams
 outcome_of (forms.Fails c) new streams = Wild
 
+-- what was unset or not live then was so before; and the wild access that is named is one to a cell that stood so
+abbrev pub Tells : Assigned → (old new : State) → Type 0
+Tells forms.Done old new = Stood old.store new.store
+Tells forms.Divides old new = Unit {0}
+Tells (forms.Fails c) old new = StandsIn (cause_of c) old.store
+
 -- one whose sides are worth these
 abbrev pub BothWorth : quiet_forms.Worth ℕ → quiet_forms.Worth ℕ → (old : State) → Assigned → (new : State) → Type 0
 BothWorth w x old done new =
-    (streams : Content) → second_side false (settled w (state_of old streams)) (settled x) (λ word address. write address word) (state_of old streams) ≡
-    outcome_of done new streams
+    ((streams : Content) → second_side false (settled w (state_of old streams)) (settled x) (λ word address. write address word) (state_of old streams) ≡
+    outcome_of done new streams)
+    × (FailsBy (λ c. StandsIn c old.store) w → FailsBy (λ c. StandsIn c old.store) x → Tells done old new)
 
 -- it was done, or a call stands in it
 abbrev pub IsAssigned : machine.Spot → (value address : Exp) → (old : State) → Option Assigned → (new : State) → Type 0
 IsAssigned E v a old None new = ((has_call v || has_call a) ≡ true) × (new ≡ old)
 IsAssigned E v a old (Some done) new =
     ((has_call v || has_call a) ≡ false) × ((s : ℕ) (streams : Content) → assign (quiet E) v a E.frame s (state_of old streams) ≡ outcome_of done new streams)
+    × Tells done old new
 
 -- the first command of a list was done, or is performed
 abbrev pub IsDone : machine.Spot → Command → (old : State) → Option Assigned → (new : State) → Type 0
@@ -45,8 +56,9 @@ IsDone E c old None new =
     ((is : Items) (s : ℕ) (rs : List machine.Rest) (onward : machine.Step) → first_command E c is s rs onward ≡ machine.go (machine.Perform E c s)
     (machine.Follows E is s ∷ rs)) × (new ≡ old)
 IsDone E c old (Some done) new =
-    (is : Items) (s : ℕ) (rs : List machine.Rest) (onward : machine.Step) (streams : Content)
-    → first_command E c is s rs onward (state_of old streams) ≡ followed (outcome_of done new streams) (λ u. onward)
+    ((is : Items) (s : ℕ) (rs : List machine.Rest) (onward : machine.Step) (streams : Content)
+    → first_command E c is s rs onward (state_of old streams) ≡ followed (outcome_of done new streams) (λ u. onward))
+    × Tells done old new
 
 -- what comes next in a list whose first item this is, and which is entered so
 abbrev pub IsNext : Next → ListItem → Entry → Type 0

@@ -1,15 +1,16 @@
 -- For proofs: what came of a step, as the interpreter has it.
-use Rattle.std.specs.Prelude.{ℕ, ◌≡◌, ◌+◌, Bool, true, false, List, Option, Some, None}
+use Rattle.std.specs.Prelude.{ℕ, ◌≡◌, ◌+◌, ◌<◌, Bool, true, false, List, Option, Some, None}
 use Rattle.bc_machine_defs.specs.Streams.{Content}
-use Rattle.bc_core.specs.Store.{Dead, cell_at}
+use Rattle.bc_interpret_defs.specs.Causes.{StandsIn, Stood}
 use Rattle.bc_core.specs.Outcome as outcomes
-use Rattle.bc_core.specs.Outcome.{followed, in_turn, left, write}
+use Rattle.bc_core.specs.Outcome.{in_turn, write}
 use Rattle.bc_interpret_defs.specs.Quiet as quiet
 use Rattle.bc_core.specs.Exit as exits
 use Rattle.bc_core.specs.Lists as lists
 use Rattle.bc_core.specs.Primitive as primitives
-use Rattle.bc_core.specs.Primitive.{primitive_work}
 use Rattle.bc_interpret_quiet.specs.declared.sight.Cause.{Cause}
+use Rattle.bc_interpret_quiet.specs.declared.sight.Cause.TheVariants as causes
+use Rattle.bc_interpret_quiet.specs.Causes.{cause_of}
 use Rattle.bc_interpret_quiet.specs.declared.worth.Worth.{Worth}
 use Rattle.bc_interpret_quiet.specs.declared.worth.Worth.TheVariants as worths
 use Rattle.bc_interpret_quiet.specs.declared.worth.Truth.{Truth}
@@ -44,21 +45,27 @@ primitive_of (primitive_forms.EndStream side) = primitives.EndStream side
 abbrev pub at : List ℕ → Work → List machine.Rest → machine.At
 at vs w rs = record { work = work_of vs w; rests = rs }
 
--- Whatever the streams hold: this came of a step, with what is left to do, the arguments that are given and the state then. A primitive
--- is yet to be served: its work stands in front of what is left, and its argument's cell is given back behind it.
+-- Whatever the streams hold: this came of a step that calls nothing, with what is left to do, the arguments that are given and the state
+-- then. Where a wild access was met, it is one to a cell that stood so as the step began.
 abbrev pub Came : machine.Step → (old : State) → Progress → List machine.Rest → List ℕ → (new : State) → Type 0
 Came r old (progress.On w) rs vs new = (streams : Content) → r (state_of old streams) ≡ outcomes.Done (at vs w rs) (state_of new streams)
-Came r old (progress.Serve q f) rs vs new =
-    (streams : Content)
-    → r (state_of old streams) ≡ followed (left 1 (f + 2) (primitive_work (primitive_of q) f (state_of new streams))) (λ v. give (machine.Number v) rs)
+Came r old (progress.Serve q f) rs vs new = ⊥
 Came r old progress.Answered rs vs new = ⊥
 Came r old (progress.Ended e) rs vs new = (streams : Content) → r (state_of old streams) ≡ outcomes.Ended (ending e) streams
 Came r old progress.Going rs vs new = (streams : Content) → r (state_of old streams) ≡ outcomes.Going streams
-Came r old (progress.Wild c) rs vs new = (streams : Content) → r (state_of old streams) ≡ outcomes.Wild
+Came r old (progress.Wild c) rs vs new = ((streams : Content) → r (state_of old streams) ≡ outcomes.Wild) × StandsIn (cause_of c) old.store
+
+-- the same; or it is wild whatever the cells hold
+abbrev pub CameOrMalformed : machine.Step → (old : State) → Progress → List machine.Rest → List ℕ → (new : State) → Type 0
+CameOrMalformed r old (progress.Wild causes.Malformed) rs vs new = (st : outcomes.State) → r st ≡ outcomes.Wild
+CameOrMalformed r old p rs vs new = Came r old p rs vs new
 
 -- the same where what is left to do stands in the interpreter's list
 abbrev pub Goes : (List machine.Rest → machine.Step) → (before : List Rest) → (old : State) → Progress → (after : List Rest) → (new : State) → Type 0
 Goes f before old p after new = Came (f (stack before)) old p (stack after) (given after) new
+
+abbrev pub GoesOrMalformed : (List machine.Rest → machine.Step) → (before : List Rest) → (old : State) → Progress → (after : List Rest) → (new : State) → Type 0
+GoesOrMalformed f before old p after new = CameOrMalformed (f (stack before)) old p (stack after) (given after) new
 
 -- a turn was taken, or none is left
 abbrev pub Turned : Bool → State → State → Type 0
@@ -67,8 +74,8 @@ Turned false old new = ((r : machine.Step) (streams : Content) → in_turn r (st
 
 -- a cell was written, or isn't live
 abbrev pub Wrote : State → (address word : ℕ) → Option Cause → State → Type 0
-Wrote old a w None new = (streams : Content) → write a w (state_of old streams) ≡ outcomes.Done tt (state_of new streams)
-Wrote old a w (Some c) new = (streams : Content) → write a w (state_of old streams) ≡ outcomes.Wild
+Wrote old a w None new = ((streams : Content) → write a w (state_of old streams) ≡ outcomes.Done tt (state_of new streams)) × Stood old.store new.store
+Wrote old a w (Some c) new = ((streams : Content) → write a w (state_of old streams) ≡ outcomes.Wild) × StandsIn (cause_of c) old.store
 
 -- what comes of an expression that is worth this
 abbrev pub progress_of : Worth → Progress
@@ -97,8 +104,10 @@ IsBehindCases out within = (st : outcomes.State) → lists.behind_cases within s
 
 -- whether a call goes on in a frame at f
 abbrev pub Framed : Fit → (f size : ℕ) → State → State → Type 0
-Framed fits.Fits f size old new = (r : machine.Step) (streams : Content) → frame_taken f size r (state_of old streams) ≡ r (state_of new streams)
-Framed fits.TooLarge f size old new = (r : machine.Step) (streams : Content) → frame_taken f size r (state_of old streams) ≡ outcomes.Wild
+Framed fits.Fits f size old new =
+    ((r : machine.Step) (streams : Content) → frame_taken f size r (state_of old streams) ≡ r (state_of new streams)) × (new.store ≡ old.store)
+Framed fits.TooLarge f size old new =
+    (65536 < f + size) × ((r : machine.Step) (streams : Content) → frame_taken f size r (state_of old streams) ≡ outcomes.Wild)
 Framed fits.NoTurn f size old new = (r : machine.Step) (streams : Content) → frame_taken f size r (state_of old streams) ≡ outcomes.Going streams
 
 abbrev pub primitive_if : Option Primitive → Option primitives.Primitive

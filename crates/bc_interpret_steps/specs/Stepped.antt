@@ -3,7 +3,13 @@ use Rattle.std.specs.Prelude.{ℕ, ◌≡◌, List, [], Vec, Result, OnOk, IfOk}
 use Rattle.std.specs.declared.alloc.Global.{Global}
 use Rattle.bc_core.specs.Map.{Placed}
 use Rattle.bc_interpret_defs.specs.Machine as machine
+use Rattle.bc_machine_defs.specs.Streams.{Content}
+use Rattle.bc_core.specs.Meaning.{callee}
+use Rattle.bc_core.specs.Outcome as outcomes
+use Rattle.bc_core.specs.Primitive as primitives
 use Rattle.bc_interpret_defs.specs.Machine.{step, next}
+use Rattle.bc_interpret_defs.specs.Meeting.{IsCall, Meets}
+use Rattle.bc_interpret_quiet.specs.Causes.{cause_of}
 use Rattle.bc_interpret_defs.specs.Running.{Moves}
 use Rattle.bc_interpret_steps.specs.declared.state.State.{State}
 use Rattle.bc_interpret_steps.specs.declared.forms.Progress.{Progress}
@@ -11,13 +17,26 @@ use Rattle.bc_interpret_steps.specs.declared.forms.Progress.TheVariants as progr
 use Rattle.bc_interpret_steps.specs.declared.rests.Rest.{Rest}
 use Rattle.bc_interpret_steps.specs.declared.sections.Callable.{Callable}
 use Rattle.bc_interpret_steps.specs.Code.{stack, given}
-use Rattle.bc_interpret_steps.specs.Came.{Came, Goes}
+use Rattle.bc_interpret_steps.specs.Came.{state_of, primitive_of, Came, CameOrMalformed, Goes, GoesOrMalformed}
+use Rattle.bc_interpret_steps.specs.Arrived.{IsServed}
 use Rattle.bc_interpret_steps.specs.Sections.{IsTable}
+
+-- a value is called, which is a primitive's address
+pub record Serves (program : List Placed) (w : machine.Work) (rs : List machine.Rest) (q : primitives.Primitive) (g : ℕ)
+    (old : State) (rs1 : List machine.Rest) (new : State) : Type 0 where
+  pub value : ℕ
+  pub arguments : List ℕ
+  pub frame : ℕ
+  pub calls : IsCall w rs value arguments frame
+  pub served : IsServed (step program w rs) (callee program value) arguments frame q g old rs1 new
 
 -- this came of a step; or the answer of the whole run stands there
 abbrev pub Stepped :
     List Placed → machine.Work → (rs : List machine.Rest) → (old : State) → Progress → List machine.Rest → List ℕ → (new : State) → Type 0
 Stepped program w rs old progress.Answered rs1 vs1 new = ((a : machine.Answer) × (w ≡ machine.Give a)) × (rs ≡ []) × (new ≡ old)
+Stepped program w rs old (progress.Serve q g) rs1 vs1 new = Moves w rs × Serves program w rs (primitive_of q) g old rs1 new
+Stepped program w rs old (progress.Wild c) rs1 vs1 new =
+    Moves w rs × ((streams : Content) → step program w rs (state_of old streams) ≡ outcomes.Wild) × Meets program w rs old.store (cause_of c)
 Stepped program w rs old p rs1 vs1 new = Moves w rs × Came (step program w rs) old p rs1 vs1 new
 
 -- The same of what a call leaves to come next, if memory sufficed. For proofs: what came of a step that is given what is left to do,
@@ -27,15 +46,30 @@ abbrev pub Proceeds :
     → Type 0
 Proceeds f before old result p after new = OnOk result (Goes f before.items old p after.items new)
 
+abbrev pub ProceedsOrMalformed :
+    {A E : Type 0}
+    → (List machine.Rest → machine.Step) → (before : Vec Rest Global) → (old : State) → Result A E → Progress → (after : Vec Rest Global) → (new : State)
+    → Type 0
+ProceedsOrMalformed f before old result p after new = OnOk result (GoesOrMalformed f before.items old p after.items new)
+
 -- an answer that is taken by what is left to do first,
 abbrev pub Takes :
     {A E : Type 0}
     → machine.Rest → machine.Answer → (before : Vec Rest Global) → (old : State) → Result A E → Progress → (after : Vec Rest Global) → (new : State) → Type 0
 Takes r a before old result p after new = (program : List Placed) → OnOk result (Goes (next program r a) before.items old p after.items new)
 
+abbrev pub TakesOrMalformed :
+    {A E : Type 0}
+    → machine.Rest → machine.Answer → (before : Vec Rest Global) → (old : State) → Result A E → Progress → (after : Vec Rest Global) → (new : State) → Type 0
+TakesOrMalformed r a before old result p after new =
+    (program : List Placed) → OnOk result (GoesOrMalformed (next program r a) before.items old p after.items new)
+
 -- which leaves what is behind it alone,
 abbrev pub Gives : machine.Rest → machine.Answer → (old : State) → Progress → (new : State) → Type 0
 Gives r a old p new = (program : List Placed) (rs : List machine.Rest) (vs : List ℕ) → Came (next program r a rs) old p rs vs new
+
+abbrev pub GivesOrMalformed : machine.Rest → machine.Answer → (old : State) → Progress → (new : State) → Type 0
+GivesOrMalformed r a old p new = (program : List Placed) (rs : List machine.Rest) (vs : List ℕ) → CameOrMalformed (next program r a rs) old p rs vs new
 
 abbrev pub GivesIfOk : {E : Type 0} → machine.Rest → machine.Answer → (old : State) → Result Progress E → (new : State) → Type 0
 GivesIfOk r a old result new = (program : List Placed) (rs : List machine.Rest) (vs : List ℕ) → IfOk result (λ p. Came (next program r a rs) old p rs vs new)

@@ -1,6 +1,6 @@
 // Into a routine or a primitive.
 
-ghost use Rattle.std.specs.Prelude.{Some, IfOk};
+ghost use Rattle.std.specs.Prelude.{ℕ, Some, IfOk};
 ghost use Rattle.bc_core.specs.Meaning.{OfLibrary};
 ghost use Rattle.bc_interpret_steps.specs.Arrived.{Enters, Arrives};
 ghost use Rattle.bc_interpret_steps.specs.Came.{Framed, IsPrimitive, primitive_of};
@@ -58,13 +58,14 @@ fn primitive_at(address: u16) -> Option<Primitive>
 }
 
 /// Into a primitive, in the frame at this address.
+#[tactic(auto, using(crate::proofs::Frames::served))]
 fn enter_primitive<'c>(
     primitive: Primitive,
     frame: u32,
     stacks: &mut Stacks<'c>,
     state: &mut State,
 ) -> Result<(), Memory>
-    ensures { Enters (Some (OfLibrary (primitive_of primitive))) frame stacks.old state.old result stacks.new state.new }
+    ensures { (value : ℕ) → Enters (Some (OfLibrary (primitive_of primitive))) value frame stacks.old state.old result stacks.new state.new }
 {
     match take_room(frame, 3, state)? {
         Fit::TooLarge => {
@@ -92,7 +93,7 @@ fn enter_routine<'c>(
     stacks: &mut Stacks<'c>,
     state: &mut State,
 ) -> Result<(), Memory>
-    ensures { IsSized entry.entry → Enters (Some (callee_of entry.entry)) frame stacks.old state.old result stacks.new state.new }
+    ensures { IsSized entry.entry → (value : ℕ) → Enters (Some (callee_of entry.entry)) value frame stacks.old state.old result stacks.new state.new }
 {
     match take_room(frame, entry.frame, state)? {
         Fit::TooLarge => {

@@ -12,7 +12,7 @@ ghost use Rattle.bc_core.specs.Commands as commands;
 ghost use Rattle.bc_interpret_steps.specs.declared.rests.TruthRest.TheVariants as truth_rests;
 ghost use Rattle.bc_interpret_steps.specs.declared.state.State.{State as StateValue};
 ghost use Rattle.bc_interpret_steps.specs.Code.{spot_of, value_rest, truth_rest};
-ghost use Rattle.bc_interpret_steps.specs.Stepped.{Proceeds};
+ghost use Rattle.bc_interpret_steps.specs.Stepped.{Proceeds, ProceedsOrMalformed};
 
 use crate::assign::{Assigned, assign_at_once};
 use crate::evaluate::{decide, evaluate, truth_at};
@@ -35,7 +35,7 @@ pub(crate) fn perform<'c>(
     stacks: &mut Stacks<'c>,
     state: &mut State,
 ) -> Result<(), Memory>
-    ensures { Proceeds (machine.perform_step (spot_of spot.entry)
+    ensures { ProceedsOrMalformed (machine.perform_step (spot_of spot.entry)
         (command_view command.now) s) stacks.old.rests state.old result stacks.new.next stacks.new.rests state.new }
 {
     match command {
@@ -136,7 +136,7 @@ fn behind_value<'c>(
     stacks: &mut Stacks<'c>,
     state: &State,
 ) -> Result<(), Memory>
-    ensures { Proceeds (λ rs. machine.evaluate (spot_of spot.entry) (exp e.now) s
+    ensures { ProceedsOrMalformed (λ rs. machine.evaluate (spot_of spot.entry) (exp e.now) s
         (value_rest rest.entry ∷ rs)) stacks.old.rests state.now result stacks.new.next
         stacks.new.rests state.now }
 {

@@ -8,7 +8,7 @@ ghost use Rattle.bc_interpret_steps.specs.Code.{spot_of};
 ghost use Rattle.bc_interpret_quiet.specs.Views.{IsWorth, IsTruth};
 ghost use Rattle.bc_interpret_steps.specs.declared.state.State.{State as StateValue};
 ghost use Rattle.bc_interpret_steps.specs.Came.{progress_of, progress_of_truth, sight};
-ghost use Rattle.bc_interpret_steps.specs.Stepped.{Proceeds};
+ghost use Rattle.bc_interpret_steps.specs.Stepped.{Proceeds, ProceedsOrMalformed};
 
 use crate::arguments::argue;
 use crate::forms::{Arguments, Ending, Progress, Spot, Work};
@@ -94,7 +94,8 @@ pub(crate) fn evaluate<'c>(
     stacks: &mut Stacks<'c>,
     state: &State,
 ) -> Result<(), Memory>
-    ensures { Proceeds (machine.evaluate (spot_of spot.entry) (exp e.now) s) stacks.old.rests state.now result stacks.new.next stacks.new.rests state.now }
+    ensures { ProceedsOrMalformed (machine.evaluate (spot_of spot.entry)
+        (exp e.now) s) stacks.old.rests state.now result stacks.new.next stacks.new.rests state.now }
 {
     match worth_at(&spot, e, &mut stacks.room, state)? {
         Some(worth) => {
@@ -113,7 +114,7 @@ fn evaluate_parts<'c>(
     stacks: &mut Stacks<'c>,
     state: &State,
 ) -> Result<(), Memory>
-    ensures { Proceeds (machine.evaluate_parts (spot_of spot.entry)
+    ensures { ProceedsOrMalformed (machine.evaluate_parts (spot_of spot.entry)
         (exp e.now) s) stacks.old.rests state.now result stacks.new.next stacks.new.rests state.now }
 {
     match e {
@@ -227,7 +228,7 @@ fn choice<'c>(
 
 /// Into the body of the VALOF with this number.
 fn valof<'c>(spot: Spot<'c>, number: u32, s: u32, stacks: &mut Stacks<'c>) -> Result<(), Memory>
-    ensures { (st : StateValue) → Proceeds
+    ensures { (st : StateValue) → ProceedsOrMalformed
         (machine.evaluate_parts (spot_of spot.entry) (tree.Valof number) s) stacks.old.rests st result stacks.new.next stacks.new.rests st }
 {
     if number < spot.first {

@@ -6,7 +6,7 @@ ghost use Rattle.bc_interpret_defs.specs.Machine as machine;
 ghost use Rattle.bc_interpret_steps.specs.declared.state.State.{State as StateValue};
 ghost use Rattle.bc_interpret_steps.specs.Code.{spot_of, exit_of, exit_rest, nothing_rest};
 ghost use Rattle.bc_interpret_steps.specs.Came.{IsBehind, IsBehindCases};
-ghost use Rattle.bc_interpret_steps.specs.Stepped.{Takes, Gives, GivesIfOk};
+ghost use Rattle.bc_interpret_steps.specs.Stepped.{Takes, TakesOrMalformed, GivesOrMalformed, GivesIfOk};
 
 use crate::forms::{Entry, Exit, Progress, Spot, Work};
 use crate::lists::{has_label, listing};
@@ -66,7 +66,7 @@ pub(crate) fn exit_taken<'c>(
     stacks: &mut Stacks<'c>,
     state: &mut State,
 ) -> Result<(), Memory>
-    ensures { Takes (exit_rest rest.now) (machine.Left (exit_of exit)) stacks.old.rests state.old result stacks.new.next stacks.new.rests state.new }
+    ensures { TakesOrMalformed (exit_rest rest.now) (machine.Left (exit_of exit)) stacks.old.rests state.old result stacks.new.next stacks.new.rests state.new }
 {
     match rest {
         ExitRest::Returns => {
@@ -175,7 +175,7 @@ pub(crate) fn exit_taken<'c>(
 
 /// The value of a routine of BE, which control leaves so.
 fn returned<'c>(exit: Exit) -> Progress<'c>
-    ensures { (st : StateValue) → Gives machine.Returns (machine.Left (exit_of exit)) st result st }
+    ensures { (st : StateValue) → GivesOrMalformed machine.Returns (machine.Left (exit_of exit)) st result st }
 {
     match exit {
         Exit::Past | Exit::Returned => Progress::On(Work::Number(0)),
@@ -186,7 +186,7 @@ fn returned<'c>(exit: Exit) -> Progress<'c>
 
 /// The value of a VALOF, whose body control leaves so.
 fn resulted<'c>(exit: Exit) -> Progress<'c>
-    ensures { (st : StateValue) → Gives machine.Results (machine.Left (exit_of exit)) st result st }
+    ensures { (st : StateValue) → GivesOrMalformed machine.Results (machine.Left (exit_of exit)) st result st }
 {
     match exit {
         Exit::Past => Progress::On(Work::Number(0)),

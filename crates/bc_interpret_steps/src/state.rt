@@ -1,5 +1,6 @@
 // The store and the turns of a run, and memory that serves again.
 
+ghost use Rattle.std.specs.Prelude.{◌≡◌};
 ghost use Rattle.bc_interpret_steps.specs.Came.{Turned, Wrote};
 
 use crate::forms::Progress;
@@ -28,7 +29,8 @@ pub struct Stacks<'c> {
 #[inline(always)]
 #[tactic(auto, using(crate::proofs::Turns::turn_left, crate::proofs::Turns::no_turn_left))]
 pub(crate) fn turn(state: &mut State) -> bool
-    ensures { Turned result state.old state.new }
+    ensures turned { Turned result state.old state.new }
+    ensures store { state.new.store ≡ state.old.store }
 {
     if state.turns == 0 {
         return false;

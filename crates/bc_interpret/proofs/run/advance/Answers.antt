@@ -1,7 +1,7 @@
 use Rattle.std.proofs.Common.{sym, subst}
 use Rattle.bc_interpret.specs.declared.run.Run.{Run}
 use Rattle.bc_interpret.specs.Moving.{Advanced}
-use Rattle.bc_interpret.proofs.Moving.{step_is, on_advances, over_advances, served_advances, answered, ended, going, was_wild}
+use Rattle.bc_interpret.proofs.Moving.{step_is, on_advances, over_advances, served_advances, answered, ended, going, was_wild, was_met}
 use Rattle.bc_interpret.proofs.run.advance.Goals as goal
 
 pub returns-in-On : goal.returns-in-On
@@ -14,25 +14,26 @@ pub returns-in-Answered : goal.returns-in-Answered
 returns-in-Answered g c =
     let old = c.args.run.now in
     let s = step_is c.args.table.now c.args.work.now old.stacks.rests.items old.state c.step.new.stacks.rests.items c.step.new.state c.step.new.stacks.next _ c.in_ok-step.ensures c.in-Answered.is in
-    over_advances _ _ _ _ _ _ _ _ (λ e. cc) (λ program t n l. answered program n c.args.work.now old.stacks.rests.items old.state c.step.new.stacks.rests.items c.step.new.state (g.S.Streams.content c.args.streams.now) (s program t))
+    over_advances _ _ _ _ _ _ _ _ (λ e. cc) (λ program t n l. answered program n c.args.work.now old.stacks.rests.items old.state c.step.new.stacks.rests.items c.step.new.state (g.S.Streams.content c.args.streams.now) (s program t)) (λ program t. tt)
 
 pub returns-in-Ended : goal.returns-in-Ended
 returns-in-Ended g c =
     let old = c.args.run.now in
     let s = step_is c.args.table.now c.args.work.now old.stacks.rests.items old.state c.step.new.stacks.rests.items c.step.new.state c.step.new.stacks.next _ c.in_ok-step.ensures c.in-Ended.is in
-    over_advances _ _ _ _ _ _ _ _ (λ e. cc) (λ program t n l. ended program n c.args.work.now old.stacks.rests.items old.state c.in-Ended.ending c.step.new.stacks.rests.items c.step.new.state (g.S.Streams.content c.args.streams.now) (s program t) l)
+    over_advances _ _ _ _ _ _ _ _ (λ e. cc) (λ program t n l. ended program n c.args.work.now old.stacks.rests.items old.state c.in-Ended.ending c.step.new.stacks.rests.items c.step.new.state (g.S.Streams.content c.args.streams.now) (s program t) l) (λ program t. tt)
 
 pub returns-in-Going : goal.returns-in-Going
 returns-in-Going g c =
     let old = c.args.run.now in
     let s = step_is c.args.table.now c.args.work.now old.stacks.rests.items old.state c.step.new.stacks.rests.items c.step.new.state c.step.new.stacks.next _ c.in_ok-step.ensures c.in-Going.is in
-    over_advances _ _ _ _ _ _ _ _ (λ e. cc) (λ program t n l. going program n c.args.work.now old.stacks.rests.items old.state c.step.new.stacks.rests.items c.step.new.state (g.S.Streams.content c.args.streams.now) (s program t) l)
+    over_advances _ _ _ _ _ _ _ _ (λ e. cc) (λ program t n l. going program n c.args.work.now old.stacks.rests.items old.state c.step.new.stacks.rests.items c.step.new.state (g.S.Streams.content c.args.streams.now) (s program t) l) (λ program t. tt)
 
 pub returns-in-Wild : goal.returns-in-Wild
 returns-in-Wild g c =
     let old = c.args.run.now in
     let s = step_is c.args.table.now c.args.work.now old.stacks.rests.items old.state c.step.new.stacks.rests.items c.step.new.state c.step.new.stacks.next _ c.in_ok-step.ensures c.in-Wild.is in
     over_advances _ _ _ _ _ _ _ _ (λ e. cc) (λ program t n l. was_wild program n c.args.work.now old.stacks.rests.items old.state c.in-Wild.cause c.step.new.stacks.rests.items c.step.new.state (g.S.Streams.content c.args.streams.now) (s program t) l)
+    (λ program t. was_met program c.args.work.now old.stacks.rests.items old.state c.in-Wild.cause c.step.new.stacks.rests.items c.step.new.state (g.S.Streams.content c.args.streams.now) (s program t))
 
 pub returns-in_ok-served-in-Serve : goal.returns-in_ok-served-in-Serve
 returns-in_ok-served-in-Serve g c =

@@ -1,13 +1,14 @@
 use Rattle.std.proofs.Common.{refl, arith, subst, ◌∙◌}
 use Rattle.bc_machine.proofs.Failures.{rose_from}
-use Rattle.bc_interpret.specs.Moving.{Keeps, Lessened}
+use Rattle.bc_interpret.specs.Moving.{Keeps, Tracks, Lessened}
 use Rattle.bc_interpret.specs.declared.run.Moved.TheVariants.{On, Over}
-use Rattle.bc_interpret.proofs.Moving.{keeps_on}
+use Rattle.bc_interpret.proofs.Moving.{keeps_on, tracks_on}
 use Rattle.bc_interpret.proofs.run.stretch.Goals as goal
 
 pub loop-moved-init : goal.loop-moved-init
 loop-moved-init g c = record {
   keeps = λ known program t n l. refl;
+  tracks = λ known program t cause h. h;
   same = refl;
   kept = λ known. known;
   counted = omega arith;
@@ -21,6 +22,8 @@ returns-then-run-before g c =
     record {
       keeps = λ known. keeps_on c.args.table.now c.args.work c.loop-moved.now c.args.run.now c.loop-moved.run c.advance.new.run (g.S.Streams.content c.args.streams.now) (g.S.Streams.content c.loop-moved.streams) (g.S.Streams.content c.advance.new.streams) (On c.in-On.next) (i.keeps known) (omega (arith, same))
           (subst (λ m. Keeps c.args.table.now c.loop-moved.now c.loop-moved.run (g.S.Streams.content c.loop-moved.streams) m c.advance.new.run (g.S.Streams.content c.advance.new.streams)) c.in-On.is (h.keeps (i.kept known)));
+      tracks = λ known. tracks_on c.args.table.now c.args.work c.loop-moved.now c.args.run.now c.loop-moved.run c.advance.new.run (g.S.Streams.content c.args.streams.now) (g.S.Streams.content c.loop-moved.streams) (g.S.Streams.content c.advance.new.streams) (On c.in-On.next) (i.tracks known)
+          (subst (λ m. Tracks c.args.table.now c.loop-moved.now c.loop-moved.run (g.S.Streams.content c.loop-moved.streams) m c.advance.new.run (g.S.Streams.content c.advance.new.streams)) c.in-On.is (h.tracks (i.kept known)));
       turn = omega (arith, same, c.if-run-before.true);
       kept = λ known. h.kept (i.kept known);
       failed = λ e. absurd cc;
@@ -36,6 +39,8 @@ loop-moved-preserved g c =
     record {
       keeps = λ known. keeps_on c.args.table.now c.args.work c.loop-moved.now c.args.run.now c.loop-moved.run c.advance.new.run (g.S.Streams.content c.args.streams.now) (g.S.Streams.content c.loop-moved.streams) (g.S.Streams.content c.advance.new.streams) (On c.in-On.next) (i.keeps known) (omega (arith, same))
           (subst (λ m. Keeps c.args.table.now c.loop-moved.now c.loop-moved.run (g.S.Streams.content c.loop-moved.streams) m c.advance.new.run (g.S.Streams.content c.advance.new.streams)) c.in-On.is (h.keeps (i.kept known)));
+      tracks = λ known. tracks_on c.args.table.now c.args.work c.loop-moved.now c.args.run.now c.loop-moved.run c.advance.new.run (g.S.Streams.content c.args.streams.now) (g.S.Streams.content c.loop-moved.streams) (g.S.Streams.content c.advance.new.streams) (On c.in-On.next) (i.tracks known)
+          (subst (λ m. Tracks c.args.table.now c.loop-moved.now c.loop-moved.run (g.S.Streams.content c.loop-moved.streams) m c.advance.new.run (g.S.Streams.content c.advance.new.streams)) c.in-On.is (h.tracks (i.kept known)));
       same = omega (arith, same, less.0, c.if-run-before.false);
       kept = λ known. h.kept (i.kept known);
       counted = omega (arith, i.counted, h.counted);
@@ -54,6 +59,8 @@ returns-in-Over g c =
     record {
       keeps = λ known. keeps_on c.args.table.now c.args.work c.loop-moved.now c.args.run.now c.loop-moved.run c.advance.new.run (g.S.Streams.content c.args.streams.now) (g.S.Streams.content c.loop-moved.streams) (g.S.Streams.content c.advance.new.streams) (Over c.in-Over.outcome) (i.keeps known) (omega (arith, same))
           (subst (λ m. Keeps c.args.table.now c.loop-moved.now c.loop-moved.run (g.S.Streams.content c.loop-moved.streams) m c.advance.new.run (g.S.Streams.content c.advance.new.streams)) c.in-Over.is (h.keeps (i.kept known)));
+      tracks = λ known. tracks_on c.args.table.now c.args.work c.loop-moved.now c.args.run.now c.loop-moved.run c.advance.new.run (g.S.Streams.content c.args.streams.now) (g.S.Streams.content c.loop-moved.streams) (g.S.Streams.content c.advance.new.streams) (Over c.in-Over.outcome) (i.tracks known)
+          (subst (λ m. Tracks c.args.table.now c.loop-moved.now c.loop-moved.run (g.S.Streams.content c.loop-moved.streams) m c.advance.new.run (g.S.Streams.content c.advance.new.streams)) c.in-Over.is (h.tracks (i.kept known)));
       turn = tt;
       kept = λ known. h.kept (i.kept known);
       failed = λ e. rose_from _ _ _ i.counted h.counted (h.failed (c.in-Over.is ∙ e));

@@ -1,13 +1,14 @@
 use Rattle.std.proofs.Common.{refl, arith, subst, ap, ◌∙◌}
 use Rattle.bc_machine.proofs.Failures.{rose_from}
-use Rattle.bc_interpret.specs.Moving.{Keeps}
+use Rattle.bc_interpret.specs.Moving.{Keeps, Tracks}
 use Rattle.bc_interpret.specs.declared.run.Moved.TheVariants.{On, Over}
-use Rattle.bc_interpret.proofs.Moving.{keeps_on, turn_taken}
+use Rattle.bc_interpret.proofs.Moving.{keeps_on, tracks_on, turn_taken}
 use Rattle.bc_interpret.proofs.run.to_end.Goals as goal
 
 pub loop-moved-init : goal.loop-moved-init
 loop-moved-init g c = record {
   keeps = λ known program t n l. refl;
+  tracks = λ known program t cause h. h;
   fewer = omega arith;
   kept = λ known. known;
   counted = omega arith;
@@ -22,6 +23,8 @@ loop-moved-preserved g c =
     record {
       keeps = λ known. keeps_on c.args.table.now c.args.work c.loop-moved.now c.args.run.now c.loop-moved.run c.stretch.new.run (g.S.Streams.content c.args.streams.now) (g.S.Streams.content c.loop-moved.streams) (g.S.Streams.content c.stretch.new.streams) (On c.in-On.next) (i.keeps known) fewer
           (subst (λ m. Keeps c.args.table.now c.loop-moved.now c.loop-moved.run (g.S.Streams.content c.loop-moved.streams) m c.stretch.new.run (g.S.Streams.content c.stretch.new.streams)) c.in-On.is (h.keeps (i.kept known)));
+      tracks = λ known. tracks_on c.args.table.now c.args.work c.loop-moved.now c.args.run.now c.loop-moved.run c.stretch.new.run (g.S.Streams.content c.args.streams.now) (g.S.Streams.content c.loop-moved.streams) (g.S.Streams.content c.stretch.new.streams) (On c.in-On.next) (i.tracks known)
+          (subst (λ m. Tracks c.args.table.now c.loop-moved.now c.loop-moved.run (g.S.Streams.content c.loop-moved.streams) m c.stretch.new.run (g.S.Streams.content c.stretch.new.streams)) c.in-On.is (h.tracks (i.kept known)));
       fewer = omega (arith, fewer, less);
       kept = λ known. h.kept (i.kept known);
       counted = omega (arith, i.counted, h.counted);
@@ -37,6 +40,8 @@ returns-in-Over g c =
     record {
       means = λ known. keeps_on c.args.table.now c.args.work c.loop-moved.now c.args.run.now c.loop-moved.run c.stretch.new.run (g.S.Streams.content c.args.streams.now) (g.S.Streams.content c.loop-moved.streams) (g.S.Streams.content c.stretch.new.streams) (Over c.in-Over.outcome) (i.keeps known) i.fewer
           (subst (λ m. Keeps c.args.table.now c.loop-moved.now c.loop-moved.run (g.S.Streams.content c.loop-moved.streams) m c.stretch.new.run (g.S.Streams.content c.stretch.new.streams)) c.in-Over.is (h.keeps (i.kept known)));
+      names = λ known. tracks_on c.args.table.now c.args.work c.loop-moved.now c.args.run.now c.loop-moved.run c.stretch.new.run (g.S.Streams.content c.args.streams.now) (g.S.Streams.content c.loop-moved.streams) (g.S.Streams.content c.stretch.new.streams) (Over c.in-Over.outcome) (i.tracks known)
+          (subst (λ m. Tracks c.args.table.now c.loop-moved.now c.loop-moved.run (g.S.Streams.content c.loop-moved.streams) m c.stretch.new.run (g.S.Streams.content c.stretch.new.streams)) c.in-Over.is (h.tracks (i.kept known)));
       kept = λ known. h.kept (i.kept known);
       failed = λ e. rose_from _ _ _ i.counted h.counted (h.failed (c.in-Over.is ∙ ap Over e));
       counted = omega (arith, i.counted, h.counted);

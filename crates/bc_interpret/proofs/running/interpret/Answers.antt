@@ -4,7 +4,7 @@ use Rattle.bc_core.specs.View.{section}
 use Rattle.bc_interpret_steps.specs.Sections.{program_of}
 use Rattle.bc_interpret.specs.Interpreted.{map_of}
 use Rattle.bc_interpret.specs.Placing.{addresses_of, label_addresses}
-use Rattle.bc_interpret.proofs.Meanings.{meaning_is}
+use Rattle.bc_interpret.proofs.Meanings.{meaning_is, names_is}
 use Rattle.bc_interpret.proofs.running.interpret.Goals as goal
 
 pub returns : goal.returns
@@ -21,6 +21,8 @@ returns g c =
     record {
       means = λ known. meaning_is (program_of c.as_slice-3.result.now) cores (map_of image) c.get-stack_base.result c.args.turns (g.S.Streams.content c.args.streams.now)
           (g.S.Streams.content c.run_sections.new.streams) c.in_ok-interpreted.interpreted.outcome e c.get-stack_base.ensures.same (h.means known);
+      names = λ known. names_is (program_of c.as_slice-3.result.now) cores (map_of image) c.get-stack_base.result c.args.turns (g.S.Streams.content c.args.streams.now)
+          c.in_ok-interpreted.interpreted.outcome e c.get-stack_base.ensures.same (h.names known);
       kept = h.kept;
       failed = h.failed;
       counted = h.counted;

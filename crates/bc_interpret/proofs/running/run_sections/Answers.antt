@@ -3,7 +3,7 @@ use Rattle.bc_interpret_defs.specs.Machine as machine
 use Rattle.bc_interpret_steps.specs.Code.{stack}
 use Rattle.bc_interpret_steps.specs.Sections.{program_of, IsTable}
 use Rattle.bc_interpret.specs.Starting.{IsStart}
-use Rattle.bc_interpret.proofs.Meanings.{run_means}
+use Rattle.bc_interpret.proofs.Meanings.{run_means, run_names}
 use Rattle.bc_interpret.proofs.running.run_sections.Goals as goal
 
 pub to_end-requires : goal.to_end-requires
@@ -25,6 +25,8 @@ returns g c =
     record {
       means = λ known. run_means program base c.args.turns c.put-2.new.rests.items st (g.S.Streams.content c.args.streams.now) (g.S.Streams.content c.to_end.new.streams) c.in_ok-outcome.outcome
           store c.run_over-run.ensures.turns rests (h.means known program t (suc st.turns) l);
+      names = λ known. run_names program base c.args.turns c.put-2.new.rests.items st (g.S.Streams.content c.args.streams.now) c.in_ok-outcome.outcome
+          store c.run_over-run.ensures.turns rests (h.names known program t);
       kept = h.kept;
       failed = h.failed;
       counted = h.counted;

@@ -28,7 +28,7 @@ returns-in-Some g c = λ f e.
     let name = c.string.new.name.items in
     let named = subst (λ fault. GetsName (string_of c.in-Ok.address) st fault name) c.in-Some.is c.in_ok-fault-in-Ok.ensures in
     record {
-      exact = λ known. not_found st c.args.side c.args.argument f c.in-Ok.address name c.in-Some.cause e c.in-Ok.ensures named (g.S.Streams.content c.args.streams.now);
+      exact = λ known. (not_found st c.args.side c.args.argument f c.in-Ok.address name c.in-Some.cause e c.in-Ok.ensures named (g.S.Streams.content c.args.streams.now), named.1);
       numbers = tt;
       kept = λ known. known;
       failed = λ x. absurd cc;
@@ -37,7 +37,7 @@ returns-in-Some g c = λ f e.
 
 pub returns-in-Err : goal.returns-in-Err
 returns-in-Err g c = λ f e. record {
-  exact = λ known. not_read c.args.state.now c.args.argument f c.in-Err.cause (λ x. then_do (string_of x) (λ bytes s. Done (find_stream c.args.side bytes s.streams) s)) e c.in-Err.ensures (g.S.Streams.content c.args.streams.now);
+  exact = λ known. (not_read c.args.state.now c.args.argument f c.in-Err.cause (λ x. then_do (string_of x) (λ bytes s. Done (find_stream c.args.side bytes s.streams) s)) e c.in-Err.ensures (g.S.Streams.content c.args.streams.now), c.in-Err.ensures.1);
   numbers = tt;
   kept = λ known. known;
   failed = λ x. absurd cc;

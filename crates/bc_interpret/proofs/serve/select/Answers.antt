@@ -23,7 +23,7 @@ returns-in-Ok g c = λ f e.
 
 pub returns-in-Err : goal.returns-in-Err
 returns-in-Err g c = λ f e. record {
-  exact = λ known. not_read c.args.state.now c.args.argument f c.in-Err.cause (λ m. on_streams (select_stream c.args.side m) 0) e c.in-Err.ensures (g.S.Streams.content c.args.streams.now);
+  exact = λ known. (not_read c.args.state.now c.args.argument f c.in-Err.cause (λ m. on_streams (select_stream c.args.side m) 0) e c.in-Err.ensures (g.S.Streams.content c.args.streams.now), c.in-Err.ensures.1);
   numbers = tt;
   kept = λ known. known;
   failed = λ x. absurd cc;

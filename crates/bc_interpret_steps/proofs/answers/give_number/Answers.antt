@@ -1,7 +1,7 @@
 use Rattle.std.proofs.Common.{Some, subst}
 use Rattle.bc_interpret_defs.specs.Machine as machine
 use Rattle.bc_interpret_steps.specs.Code.{number_rest, value_rest, given_for, stack, given, Taken}
-use Rattle.bc_interpret_steps.proofs.Handing.{handed}
+use Rattle.bc_interpret_steps.proofs.Handing.{handed, landed}
 use Rattle.bc_interpret_steps.proofs.answers.give_number.Goals as goal
 
 pub returns-in_ok-number_taken-in-Some-Number : goal.returns-in_ok-number_taken-in-Some-Number
@@ -24,5 +24,5 @@ returns-in_ok-arrive-in-Some-Calls c program table =
     let middle = c.take.new.self.rests.items in
     let after = c.arrive.new.stacks.rests.items in
     let t = c.in-Some-Calls in
-    handed program (machine.Number c.args.v) (stack c.args.stacks.now.rests.items) (machine.Calls (given_for t.fresh (given middle)) t.frame) (stack middle) c.args.state.now
+    landed program c.args.v (given_for t.fresh (given middle)) t.frame (stack c.args.stacks.now.rests.items) (stack middle) c.args.state.now
     c.arrive.new.stacks.next (stack after) (given after) c.arrive.new.state (subst (λ r. Taken (Some r) c.args.stacks.now.rests.items middle) c.in-Some-Calls.field-0-is t.ensures) (c.in_ok-arrive-in-Some-Calls.ensures program table)

@@ -15,4 +15,5 @@ returns-in-Some-2 c =
     let a = exp c.args.address.now in
     let first = told_worth (sight st E) v c.in_ok-worth_at.field-0 c.in-Some.word c.in_ok-worth_at.ensures cc in
     let second = told_worth (sight st E) a c.in_ok-worth_at-in-Some.field-0 c.in-Some-2.place c.in_ok-worth_at-in-Some.ensures cc in
-    (neither _ _ first.0 second.0, assigned_at_once st E v a c.in-Some.word c.in-Some-2.place c.both_assigned.result c.both_assigned.new.state first.0 second.0 first.1 second.1 c.both_assigned.ensures)
+    let done = assigned_at_once st E v a c.in-Some.word c.in-Some-2.place c.both_assigned.result c.both_assigned.new.state first.0 second.0 first.1 second.1 c.both_assigned.ensures in
+    (neither _ _ first.0 second.0, done.0, done.1)

@@ -8,13 +8,13 @@ pub returns-then-number-spot : goal.returns-then-number-spot
 returns-then-number-spot c st =
     let E = c.args.spot in
     let address : ℕ → ℕ = λ l. slice_index_or E.section.now.addresses.now l 0 in
-    (λ streams. ap (λ r. r (state_of st streams)) (none_before address E.frame E.first E.section.now.valofs.now c.args.number c.args.s (stack c.args.stacks.now.rests.items) c.if-number-spot.true))
+    (λ any. ap (λ r. r any) (none_before address E.frame E.first E.section.now.valofs.now c.args.number c.args.s (stack c.args.stacks.now.rests.items) c.if-number-spot.true))
 
 pub returns-then-index-spot : goal.returns-then-index-spot
 returns-then-index-spot c st =
     let E = c.args.spot in
     let address : ℕ → ℕ = λ l. slice_index_or E.section.now.addresses.now l 0 in
-    (λ streams. ap (λ r. r (state_of st streams)) (none_behind address E.frame E.first E.section.now.valofs.now c.args.number c.args.s (stack c.args.stacks.now.rests.items) c.if-number-spot.false c.if-index-spot.true))
+    (λ any. ap (λ r. r any) (none_behind address E.frame E.first E.section.now.valofs.now c.args.number c.args.s (stack c.args.stacks.now.rests.items) c.if-number-spot.false c.if-index-spot.true))
 
 pub returns : goal.returns
 returns c st =

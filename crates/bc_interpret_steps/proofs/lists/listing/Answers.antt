@@ -12,10 +12,11 @@ loop-left-preserved c =
     record {
       kept = λ rs streams. i.kept rs streams ∙ on.1 rs streams;
       rests = on.0 ∙ i.rests;
+      stood = λ cause h. i.stood cause (on.2 cause h);
     }
 
 pub returns-in-Over : goal.returns-in-Over
 returns-in-Over c =
     let i = c.loop-left.invariant in
     listed_over (spot_of c.args.spot) c.args.s c.args.items.now c.loop-left.left.now (take (length c.loop-left.left.now - 1) (drop 1 c.loop-left.left.now)) c.first-item.result c.args.entry c.loop-left.at c.args.stacks.now.rests.items c.loop-left.stacks.rests.items c.list_item.new.stacks.rests.items c.args.state.now c.loop-left.state c.list_item.new.state c.in_ok-along.along c.list_item.new.stacks.next
-    c.in_ok-along.ensures c.in-Over.is (first_of (search (rules, apart), grind (arith, common_steps, apart))) i.rests i.kept
+    c.in_ok-along.ensures c.in-Over.is (first_of (search (rules, apart), grind (arith, common_steps, apart))) i.rests i.stood i.kept

@@ -3,6 +3,7 @@ use Rattle.bc_machine_defs.specs.Streams.{Content}
 use Rattle.bc_core.specs.View.{items}
 use Rattle.bc_interpret_defs.specs.Machine as machine
 use Rattle.bc_interpret_defs.specs.Machine.{list_step}
+use Rattle.bc_interpret_defs.specs.Causes.{Stood}
 use Rattle.bc_interpret_steps.specs.Code.{spot_of, entry_of}
 use Rattle.bc_interpret_steps.specs.Came.{state_of}
 use Rattle.bc_interpret_steps.proofs.lists.listing.Given as goal
@@ -11,6 +12,7 @@ abbrev pub invariant-loop-left : goal.invariant-loop-left
 invariant-loop-left l = record {
   kept : (rs : List machine.Rest) (streams : Content) → list_step (spot_of l.spot) (items l.fn.items) l.s (entry_of l.fn.entry) rs (state_of l.fn.state streams) ≡ list_step (spot_of l.spot) (items l.left) l.s (entry_of l.at) rs (state_of l.state streams);
   rests : l.stacks.rests.items ≡ l.fn.stacks.rests.items;
+  stood : Stood l.fn.state.store l.state.store;
 }
 
 abbrev pub decreases-loop-left : goal.decreases-loop-left

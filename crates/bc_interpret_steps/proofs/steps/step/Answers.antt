@@ -2,7 +2,7 @@ use Rattle.std.proofs.Common.{sym, subst}
 use Rattle.bc_interpret_steps.specs.declared.forms.Work.TheVariants as works
 use Rattle.bc_interpret_steps.specs.Code.{work_of, stack, given}
 use Rattle.bc_interpret_steps.specs.Stepped.{Stepped}
-use Rattle.bc_interpret_steps.proofs.Handing.{stepped}
+use Rattle.bc_interpret_steps.proofs.Handing.{stepped, stepped_loosely}
 use Rattle.bc_interpret_steps.proofs.steps.step.Goals as goal
 
 pub returns-in_ok-evaluate-in-Evaluate : goal.returns-in_ok-evaluate-in-Evaluate
@@ -13,7 +13,7 @@ returns-in_ok-evaluate-in-Evaluate c program table =
     let after = c.evaluate.new.stacks.rests.items in
     let p = c.evaluate.new.stacks.next in
     subst (λ w. Stepped program (work_of vs w) rs c.args.state.now p (stack after) (given after) c.args.state.now) (sym t.is)
-    (stepped program (work_of vs (works.Evaluate t.spot t.e t.s)) rs c.args.state.now p (stack after) (given after) c.args.state.now tt c.in_ok-evaluate-in-Evaluate.ensures)
+    (stepped_loosely program (work_of vs (works.Evaluate t.spot t.e t.s)) rs c.args.state.now p (stack after) (given after) c.args.state.now tt c.in_ok-evaluate-in-Evaluate.ensures)
 
 pub returns-in_ok-decide-in-Decide : goal.returns-in_ok-decide-in-Decide
 returns-in_ok-decide-in-Decide c program table =
@@ -53,7 +53,7 @@ returns-in_ok-perform-in-Perform c program table =
     let after = c.perform.new.stacks.rests.items in
     let p = c.perform.new.stacks.next in
     subst (λ w. Stepped program (work_of vs w) rs c.args.state.now p (stack after) (given after) c.perform.new.state) (sym t.is)
-    (stepped program (work_of vs (works.Perform t.spot t.command t.s)) rs c.args.state.now p (stack after) (given after) c.perform.new.state tt c.in_ok-perform-in-Perform.ensures)
+    (stepped_loosely program (work_of vs (works.Perform t.spot t.command t.s)) rs c.args.state.now p (stack after) (given after) c.perform.new.state tt c.in_ok-perform-in-Perform.ensures)
 
 pub returns-in_ok-while_loop-in-While : goal.returns-in_ok-while_loop-in-While
 returns-in_ok-while_loop-in-While c program table =
