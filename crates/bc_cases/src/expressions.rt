@@ -75,6 +75,12 @@ fn part(alloc: Global, done: &mut Vec<CoreExp>, first: usize) -> Result<Box<Core
     boxed(alloc, taken(done, first))
 }
 
+/// Puts an expression in place of those that were finished behind so many.
+fn put(done: &mut Vec<CoreExp>, first: usize, e: CoreExp) -> Result<(), Memory> {
+    done.truncate(first);
+    pushed(done, e)
+}
+
 /// The content of the last expression.
 fn load_once(alloc: Global, done: &mut Vec<CoreExp>) -> Result<(), Memory> {
     let e = part(alloc, done, 0)?;
@@ -90,39 +96,41 @@ fn load(alloc: Global, done: &mut Vec<CoreExp>, loads: usize) -> Result<(), Memo
 }
 
 /// A call of the first part with the others.
-fn call(alloc: Global, done: &mut Vec<CoreExp>, first: usize) -> Result<CoreExp, Memory> {
+fn call(alloc: Global, done: &mut Vec<CoreExp>, first: usize) -> Result<(), Memory> {
     let arguments = behind(done, first.saturating_add(1))?;
     let routine = part(alloc, done, first)?;
-    Ok(CoreExp::Call(arguments, routine))
+    put(done, first, CoreExp::Call(arguments, routine))
 }
 
 /// The negation of the last part.
-fn negation(alloc: Global, done: &mut Vec<CoreExp>, first: usize) -> Result<CoreExp, Memory> {
-    Ok(CoreExp::Neg(part(alloc, done, first)?))
+fn negation(alloc: Global, done: &mut Vec<CoreExp>, first: usize) -> Result<(), Memory> {
+    let e = part(alloc, done, first)?;
+    put(done, first, CoreExp::Neg(e))
 }
 
 /// NOT of the last part.
-fn opposite(alloc: Global, done: &mut Vec<CoreExp>, first: usize) -> Result<CoreExp, Memory> {
-    Ok(CoreExp::Not(part(alloc, done, first)?))
+fn opposite(alloc: Global, done: &mut Vec<CoreExp>, first: usize) -> Result<(), Memory> {
+    let e = part(alloc, done, first)?;
+    put(done, first, CoreExp::Not(e))
 }
 
 /// An operator with the last two parts.
-fn dyadic(alloc: Global, done: &mut Vec<CoreExp>, first: usize, op: Op) -> Result<CoreExp, Memory> {
+fn dyadic(alloc: Global, done: &mut Vec<CoreExp>, first: usize, op: Op) -> Result<(), Memory> {
     let right = part(alloc, done, first)?;
     let left = part(alloc, done, first)?;
-    Ok(CoreExp::Bin(op, left, right))
+    put(done, first, CoreExp::Bin(op, left, right))
 }
 
 /// A condition of the last three parts.
-fn condition(alloc: Global, done: &mut Vec<CoreExp>, first: usize) -> Result<CoreExp, Memory> {
+fn condition(alloc: Global, done: &mut Vec<CoreExp>, first: usize) -> Result<(), Memory> {
     let that = part(alloc, done, first)?;
     let this = part(alloc, done, first)?;
     let condition = part(alloc, done, first)?;
-    Ok(CoreExp::Cond(condition, this, that))
+    put(done, first, CoreExp::Cond(condition, this, that))
 }
 
-/// What a bracket makes.
-fn made(alloc: Global, done: &mut Vec<CoreExp>, open: Open) -> Result<CoreExp, Memory> {
+/// Puts what a bracket makes in place of what was finished in it.
+fn make(alloc: Global, done: &mut Vec<CoreExp>, open: Open) -> Result<(), Memory> {
     match open.head {
         Head::Call => call(alloc, done, open.first),
         Head::Neg => negation(alloc, done, open.first),
@@ -132,16 +140,9 @@ fn made(alloc: Global, done: &mut Vec<CoreExp>, open: Open) -> Result<CoreExp, M
     }
 }
 
-/// Puts what a bracket makes in place of what was finished in it.
-fn join(alloc: Global, done: &mut Vec<CoreExp>, open: Open) -> Result<(), Memory> {
-    let e = made(alloc, done, open)?;
-    done.truncate(open.first);
-    pushed(done, e)
-}
-
 /// Closes this bracket.
 fn finish(alloc: Global, done: &mut Vec<CoreExp>, open: Open) -> Result<(), Memory> {
-    join(alloc, done, open)?;
+    make(alloc, done, open)?;
     load(alloc, done, open.loads)
 }
 
