@@ -7,8 +7,10 @@ use std::alloc::Global;
 /// What `generate` answers to sources that make it take memory in each of its ways: whether all is given, or None
 /// where an answer is neither that nor want of memory.
 fn grown(alloc: Global) -> Option<bool> {
-    let text: &[u8] =
-        b"GLOBAL $( START:1; G:100 $); STATIC $( S = 7 $); LET F(A) = A -> G, S; LET START() BE $( LET V = VEC 3; L: FOR I = 1 TO 3 DO F(I, \"AB\", TABLE 1, 2); SWITCHON G INTO $( CASE 1: G!1 := VALOF $( M: RESULTIS 7; GOTO M $); DEFAULT: ENDCASE $); TEST G THEN V!G := 1 OR GOTO L; LOOP REPEATWHILE G $)";
+    let text: &[u8] = b"GLOBAL $( START:1; G:100 $); STATIC $( S = 7 $); LET F(A) = A -> G, S; \
+          LET START() BE $( LET V = VEC 3; L: FOR I = 1 TO 3 DO F(I, \"AB\", TABLE 1, 2); \
+          SWITCHON G INTO $( CASE 1: G!1 := VALOF $( M: RESULTIS 7; GOTO M $); DEFAULT: ENDCASE $); \
+          TEST G THEN V!G := 1 OR GOTO L; LOOP REPEATWHILE G $)";
     let source = Source {
         name: b"main",
         text,

@@ -1,9 +1,10 @@
 -- For proofs: the store as a run begins.
-use Rattle.std.specs.Prelude.{ℕ, ◌≡◌, Bool, cond, List, ◌++◌, Option, Some, None}
+use Rattle.std.specs.Prelude.{ℕ, ◌≡◌, ◌<◌, ◌≤◌, Bool, cond, List, ◌++◌, length, slice_get, Option, Some, None}
 use Rattle.bc_core.specs.Commands.{Place}
 use Rattle.bc_core.specs.Map.{Placed, Standing, standing, standing_from, held_by}
 use Rattle.bc_core.specs.Start.{sets, setting, data_word, start_cells, or_else}
-use Rattle.bc_core.specs.Store.{Cell}
+use Rattle.bc_core.specs.Store.{Cell, Dead, cell_at}
+use Rattle.bc_core.specs.Words.{data_words}
 
 -- of the places of a section this word stands at the address, or none of them
 abbrev pub HasData : Placed → ℕ → Option ℕ → Type 0
@@ -16,6 +17,19 @@ HasSetting s n found = (rest : List Standing) → setting (standing_from s.addre
 -- a place sets the global where it is told
 abbrev pub Sets : Place → ℕ → Bool → Type 0
 Sets place n told = (address : ℕ) → sets (held_by place) address n ≡ cond told (Some address) None
+
+-- from this index on a place has no word
+abbrev pub EndsBy : Place → ℕ → Type 0
+EndsBy p n = (k : ℕ) → n ≤ k → slice_get (data_words p) k ≡ None
+
+-- cells that mark addresses by being live: those that aren't live weren't before, and this holds of them
+pub record Marks (Unmarked : ℕ → Type 0) (old new : List Cell) : Type 0 where
+  pub size : length new ≡ length old
+  pub rest : (a : ℕ) → a < length old → cell_at new a ≡ Dead → (cell_at old a ≡ Dead) × Unmarked a
+
+-- where no place of the program has a word, as far as no cell of these is live
+abbrev pub CoversData : List Placed → List Cell → Type 0
+CoversData program marks = (a : ℕ) → a < 65536 → cell_at marks a ≡ Dead → data_word (standing program) a ≡ None
 
 -- these are the cells as the run of the program begins
 unfoldable pub IsStart : List Placed → List Cell → Type 0

@@ -1,6 +1,6 @@
 // The store as a run begins.
 
-ghost use Rattle.std.specs.Prelude.{◌≡◌, ◌+◌, ◌*◌, ◌∷◌, length, map, slice_get, slice_index, IfOk};
+ghost use Rattle.std.specs.Prelude.{◌≡◌, ◌+◌, ◌*◌, ◌∷◌, length, map, None, slice_get, slice_index, IfOk, OnOk};
 ghost use Rattle.bc_core.specs.View.{place_of};
 ghost use Rattle.bc_core.specs.Words.{string_words, data_words};
 ghost use Rattle.bc_core.specs.Map.{standing, held_by};
@@ -9,7 +9,7 @@ ghost use Rattle.bc_core.specs.Start.{global_cell, setting, data_word, start_cel
 ghost use Rattle.bc_core.specs.Store.{Set};
 ghost use Rattle.bc_interpret_store.specs.Cells.{cell_view};
 ghost use Rattle.bc_interpret_steps.specs.Sections.{placed_of, program_of};
-ghost use Rattle.bc_interpret.specs.Starting.{HasData, HasSetting, Sets, IsStart};
+ghost use Rattle.bc_interpret.specs.Starting.{HasData, HasSetting, Sets, IsStart, EndsBy, Marks, CoversData};
 
 use crate::table::{address_of, label_behind};
 use bc_core::Place;
@@ -127,6 +127,80 @@ fn data_at(sections: &[Section<'_>], address: u16) -> Result<Option<u16>, Memory
     Ok(None)
 }
 
+/// How many words a place has at the most.
+#[tactic(auto, using(crate::proofs::Starting::table_ends, crate::proofs::Starting::static_ends))]
+fn words_of(place: &Place) -> usize
+    ensures { EndsBy (place_of place.now) result }
+{
+    match place {
+        Place::Routine(_) => 0,
+        Place::Static(_) => 1,
+        Place::Table(words) => words.len(),
+        Place::Text(bytes) => bytes.len() / 2 + 1,
+    }
+}
+
+/// Cells of which none is live, one for each address.
+///
+/// `Memory` comes where an allocation was refused.
+fn no_marks(alloc: Global) -> Result<Store, Memory>
+    ensures { IfOk result (λ marks. length marks ≡ 65536) }
+{
+    let mut cells = Vec::new(alloc);
+    cells.resize(65536, Cell::Dead)?;
+    Ok(Store::new(cells))
+}
+
+/// Marks the addresses at which places of a section have words.
+///
+/// `Memory` comes where no number is so great, which no label is.
+#[tactic(auto, using(crate::proofs::Starting::marks_begin, crate::proofs::Starting::marks_more))]
+fn mark_section(section: &Section<'_>, marks: &mut Store) -> Result<(), Memory>
+    ensures { OnOk result (Marks (λ a. HasData (placed_of section.now) a None) marks.old marks.new) }
+{
+    let mut label = 1;
+    let mut left = section.places;
+    while let Some((place, behind)) = left.split_first() {
+        let from = usize::from(address_of(section, label));
+        marks.open(words_of(place), from);
+        label = label_behind(label)?;
+        left = behind;
+    }
+    Ok(())
+}
+
+/// Marks the addresses at which places have words.
+///
+/// `Memory` comes where no number is so great, which no label is.
+#[tactic(auto, using(crate::proofs::Starting::marks_begin, crate::proofs::Starting::marks_behind))]
+fn mark_data(sections: &[Section<'_>], marks: &mut Store) -> Result<(), Memory>
+    ensures { OnOk result (Marks (λ a. data_word (standing (program_of sections.now)) a ≡ None) marks.old marks.new) }
+{
+    let mut left = sections;
+    while let [section, behind @ ..] = left {
+        mark_section(section, marks)?;
+        left = behind;
+    }
+    Ok(())
+}
+
+/// The word at this address of the first place that has one there: sought only where the address is marked, since most aren't.
+///
+/// `Memory` comes where no word is so great, which none of a section is.
+fn data_where_marked(
+    sections: &[Section<'_>],
+    marks: &Store,
+    address: u16,
+) -> Result<Option<u16>, Memory>
+    requires { CoversData (program_of sections.now) marks.now }
+    ensures { IfOk result (λ word. word ≡ data_word (standing (program_of sections.now)) address) }
+{
+    match marks.at(address) {
+        Cell::Dead => Ok(None),
+        Cell::Unset | Cell::Set(_) => Ok(data_at(sections, address)?),
+    }
+}
+
 /// Whether a place is a routine that sets this global.
 fn is_setting(place: &Place, global: u16) -> bool
     ensures { Sets (place_of place.now) global result }
@@ -192,7 +266,8 @@ fn setting_of(sections: &[Section<'_>], global: u16) -> Result<Option<u16>, Memo
 /// The cell at this address as the run begins.
 ///
 /// `Memory` comes where no word is so great, which none of a section is.
-fn start_cell(sections: &[Section<'_>], address: u16) -> Result<Cell, Memory>
+fn start_cell(sections: &[Section<'_>], marks: &Store, address: u16) -> Result<Cell, Memory>
+    requires { CoversData (program_of sections.now) marks.now }
     ensures { IfOk result (λ cell. cell_view cell ≡ cell_at_start (standing (program_of sections.now)) address) }
 {
     if address >= 8 && address < 520 {
@@ -201,7 +276,7 @@ fn start_cell(sections: &[Section<'_>], address: u16) -> Result<Cell, Memory>
             None => Ok(Cell::Set(0)),
         };
     }
-    match data_at(sections, address)? {
+    match data_where_marked(sections, marks, address)? {
         Some(word) => Ok(Cell::Set(word)),
         None => Ok(Cell::Dead),
     }
@@ -219,13 +294,19 @@ fn address_of_number(number: u32) -> Result<u16, Memory>
 /// The cells of so many addresses from 0 on as the run of these sections begins.
 ///
 /// `Memory` comes where an allocation was refused.
-fn start_cells(alloc: Global, sections: &[Section<'_>], count: u32) -> Result<Vec<Cell>, Memory>
+fn start_cells(
+    alloc: Global,
+    sections: &[Section<'_>],
+    marks: &Store,
+    count: u32,
+) -> Result<Vec<Cell>, Memory>
+    requires { CoversData (program_of sections.now) marks.now }
     ensures { IfOk result (λ cells. map cell_view cells.items ≡ cells_from count 0 (standing (program_of sections.now))) }
 {
     let mut cells = Vec::with_capacity(alloc, count as usize)?;
     for number in 0..count {
         let address = address_of_number(number)?;
-        let cell = start_cell(sections, address)?;
+        let cell = start_cell(sections, marks, address)?;
         cells.push(cell)?;
     }
     Ok(cells)
@@ -237,6 +318,8 @@ fn start_cells(alloc: Global, sections: &[Section<'_>], count: u32) -> Result<Ve
 pub(crate) fn start_store(alloc: Global, sections: &[Section<'_>]) -> Result<Store, Memory>
     ensures { IfOk result (λ store. IsStart (program_of sections.now) store) }
 {
-    let cells = start_cells(alloc, sections, 65536)?;
+    let mut marks = no_marks(alloc)?;
+    mark_data(sections, &mut marks)?;
+    let cells = start_cells(alloc, sections, &marks, 65536)?;
     Ok(Store::new(cells))
 }

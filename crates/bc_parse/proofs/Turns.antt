@@ -1,7 +1,15 @@
 -- The turns of the parser's loops.
-use Rattle.std.proofs.Common.{◌≡◌, ℕ, suc, ◌-◌, ◌+◌, ◌<◌, ◌≤◌, Bool, true, false, length, Result, Ok, Err, refl, sym, ◌∙◌, arith}
-use Rattle.bc_parse_defs.specs.Reading.{Fault, Expected, ◌>>=◌, Piece, turns}
-use Rattle.bc_parse.specs.Seen.{Fails}
+use Rattle.std.proofs.Common.{◌≡◌, ℕ, suc, ◌-◌, ◌+◌, ◌<◌, ◌≤◌, Bool, true, false, List, length, max, None, Result, Ok, Err, refl, sym, ap, subst, ◌∙◌, arith}
+use Rattle.std.proofs.lemmas.Bool.{lt-ltb}
+use Rattle.bc_lex_tokens.specs.declared.symbol.Symbol.TheVariants as sign
+use Rattle.bc_parse_tree.specs.Parts.{Part}
+use Rattle.bc_parse_tree.specs.Tree.{Command, Exp}
+use Rattle.bc_parse_tree.specs.Tree as tree
+use Rattle.bc_parse_defs.specs.Reading.{Fault, Expected, ◌>>=◌, Piece, piece, Reader, Choice, expect_of, suffix_read, with_choice, turns, word_in, repeat_word_of, repeat_turn, repeats_read}
+use Rattle.bc_parse.specs.Seen.{Fails, Takes, read_view, turn_view, turn_height}
+use Rattle.bc_parse.specs.declared.read.Read.{Read}
+use Rattle.bc_parse.specs.declared.read.Turn.{Turn}
+use Rattle.bc_parse.specs.declared.read.Turn.TheVariants as turn
 use Rattle.bc_parse.specs.declared.fault.ReadFault.{ReadFault}
 use Rattle.bc_parse.specs.declared.fault.ReadFault.TheVariants as faults
 
@@ -13,6 +21,13 @@ module _ {X : Type 0} (step : Piece X → Result (Piece X × Bool) Fault) (n i :
   pub turns_done : (t : Piece X) (last : Bool) → i < n → step s ≡ Ok (t, last) → last ≡ true → total ≡ Ok t
   unfolding turns
   turns_done t last lt is is_last = let k : n - i ≡ suc (n - (i + 1)) = omega arith in sym so_far ∙ rw (k, is, is_last) refl
+
+  -- the same of a turn as the code answers it
+  pub turns_more : {T : Type 0} (view : T → X) (v : Turn T) (r : Read T) → i < n → Takes view (Ok v) (step s) → v ≡ turn.More r → turns step (n - (i + 1)) (read_view view r) ≡ total
+  turns_more view v r lt took is = turns_next (read_view view r) false lt (took ∙ ap (λ (w : Turn _). Ok (turn_view view w)) is) refl
+
+  pub turns_last : {T : Type 0} (view : T → X) (v : Turn T) (r : Read T) → i < n → Takes view (Ok v) (step s) → v ≡ turn.Last r → total ≡ Ok (read_view view r)
+  turns_last view v r lt took is = turns_done (read_view view r) true lt (took ∙ ap (λ (w : Turn _). Ok (turn_view view w)) is) refl
 
   pub turns_fails : (error : ReadFault) → i < n → Fails error (step s) → Fails error total
   unfolding turns
@@ -28,3 +43,28 @@ pub fails_then : {X Y : Type 0} (error : ReadFault) (r : Result X Fault) (f : X 
 fails_then faults.Memory r f is = tt
 fails_then (faults.Expected m) r f is = rw is refl
 fails_then (faults.TooDeep m) r f is = rw is refl
+
+pub more_low : {T : Type 0} (v : Turn T) (r : Read T) (m : ℕ) → v ≡ turn.More r → turn_height v ≤ m → r.height ≤ m
+more_low v r m is low = subst (λ (w : Turn _). turn_height w ≤ m) is low
+
+-- a loop whose first turn is its last
+pub turns_at_once : {X : Type 0} (step : Piece X → Result (Piece X × Bool) Fault) (n : ℕ) (s : Piece X) → step s ≡ Ok (s, true) → turns step (n + 1) s ≡ Ok s
+unfolding turns
+turns_at_once step n s is = let k : n + 1 ≡ suc n = omega arith in rw (k, is) refl
+
+-- no REPEAT word behind a command
+pub repeats_none : (E : Reader) (nest round : ℕ) (s : Piece Command) → None ≡ word_in repeat_word_of s.rest → repeats_read E nest round s ≡ Ok s
+unfolding repeats_read repeat_turn
+repeats_none E nest round s is = turns_at_once (repeat_turn E nest round) (length s.rest) s (once is)
+  where
+    once : None ≡ word_in repeat_word_of s.rest → repeat_turn E nest round s ≡ Ok (s, true)
+    once e = rw (← e) refl
+
+pub ok_is : {X : Type 0} (x y : X) (r : Result X Fault) → r ≡ Ok x → r ≡ Ok y → x ≡ y
+ok_is x y r is_x is_y = cc
+
+-- a choice whose first two parts are read
+pub choice_is : (E : Reader) (nest round begin height high place most : ℕ) (left test this : Exp) (ts rest : List Part) → height < nest → E (nest - 1) round 1 ts ≡ Ok (piece this high rest) → left ≡ test → most ≡ max height high
+    → suffix_read E nest round begin (Choice ts) left height place ≡ ((expect_of sign.Comma rest >>= λ behind. E (nest - 1) round 1 behind >>= λ that. Ok (piece (tree.Condition test this that.tree) (max most that.height + 1) that.rest)) >>= λ p. Ok (piece (p.tree, 1) p.height p.rest))
+unfolding suffix_read with_choice
+choice_is E nest round begin height high place most left test this ts rest lt is same top = rw (lt-ltb height nest lt, is, same, top) refl

@@ -1,7 +1,11 @@
 -- For proofs: what stands in front, without where it lies in memory.
+use Rattle.std.specs.Prelude.{Bool, true, false, List}
+use Rattle.bc_parse_tree.specs.Parts.{Part}
 use Rattle.bc_parse_defs.specs.Reading.{Following, LabelStart, Shape}
 use Rattle.bc_parse_defs.specs.Reading as reading
 use Rattle.bc_parse.specs.Seen.{seen}
+use Rattle.bc_parse.specs.declared.blocks.PlaceEnd as code_end
+use Rattle.bc_parse.specs.declared.blocks.PlaceEnd.TheVariants as place_end
 use Rattle.bc_parse.specs.declared.cursor.Follow as code_follow
 use Rattle.bc_parse.specs.declared.cursor.Follow.TheVariants as follow
 use Rattle.bc_parse.specs.declared.cursor.LabelAt as code_label
@@ -25,3 +29,7 @@ abbrev pub shape_view : code_shape.ShapeAt → Shape
 shape_view (shape_at.Parameters ts) = reading.Parameters (seen ts)
 shape_view (shape_at.Size ts) = reading.Size (seen ts)
 shape_view shape_at.Values = reading.Values
+
+abbrev pub end_view : code_end.PlaceEnd → List Part × Bool
+end_view (place_end.More ts) = (seen ts, false)
+end_view (place_end.Last ts) = (seen ts, true)

@@ -1,132 +1,141 @@
 //! Blocks and bodies: declarations and items, what ends them, and the section that they make.
-ghost use Rattle.std.specs.Prelude.{◌≡◌, ◌+◌, ◌≤◌, ℕ, option_map, Ok, IfOk};
-ghost use Rattle.bc_parse_tree.specs.View.{command_view, block_view, declarations_view, labels_view, items_view};
-ghost use Rattle.bc_parse_defs.specs.Reading.{piece, exp_of, command_of, definition_of, label_read, labels_read, item_read, part_read, place_turn, places_read, block_read, body_of_block, body_read, do_read, section_of, label_start, as_body, place_end, declares, no_item_yet, some_label, may_command};
-ghost use Rattle.bc_parse.specs.Seen.{seen, Gives, ReadBlock, ReadLabels, LabelsTurn, ReadItem, ReadPlaces, PlacesTurn};
+ghost use Rattle.std.specs.Prelude.{◌≡◌, ◌+◌, ◌≤◌, ℕ, length, max, option_map, if◌then◌else◌, Ok, Err, IfOk};
+ghost use Rattle.bc_parse_tree.specs.Spelling.{add_declaration, add_item};
+ghost use Rattle.bc_lex_tokens.specs.declared.symbol.Symbol.TheVariants as sign;
+ghost use Rattle.bc_parse_tree.specs.Tree.{Labelled, Labels_alone};
+ghost use Rattle.bc_parse_tree.specs.View.{exp_view, command_view, block_view, declarations_view, labels_view};
+ghost use Rattle.bc_parse_tree.specs.View.{items_view};
+ghost use Rattle.bc_parse_defs.specs.Reading.{piece, exp_of, command_of, definition_of, label_read};
+ghost use Rattle.bc_parse_defs.specs.Reading.{labels_read, CaseLabel, DefaultLabel, NameLabel, Expected};
+ghost use Rattle.bc_parse_defs.specs.Reading.{declaration_read, item_read, part_read, place_turn, places_read};
+ghost use Rattle.bc_parse_defs.specs.Reading.{block_read, body_of_block, body_read, do_read, section_of, moved};
+ghost use Rattle.bc_parse_defs.specs.Reading.{label_start, as_body, place_end, declares, no_item_yet, some_label};
+ghost use Rattle.bc_parse_defs.specs.Reading.{may_command};
+ghost use Rattle.bc_parse.specs.Seen.{◌~>◌, seen, Gives, read_view, box_view, list_view, parts_view, Reads, Takes};
+ghost use Rattle.bc_parse.specs.Seen.{turn_height};
+ghost use Rattle.bc_parse.specs.SeenFollow.{end_view};
 
 use crate::commands::{command, repeats};
-use crate::cursor;
 use crate::cursor::{LabelAt, Rest};
 use crate::declarations::declaration;
-use crate::expressions::exp;
+use crate::expressions::exp_apart;
 use crate::fault::ReadFault;
+use crate::read::{Answer, Read, Room, Turn};
+use crate::{apart, cursor};
 use bc_lex_tokens::Symbol;
 use bc_parse_defs::words::{DeclarationWord, Places};
-use bc_parse_tree::{Block, Command, Declaration, Item, Label, Section};
+use bc_parse_tree::{Block, Command, Declaration, Exp, Item, Label, Section};
 use std::alloc::Global;
+
+/// The declarations and the items of a list of places.
+#[derive(Drop)]
+pub struct Parts<'s> {
+    pub declarations: Vec<Declaration<'s>>,
+    pub items: Vec<Item<'s>>,
+}
 
 /// What is in a block, behind its bracket.
 #[cycle(parser)]
 #[tactic(auto, unfolding(bc_parse_defs::specs::Reading::block_read))]
-pub fn block<'s, 't>(
-    alloc: Global,
-    nest: usize,
-    round: usize,
-    rest: Rest<'s, 't>,
-) -> Result<(Block<'s>, usize, Rest<'s, 't>), ReadFault>
-    ensures read { (n : ℕ) → nest + round ≤ n → ReadBlock result (block_read (exp_of n) (command_of n) (definition_of n) nest round (seen rest.entry)) }
-    ensures low { IfOk result (λ x. x.1 ≤ nest) }
+pub fn block<'s, 't>(room: Room, rest: Rest<'s, 't>) -> Answer<'s, 't, Block<'s>>
+    ensures read { (n : ℕ) → room.nest + room.round ≤ n →
+        Reads block_view result (block_read (exp_of n) (command_of n) (definition_of n) room.nest room.round (seen rest.entry)) }
+    ensures low { IfOk result (λ x. x.height ≤ room.nest) }
 {
-    let (declarations, items, height, behind) = places(alloc, nest, round, Places::Block, rest)?;
-    Ok((
-        Block {
-            declarations,
-            items,
-        },
-        height,
-        behind,
-    ))
+    let found = places(room, Places::Block, rest)?;
+    let Parts {
+        declarations,
+        items,
+    } = found.tree;
+    let tree = Block {
+        declarations,
+        items,
+    };
+    Ok(Read {
+        tree,
+        height: found.height,
+        rest: found.rest,
+    })
 }
 
 /// A block that is a body, unless a REPEAT word follows it.
 #[cycle(parser)]
 #[tactic(auto, unfolding(bc_parse_defs::specs::Reading::body_of_block))]
-fn block_body<'s, 't>(
-    alloc: Global,
-    nest: usize,
-    round: usize,
-    inner: Block<'s>,
-    height: usize,
-    rest: Rest<'s, 't>,
-) -> Result<(Block<'s>, usize, Rest<'s, 't>), ReadFault>
-    requires { height ≤ nest }
-    ensures read { (n : ℕ) → nest + round ≤ n → ReadBlock result (body_of_block (exp_of n) (command_of n) (definition_of n) nest round (piece (block_view inner.entry) height (seen rest.entry))) }
-    ensures low { IfOk result (λ x. x.1 ≤ nest) }
+fn block_body<'s, 't>(room: Room, inner: Read<'s, 't, Block<'s>>) -> Answer<'s, 't, Block<'s>>
+    requires { inner.height ≤ room.nest }
+    ensures read { (n : ℕ) → room.nest + room.round ≤ n →
+        Reads block_view result (body_of_block (exp_of n) (command_of n) (definition_of n) room.nest room.round (read_view block_view inner.entry)) }
+    ensures low { IfOk result (λ x. x.height ≤ room.nest) }
 {
-    if cursor::repeat_word(rest).is_none() {
-        return Ok((inner, height, rest));
+    if cursor::repeat_word(inner.rest).is_none() {
+        return Ok(inner);
     }
-    if height >= nest {
-        return Err(ReadFault::TooDeep(rest.parts.len()));
+    if inner.height >= room.nest {
+        return Err(apart::too_deep(inner));
     }
-    let (c, h, behind) = repeats(alloc, nest, round, Command::Block(inner), height + 1, rest)?;
-    let (found, h) = body_from(alloc, c, h)?;
-    Ok((found, h, behind))
+    let first = Read {
+        tree: Command::Block(inner.tree),
+        height: inner.height + 1,
+        rest: inner.rest,
+    };
+    let whole = repeats(room, first)?;
+    body_from(room.alloc, whole)
 }
 
 /// A block, or one command as the block that it is.
 #[cycle(parser)]
 #[tactic(auto, unfolding(bc_parse_defs::specs::Reading::body_read))]
-pub fn body<'s, 't>(
-    alloc: Global,
-    nest: usize,
-    round: usize,
-    rest: Rest<'s, 't>,
-) -> Result<(Block<'s>, usize, Rest<'s, 't>), ReadFault>
-    ensures read { (n : ℕ) → nest + round ≤ n → ReadBlock result (body_read (exp_of n) (command_of n) (definition_of n) nest round (seen rest.entry)) }
-    ensures low { IfOk result (λ x. x.1 ≤ nest) }
+pub fn body<'s, 't>(room: Room, rest: Rest<'s, 't>) -> Answer<'s, 't, Block<'s>>
+    ensures read { (n : ℕ) → room.nest + room.round ≤ n →
+        Reads block_view result (body_read (exp_of n) (command_of n) (definition_of n) room.nest room.round (seen rest.entry)) }
+    ensures low { IfOk result (λ x. x.height ≤ room.nest) }
 {
-    match cursor::after(Symbol::OpenSection, rest) {
-        Some(then) => {
-            let (inner, height, behind) = block(alloc, nest, round, then)?;
-            block_body(alloc, nest, round, inner, height, behind)
-        }
-        None => {
-            let (c, height, behind) = command(alloc, nest, round, rest)?;
-            let (found, height) = body_from(alloc, c, height)?;
-            Ok((found, height, behind))
-        }
+    if let Some(then) = cursor::after(Symbol::OpenSection, rest) {
+        let inner = block(room, then)?;
+        return block_body(room, inner);
     }
+    command_body(room, rest)
+}
+
+/// One command as the block that it is.
+#[cycle(parser)]
+fn command_body<'s, 't>(room: Room, rest: Rest<'s, 't>) -> Answer<'s, 't, Block<'s>>
+    ensures read { (n : ℕ) → room.nest + room.round ≤ n →
+        Reads block_view result (command_of n room.nest room.round (seen rest.entry) ~> λ c.
+        Ok (piece (as_body c.tree c.height).0 (as_body c.tree c.height).1 c.rest)) }
+    ensures low { IfOk result (λ x. x.height ≤ room.nest) }
+{
+    let whole = command(room, rest)?;
+    body_from(room.alloc, whole)
 }
 
 /// A body behind a line break and DO, which may be left out.
 #[cycle(parser)]
 #[tactic(auto, unfolding(bc_parse_defs::specs::Reading::do_read))]
-pub fn do_body<'s, 't>(
-    alloc: Global,
-    nest: usize,
-    round: usize,
-    rest: Rest<'s, 't>,
-) -> Result<(Block<'s>, usize, Rest<'s, 't>), ReadFault>
-    ensures read { (n : ℕ) → nest + round ≤ n → ReadBlock result (do_read (exp_of n) (command_of n) (definition_of n) nest round (seen rest.entry)) }
-    ensures low { IfOk result (λ x. x.1 ≤ nest) }
+pub fn do_body<'s, 't>(room: Room, rest: Rest<'s, 't>) -> Answer<'s, 't, Block<'s>>
+    ensures read { (n : ℕ) → room.nest + room.round ≤ n →
+        Reads block_view result (do_read (exp_of n) (command_of n) (definition_of n) room.nest room.round (seen rest.entry)) }
+    ensures low { IfOk result (λ x. x.height ≤ room.nest) }
 {
-    body(alloc, nest, round, cursor::skip_do(rest))
+    body(room, cursor::skip_do(rest))
 }
 
 /// A command as the body that it is, and how deep that nests.
-fn body_from<'s>(
-    alloc: Global,
-    command: Command<'s>,
-    height: usize,
-) -> Result<(Block<'s>, usize), ReadFault>
-    ensures { Gives (λ x. (block_view x.0, x.1)) result (Ok (as_body (command_view command.entry) height)) }
+fn body_from<'s, 't>(alloc: Global, whole: Read<'s, 't, Command<'s>>) -> Answer<'s, 't, Block<'s>>
+    ensures read { Reads block_view result (Ok (piece (as_body (command_view whole.entry.tree) whole.entry.height).0
+        (as_body (command_view whole.entry.tree) whole.entry.height).1 (seen whole.entry.rest))) }
+    ensures low { (m : ℕ) → whole.entry.height ≤ m → IfOk result (λ x. x.height ≤ m) }
 {
-    match command {
-        Command::Block(inner) => Ok((inner, height.saturating_sub(1))),
+    let Read { tree, height, rest } = whole;
+    match tree {
+        Command::Block(tree) => Ok(Read {
+            tree,
+            height: height.saturating_sub(1),
+            rest,
+        }),
         other => {
-            let mut items = Vec::new(alloc);
-            items.push(Item {
-                labels: Vec::new(alloc),
-                command: Some(other),
-            })?;
-            Ok((
-                Block {
-                    declarations: Vec::new(alloc),
-                    items,
-                },
-                height,
-            ))
+            let tree = apart::block_of(alloc, other)?;
+            Ok(Read { tree, height, rest })
         }
     }
 }
@@ -134,206 +143,315 @@ fn body_from<'s>(
 /// The labels in front of a command.
 #[cycle(parser)]
 #[tactic(auto, unfolding(bc_parse_defs::specs::Reading::labels_read))]
-fn labels<'s, 't>(
-    alloc: Global,
-    nest: usize,
-    round: usize,
-    rest: Rest<'s, 't>,
-) -> Result<(Vec<Label<'s>>, usize, Rest<'s, 't>), ReadFault>
-    ensures read { (n : ℕ) → nest + round ≤ n → ReadLabels result (labels_read (exp_of n) nest round (seen rest.entry)) }
-    ensures low { IfOk result (λ x. x.1 ≤ nest) }
+fn labels<'s, 't>(room: Room, rest: Rest<'s, 't>) -> Answer<'s, 't, Vec<Label<'s>>>
+    ensures read { (n : ℕ) → room.nest + room.round ≤ n →
+        Reads (list_view labels_view) result (labels_read (exp_of n) room.nest room.round (seen rest.entry)) }
+    ensures low { IfOk result (λ x. x.height ≤ room.nest) }
 {
-    let mut found = Vec::new(alloc);
-    let mut height = 0usize;
-    let mut behind = rest;
+    let mut found = Read {
+        tree: Vec::new(room.alloc),
+        height: 0,
+        rest,
+    };
     for _ in 0..rest.parts.len() + 1 {
-        let (list, h, then, is_last) = label_step(alloc, nest, round, found, height, behind)?;
-        if is_last {
-            return Ok((list, h, then));
+        match label_step(room, found)? {
+            Turn::Last(list) => return Ok(list),
+            Turn::More(list) => found = list,
         }
-        found = list;
-        height = h;
-        behind = then;
     }
-    Err(ReadFault::Expected(behind.parts.len()))
+    Err(apart::spent(found))
 }
 
 #[cycle(parser)]
-#[tactic(auto, using(crate::proofs::Lists::labels_view_push), unfolding(bc_parse_defs::specs::Reading::label_read))]
+#[tactic(auto, unfolding(bc_parse_defs::specs::Reading::label_read))]
 fn label_step<'s, 't>(
-    alloc: Global,
-    nest: usize,
-    round: usize,
-    list: Vec<Label<'s>>,
-    height: usize,
-    rest: Rest<'s, 't>,
-) -> Result<(Vec<Label<'s>>, usize, Rest<'s, 't>, bool), ReadFault>
-    requires { height ≤ nest }
-    ensures read { (n : ℕ) → nest + round ≤ n → LabelsTurn result (label_read (exp_of n) nest round (piece (labels_view list.entry.items) height (seen rest.entry)) (label_start (seen rest.entry))) }
-    ensures low { IfOk result (λ x. x.1 ≤ nest) }
+    room: Room,
+    list: Read<'s, 't, Vec<Label<'s>>>,
+) -> Result<Turn<'s, 't, Vec<Label<'s>>>, ReadFault>
+    requires { list.height ≤ room.nest }
+    ensures read { (n : ℕ) → room.nest + room.round ≤ n →
+        Takes (list_view labels_view) result
+        (label_read (exp_of n) room.nest room.round (read_view (list_view labels_view) list.entry) (label_start (seen list.entry.rest))) }
+    ensures low { IfOk result (λ x. turn_height x ≤ room.nest) }
 {
-    let mut found = list;
-    match cursor::label_at(rest) {
-        LabelAt::No => Ok((found, height, rest, true)),
-        LabelAt::Case(then) => {
-            let (value, h, behind) = exp(alloc, nest, round, 2, then)?;
-            let behind = cursor::expect(Symbol::Colon, behind)?;
-            found.push(Label::Case(value))?;
-            Ok((found, height.max(h), behind, false))
-        }
-        LabelAt::Default(then) => {
-            let behind = cursor::expect(Symbol::Colon, then)?;
-            found.push(Label::Default)?;
-            Ok((found, height, behind, false))
-        }
-        LabelAt::Name(name, then) => {
-            found.push(Label::Name(name))?;
-            Ok((found, height, then, false))
-        }
+    match cursor::label_at(list.rest) {
+        LabelAt::No => Ok(Turn::Last(list)),
+        LabelAt::Case(rest) => case_label(room, list, rest),
+        LabelAt::Default(rest) => default_label(list, rest),
+        LabelAt::Name(name, rest) => name_label(list, name, rest),
     }
 }
 
+/// `CASE value:`, behind its word.
+#[cycle(parser)]
+#[tactic(auto, unfolding(bc_parse_defs::specs::Reading::label_read))]
+fn case_label<'s, 't>(
+    room: Room,
+    list: Read<'s, 't, Vec<Label<'s>>>,
+    rest: Rest<'s, 't>,
+) -> Result<Turn<'s, 't, Vec<Label<'s>>>, ReadFault>
+    requires { list.height ≤ room.nest }
+    ensures read { (n : ℕ) → room.nest + room.round ≤ n →
+        Takes (list_view labels_view) result
+        (label_read (exp_of n) room.nest room.round (read_view (list_view labels_view) list.entry) (CaseLabel (seen rest.entry))) }
+    ensures low { IfOk result (λ x. turn_height x ≤ room.nest) }
+{
+    let value = exp_apart(room, 2, rest)?;
+    let rest = cursor::expect(Symbol::Colon, value.rest)?;
+    let tree = apart::case_added(list.tree, value.tree)?;
+    Ok(Turn::More(Read {
+        tree,
+        height: list.height.max(value.height),
+        rest,
+    }))
+}
+
+/// `DEFAULT:`, behind its word.
+#[tactic(auto, unfolding(bc_parse_defs::specs::Reading::label_read))]
+fn default_label<'s, 't>(
+    list: Read<'s, 't, Vec<Label<'s>>>,
+    rest: Rest<'s, 't>,
+) -> Result<Turn<'s, 't, Vec<Label<'s>>>, ReadFault>
+    ensures read { (n nest round : ℕ) →
+        Takes (list_view labels_view) result
+        (label_read (exp_of n) nest round (read_view (list_view labels_view) list.entry) (DefaultLabel (seen rest.entry))) }
+    ensures low { (m : ℕ) → list.entry.height ≤ m → IfOk result (λ x. turn_height x ≤ m) }
+{
+    let rest = cursor::expect(Symbol::Colon, rest)?;
+    let tree = apart::default_added(list.tree)?;
+    Ok(Turn::More(Read {
+        tree,
+        height: list.height,
+        rest,
+    }))
+}
+
+/// `name:`.
+#[tactic(auto, unfolding(bc_parse_defs::specs::Reading::label_read))]
+fn name_label<'s, 't>(
+    list: Read<'s, 't, Vec<Label<'s>>>,
+    name: &'s [u8],
+    rest: Rest<'s, 't>,
+) -> Result<Turn<'s, 't, Vec<Label<'s>>>, ReadFault>
+    ensures read { (n nest round : ℕ) →
+        Takes (list_view labels_view) result
+        (label_read (exp_of n) nest round (read_view (list_view labels_view) list.entry) (NameLabel name.entry.now (seen rest.entry))) }
+    ensures low { (m : ℕ) → list.entry.height ≤ m → IfOk result (λ x. turn_height x ≤ m) }
+{
+    let tree = apart::name_added(list.tree, name)?;
+    Ok(Turn::More(Read {
+        tree,
+        height: list.height,
+        rest,
+    }))
+}
+
+/// One more item of a list of places, where one may stand.
 #[cycle(parser)]
 #[tactic(auto, unfolding(bc_parse_defs::specs::Reading::item_read))]
-fn item<'s, 't>(
-    alloc: Global,
-    nest: usize,
-    round: usize,
-    rest: Rest<'s, 't>,
-) -> Result<(Item<'s>, usize, Rest<'s, 't>), ReadFault>
-    ensures read { (n : ℕ) → nest + round ≤ n → ReadItem result (item_read (exp_of n) (command_of n) (definition_of n) nest round (seen rest.entry)) }
-    ensures low { IfOk result (λ x. x.1 ≤ nest) }
+fn item_part<'s, 't>(
+    room: Room,
+    mode: Places,
+    list: Read<'s, 't, Parts<'s>>,
+) -> Answer<'s, 't, Parts<'s>>
+    requires { list.height ≤ room.nest }
+    ensures read { (n : ℕ) → room.nest + room.round ≤ n →
+        Reads parts_view result
+        (if may_command mode then (
+        item_read (exp_of n) (command_of n) (definition_of n) room.nest room.round (seen list.entry.rest) ~> λ i.
+        Ok (piece (declarations_view list.entry.tree.declarations.items, add_item (items_view list.entry.tree.items.items) i.tree)
+        (max list.entry.height i.height) i.rest))
+        else Err (Expected (length (seen list.entry.rest)))) }
+    ensures low { IfOk result (λ x. x.height ≤ room.nest) }
 {
-    let (found, height, behind) = labels(alloc, nest, round, rest)?;
-    if has_label(&found) && cursor::is_place_end_at(behind) {
-        return Ok((
-            Item {
-                labels: found,
-                command: None,
-            },
-            height,
-            behind,
-        ));
+    if !has_items(mode) {
+        return Err(ReadFault::Expected(list.rest.parts.len()));
     }
-    let (c, h, behind) = command(alloc, nest, round, behind)?;
-    Ok((
-        Item {
-            labels: found,
-            command: Some(c),
-        },
-        height.max(h),
-        behind,
-    ))
+    let found = labels(room, list.rest)?;
+    if has_label(&found.tree) && cursor::is_place_end_at(found.rest) {
+        return labels_part(list, found);
+    }
+    command_part(room, list, found)
 }
 
-#[cycle(parser)]
-#[tactic(auto, using(crate::proofs::Lists::declarations_view_push, crate::proofs::Lists::items_view_push), unfolding(bc_parse_defs::specs::Reading::part_read))]
-fn part_of<'s, 't>(
-    alloc: Global,
-    nest: usize,
-    round: usize,
-    mode: Places,
-    declarations: Vec<Declaration<'s>>,
-    items: Vec<Item<'s>>,
-    height: usize,
-    rest: Rest<'s, 't>,
-) -> Result<(Vec<Declaration<'s>>, Vec<Item<'s>>, usize, Rest<'s, 't>), ReadFault>
-    requires { height ≤ nest }
-    ensures read { (n : ℕ) → nest + round ≤ n → ReadPlaces result (part_read (exp_of n) (command_of n) (definition_of n) mode nest round (piece (declarations_view declarations.entry.items, items_view items.entry.items) height (seen rest.entry))) }
-    ensures low { IfOk result (λ x. x.2 ≤ nest) }
+/// One more item, of these labels alone.
+fn labels_part<'s, 't>(
+    list: Read<'s, 't, Parts<'s>>,
+    found: Read<'s, 't, Vec<Label<'s>>>,
+) -> Answer<'s, 't, Parts<'s>>
+    ensures read { Reads parts_view result (Ok (piece (
+      declarations_view list.entry.tree.declarations.items,
+      add_item (items_view list.entry.tree.items.items) (Labels_alone (labels_view found.entry.tree.items)),
+    )
+        (max list.entry.height found.entry.height) (seen found.entry.rest))) }
+    ensures low { (m : ℕ) → list.entry.height ≤ m → found.entry.height ≤ m → IfOk result (λ x. x.height ≤ m) }
 {
-    let mut declarations = declarations;
-    let mut items = items;
-    match declared(mode, has_no_item(&items), rest) {
-        Some((word, then)) => {
-            let (d, h, behind) = declaration(alloc, nest, round, word, then)?;
-            declarations.push(d)?;
-            Ok((declarations, items, height.max(h), behind))
-        }
-        None => {
-            if !has_items(mode) {
-                return Err(ReadFault::Expected(rest.parts.len()));
-            }
-            let (i, h, behind) = item(alloc, nest, round, rest)?;
-            items.push(i)?;
-            Ok((declarations, items, height.max(h), behind))
-        }
+    let Parts {
+        declarations,
+        items,
+    } = list.tree;
+    let items = apart::labels_added(items, found.tree)?;
+    let tree = Parts {
+        declarations,
+        items,
+    };
+    Ok(Read {
+        tree,
+        height: list.height.max(found.height),
+        rest: found.rest,
+    })
+}
+
+/// One more item, of these labels and the command behind them.
+#[cycle(parser)]
+fn command_part<'s, 't>(
+    room: Room,
+    list: Read<'s, 't, Parts<'s>>,
+    found: Read<'s, 't, Vec<Label<'s>>>,
+) -> Answer<'s, 't, Parts<'s>>
+    requires list { list.height ≤ room.nest }
+    requires found { found.height ≤ room.nest }
+    ensures read { (n : ℕ) → room.nest + room.round ≤ n →
+        Reads parts_view result ((command_of n room.nest room.round (seen found.entry.rest) ~> λ c.
+        Ok (piece (Labelled (labels_view found.entry.tree.items) c.tree) (max found.entry.height c.height) c.rest)) ~> λ i.
+        Ok (piece (declarations_view list.entry.tree.declarations.items, add_item (items_view list.entry.tree.items.items) i.tree)
+        (max list.entry.height i.height) i.rest)) }
+    ensures low { IfOk result (λ x. x.height ≤ room.nest) }
+{
+    let behind = command(room, found.rest)?;
+    let Parts {
+        declarations,
+        items,
+    } = list.tree;
+    let items = apart::command_added(items, found.tree, behind.tree)?;
+    let tree = Parts {
+        declarations,
+        items,
+    };
+    let height = found.height.max(behind.height);
+    Ok(Read {
+        tree,
+        height: list.height.max(height),
+        rest: behind.rest,
+    })
+}
+
+/// One more declaration of a list of places.
+#[cycle(parser)]
+fn declaration_part<'s, 't>(
+    room: Room,
+    word: DeclarationWord,
+    list: Read<'s, 't, Parts<'s>>,
+    rest: Rest<'s, 't>,
+) -> Answer<'s, 't, Parts<'s>>
+    requires { list.height ≤ room.nest }
+    ensures read { (n : ℕ) → room.nest + room.round ≤ n →
+        Reads parts_view result
+        (declaration_read (exp_of n) (command_of n) (definition_of n) room.nest room.round word (seen rest.entry) ~> λ d.
+        Ok (piece (add_declaration (declarations_view list.entry.tree.declarations.items) d.tree, items_view list.entry.tree.items.items)
+        (max list.entry.height d.height) d.rest)) }
+    ensures low { IfOk result (λ x. x.height ≤ room.nest) }
+{
+    let Parts {
+        declarations,
+        items,
+    } = list.tree;
+    let found = declaration(room, word, rest)?;
+    let declarations = apart::declaration_added(declarations, found.tree)?;
+    let tree = Parts {
+        declarations,
+        items,
+    };
+    Ok(Read {
+        tree,
+        height: list.height.max(found.height),
+        rest: found.rest,
+    })
+}
+
+/// One more declaration or item of a list of places.
+#[cycle(parser)]
+#[tactic(auto, unfolding(bc_parse_defs::specs::Reading::part_read))]
+fn part_of<'s, 't>(
+    room: Room,
+    mode: Places,
+    list: Read<'s, 't, Parts<'s>>,
+) -> Answer<'s, 't, Parts<'s>>
+    requires { list.height ≤ room.nest }
+    ensures read { (n : ℕ) → room.nest + room.round ≤ n →
+        Reads parts_view result
+        (part_read (exp_of n) (command_of n) (definition_of n) mode room.nest room.round (read_view parts_view list.entry)) }
+    ensures low { IfOk result (λ x. x.height ≤ room.nest) }
+{
+    match declared(mode, has_no_item(&list.tree.items), list.rest) {
+        Some((word, then)) => declaration_part(room, word, list, then),
+        None => item_part(room, mode, list),
     }
 }
 
 #[cycle(parser)]
 #[tactic(auto, unfolding(bc_parse_defs::specs::Reading::place_turn))]
 fn place_step<'s, 't>(
-    alloc: Global,
-    nest: usize,
-    round: usize,
+    room: Room,
     mode: Places,
-    declarations: Vec<Declaration<'s>>,
-    items: Vec<Item<'s>>,
-    height: usize,
-    rest: Rest<'s, 't>,
-) -> Result<
-    (
-        Vec<Declaration<'s>>,
-        Vec<Item<'s>>,
-        usize,
-        Rest<'s, 't>,
-        bool,
-    ),
-    ReadFault,
->
-    requires { height ≤ nest }
-    ensures read { (n : ℕ) → nest + round ≤ n → PlacesTurn result (place_turn (exp_of n) (command_of n) (definition_of n) mode nest round (piece (declarations_view declarations.entry.items, items_view items.entry.items) height (seen rest.entry))) }
-    ensures low { IfOk result (λ x. x.2 ≤ nest) }
+    list: Read<'s, 't, Parts<'s>>,
+) -> Result<Turn<'s, 't, Parts<'s>>, ReadFault>
+    requires { list.height ≤ room.nest }
+    ensures read { (n : ℕ) → room.nest + room.round ≤ n →
+        Takes parts_view result
+        (place_turn (exp_of n) (command_of n) (definition_of n) mode room.nest room.round (read_view parts_view list.entry)) }
+    ensures low { IfOk result (λ x. turn_height x ≤ room.nest) }
 {
-    if let Some(then) = cursor::end(mode, rest) {
-        return Ok((declarations, items, height, then, true));
+    if let Some(rest) = cursor::end(mode, list.rest) {
+        return Ok(Turn::Last(Read { rest, ..list }));
     }
-    if let Some(then) = cursor::separator(rest) {
-        return Ok((declarations, items, height, then, false));
+    if let Some(rest) = cursor::separator(list.rest) {
+        return Ok(Turn::More(Read { rest, ..list }));
     }
-    let (d, i, h, behind) = part_of(alloc, nest, round, mode, declarations, items, height, rest)?;
-    let (behind, is_last) = place_end_at(mode, behind)?;
-    Ok((d, i, h, behind, is_last))
+    let found = part_of(room, mode, list)?;
+    ended(mode, found)
+}
+
+/// What was read as a turn: the last one where the list ends behind it.
+fn ended<'s, 't>(
+    mode: Places,
+    found: Read<'s, 't, Parts<'s>>,
+) -> Result<Turn<'s, 't, Parts<'s>>, ReadFault>
+    ensures read { Takes parts_view result (place_end mode (seen found.entry.rest) ~> λ e.
+        Ok (moved (read_view parts_view found.entry) e.0, e.1)) }
+    ensures low { (m : ℕ) → found.entry.height ≤ m → IfOk result (λ x. turn_height x ≤ m) }
+{
+    Ok(match place_end_at(mode, found.rest)? {
+        PlaceEnd::Last(rest) => Turn::Last(Read { rest, ..found }),
+        PlaceEnd::More(rest) => Turn::More(Read { rest, ..found }),
+    })
 }
 
 /// Declarations and items with semicolons between them, and what ends them.
 #[cycle(parser)]
 #[tactic(auto, unfolding(bc_parse_defs::specs::Reading::places_read))]
-pub fn places<'s, 't>(
-    alloc: Global,
-    nest: usize,
-    round: usize,
-    mode: Places,
-    rest: Rest<'s, 't>,
-) -> Result<(Vec<Declaration<'s>>, Vec<Item<'s>>, usize, Rest<'s, 't>), ReadFault>
-    ensures read { (n : ℕ) → nest + round ≤ n → ReadPlaces result (places_read (exp_of n) (command_of n) (definition_of n) mode nest round (seen rest.entry)) }
-    ensures low { IfOk result (λ x. x.2 ≤ nest) }
+pub fn places<'s, 't>(room: Room, mode: Places, rest: Rest<'s, 't>) -> Answer<'s, 't, Parts<'s>>
+    ensures read { (n : ℕ) → room.nest + room.round ≤ n →
+        Reads parts_view result
+        (places_read (exp_of n) (command_of n) (definition_of n) mode room.nest room.round (seen rest.entry)) }
+    ensures low { IfOk result (λ x. x.height ≤ room.nest) }
 {
-    let mut declarations = Vec::new(alloc);
-    let mut items = Vec::new(alloc);
-    let mut height = 0usize;
-    let mut behind = rest;
+    let tree = Parts {
+        declarations: Vec::new(room.alloc),
+        items: Vec::new(room.alloc),
+    };
+    let mut found = Read {
+        tree,
+        height: 0,
+        rest,
+    };
     for _ in 0..rest.parts.len() + 1 {
-        let (d, i, h, then, is_last) = place_step(
-            alloc,
-            nest,
-            round,
-            mode,
-            declarations,
-            items,
-            height,
-            behind,
-        )?;
-        if is_last {
-            return Ok((d, i, h, then));
+        match place_step(room, mode, found)? {
+            Turn::Last(list) => return Ok(list),
+            Turn::More(list) => found = list,
         }
-        declarations = d;
-        items = i;
-        height = h;
-        behind = then;
     }
-    Err(ReadFault::Expected(behind.parts.len()))
+    Err(apart::spent(found))
 }
 
 /// Whether there is a label.
@@ -381,17 +499,21 @@ fn declared<'s, 't>(
     }
 }
 
+/// What stands behind an element of a list of places: a separator, or the end of the list.
+#[derive(Clone, Copy)]
+pub enum PlaceEnd<'s, 't> {
+    More(Rest<'s, 't>),
+    Last(Rest<'s, 't>),
+}
+
 /// The parts behind an element of a list of places, and whether the list ends there.
-pub fn place_end_at<'s, 't>(
-    mode: Places,
-    rest: Rest<'s, 't>,
-) -> Result<(Rest<'s, 't>, bool), ReadFault>
-    ensures { Gives (λ x. (seen x.0, x.1)) result (place_end mode (seen rest.entry)) }
+pub fn place_end_at<'s, 't>(mode: Places, rest: Rest<'s, 't>) -> Result<PlaceEnd<'s, 't>, ReadFault>
+    ensures { Gives end_view result (place_end mode (seen rest.entry)) }
 {
     match cursor::separator(rest) {
-        Some(then) => Ok((then, false)),
+        Some(then) => Ok(PlaceEnd::More(then)),
         None => match cursor::end(mode, rest) {
-            Some(then) => Ok((then, true)),
+            Some(then) => Ok(PlaceEnd::Last(then)),
             None => Err(ReadFault::Expected(rest.parts.len())),
         },
     }
@@ -402,6 +524,13 @@ pub fn place_end_at<'s, 't>(
 pub fn section_in<'s, 't>(alloc: Global, rest: Rest<'s, 't>) -> Result<Section<'s>, ReadFault>
     ensures read { Gives (λ x. declarations_view x.declarations.items) result (section_of (seen rest.entry)) }
 {
-    let (declarations, _, _, _) = places(alloc, 200, 400, Places::Section, rest)?;
-    Ok(Section { declarations })
+    let room = Room {
+        alloc,
+        nest: 200,
+        round: 400,
+    };
+    let found = places(room, Places::Section, rest)?;
+    Ok(Section {
+        declarations: found.tree.declarations,
+    })
 }

@@ -1,222 +1,296 @@
 //! Commands.
-ghost use Rattle.std.specs.Prelude.{◌≡◌, ◌+◌, ◌<◌, ◌≤◌, ℕ, option_map, Ok, IfOk, List};
-ghost use Rattle.bc_parse_tree.specs.Parts.{Part};
-ghost use Rattle.bc_parse_tree.specs.View.{exp_view, exps_view, command_view};
-ghost use Rattle.bc_parse_defs.specs.Reading.{piece, exp_of, command_of, definition_of, repeated, repeat_turn, repeats_read, assigned_read, simple_read, tested_read, test_read, step_read, for_read, switch_read, compound_read, repeatable_read, command_read, call_in};
-ghost use Rattle.bc_parse.specs.Seen.{seen, Gives, ReadCommand, CommandTurn, ReadStep};
+ghost use Rattle.std.specs.Prelude.{◌≡◌, ◌+◌, ◌-◌, ◌<◌, ◌≤◌, ◌==◌, if◌then◌else◌, ℕ, length, max, Ok, Err, IfOk};
+ghost use Rattle.std.specs.Prelude.{option_map};
+ghost use Rattle.bc_parse_tree.specs.View.{exp_view, exps_view, command_view, block_view, items_view, for_from};
+ghost use Rattle.bc_lex_tokens.specs.declared.symbol.Symbol.TheVariants as sign;
+ghost use Rattle.bc_parse_tree.specs.Tree as tree;
+ghost use Rattle.bc_parse_tree.specs.Spelling.{count};
+ghost use Rattle.bc_parse_defs.specs.Reading.{Expected, on, name_of, exps_read, piece, expect_of, exp_of};
+ghost use Rattle.bc_parse_defs.specs.Reading.{command_of, definition_of, repeated, repeat_turn, repeats_read};
+ghost use Rattle.bc_parse_defs.specs.Reading.{assigned_read, simple_read, tested_read, test_read, step_read, for_read};
+ghost use Rattle.bc_parse_defs.specs.Reading.{switch_read, compound_read, repeatable_read, command_read, call_in};
+ghost use Rattle.bc_parse_defs.specs.Reading.{do_read, body_read, word_in, simple_word_of, tested_command, places_read};
+ghost use Rattle.bc_parse_defs.specs.declared.words.Places.TheVariants as places_mode;
+ghost use Rattle.bc_parse_defs.specs.declared.words.RepeatWord.TheVariants as repeat_word;
+ghost use Rattle.bc_parse_defs.specs.declared.words.SimpleWord.TheVariants as simple_word;
+ghost use Rattle.bc_parse.specs.Seen.{◌~>◌, seen, read_view, box_view, list_view};
+ghost use Rattle.bc_parse.specs.Seen.{Reads, Takes, turn_height, exp_option};
 
-use crate::blocks::{block, body, do_body, places};
-use crate::cursor;
+use crate::blocks::{Parts, block, body, do_body, places};
 use crate::cursor::Rest;
 use crate::expressions::{exp, exp_apart, exp_count, exps};
 use crate::fault::ReadFault;
+use crate::read::{Answer, Read, Room, Turn};
+use crate::{apart, cursor};
 use bc_lex_tokens::Symbol;
 use bc_parse_defs::words;
 use bc_parse_defs::words::{CommandWord, Places, RepeatWord, SimpleWord, Tested};
-use bc_parse_tree::{Command, Exp};
-use std::alloc::Global;
+use bc_parse_tree::{Block, Command, Exp};
 
 /// A command.
 #[cycle(parser)]
 #[tactic(auto, unfolding(bc_parse_defs::specs::Reading::command_of))]
-pub fn command<'s, 't>(
-    alloc: Global,
-    nest: usize,
-    round: usize,
-    rest: Rest<'s, 't>,
-) -> Result<(Command<'s>, usize, Rest<'s, 't>), ReadFault>
-    ensures read { (n : ℕ) → nest + round ≤ n → ReadCommand result (command_of n nest round (seen rest.entry)) }
-    ensures low { IfOk result (λ x. x.1 ≤ nest) }
+pub fn command<'s, 't>(room: Room, rest: Rest<'s, 't>) -> Answer<'s, 't, Command<'s>>
+    ensures read { (n : ℕ) → room.nest + room.round ≤ n → Reads command_view result (command_of n room.nest room.round (seen rest.entry)) }
+    ensures low { IfOk result (λ x. x.height ≤ room.nest) }
 {
-    if nest == 0 {
+    if room.nest == 0 {
         return Err(ReadFault::TooDeep(rest.parts.len()));
     }
-    worded(alloc, nest, round, rest)
+    worded(room, rest)
 }
 
 #[cycle(parser)]
 #[tactic(auto, unfolding(bc_parse_defs::specs::Reading::command_read))]
-fn worded<'s, 't>(
-    alloc: Global,
-    nest: usize,
-    round: usize,
-    rest: Rest<'s, 't>,
-) -> Result<(Command<'s>, usize, Rest<'s, 't>), ReadFault>
-    requires { 0 < nest }
-    ensures read { (n : ℕ) → nest + round ≤ n + 1 → ReadCommand result (command_read (exp_of n) (command_of n) (definition_of n) nest round (seen rest.entry)) }
-    ensures low { IfOk result (λ x. x.1 ≤ nest) }
+fn worded<'s, 't>(room: Room, rest: Rest<'s, 't>) -> Answer<'s, 't, Command<'s>>
+    requires { 0 < room.nest }
+    ensures read { (n : ℕ) → room.nest + room.round ≤ n + 1 →
+        Reads command_view result (command_read (exp_of n) (command_of n) (definition_of n) room.nest room.round (seen rest.entry)) }
+    ensures low { IfOk result (λ x. x.height ≤ room.nest) }
 {
     match cursor::command_word(rest) {
-        None => repeatable(alloc, nest, round, rest),
-        Some((word, behind)) => compound(alloc, nest, round, word, behind),
+        None => repeatable(room, rest),
+        Some((word, behind)) => compound(room, word, behind),
     }
 }
 
 #[cycle(parser)]
 #[tactic(auto, unfolding(bc_parse_defs::specs::Reading::repeatable_read))]
-fn repeatable<'s, 't>(
-    alloc: Global,
-    nest: usize,
-    round: usize,
-    rest: Rest<'s, 't>,
-) -> Result<(Command<'s>, usize, Rest<'s, 't>), ReadFault>
-    requires { 0 < nest }
-    ensures read { (n : ℕ) → nest + round ≤ n + 1 → ReadCommand result (repeatable_read (exp_of n) (command_of n) (definition_of n) nest round (seen rest.entry)) }
-    ensures low { IfOk result (λ x. x.1 ≤ nest) }
+fn repeatable<'s, 't>(room: Room, rest: Rest<'s, 't>) -> Answer<'s, 't, Command<'s>>
+    requires { 0 < room.nest }
+    ensures read { (n : ℕ) → room.nest + room.round ≤ n + 1 →
+        Reads command_view result (repeatable_read (exp_of n) (command_of n) (definition_of n) room.nest room.round (seen rest.entry)) }
+    ensures low { IfOk result (λ x. x.height ≤ room.nest) }
 {
-    let (c, height, behind) = match cursor::simple_word(rest) {
-        None => assigned(alloc, nest, round, rest)?,
-        Some((word, behind)) => simple(alloc, nest, round, word, behind)?,
-    };
-    repeats(alloc, nest, round, c, height, behind)
+    let first = unrepeated(room, rest)?;
+    repeats(room, first)
+}
+
+/// A command that a REPEAT word may follow, without it.
+#[cycle(parser)]
+fn unrepeated<'s, 't>(room: Room, rest: Rest<'s, 't>) -> Answer<'s, 't, Command<'s>>
+    requires { 0 < room.nest }
+    ensures read { (n : ℕ) → room.nest + room.round ≤ n + 1 →
+        Reads command_view result
+        (on (word_in simple_word_of (seen rest.entry)) (assigned_read (exp_of n) (command_of n) (definition_of n) room.nest room.round (seen rest.entry))
+        (λ w. simple_read (exp_of n) (command_of n) (definition_of n) room.nest room.round w.0 w.1)) }
+    ensures low { IfOk result (λ x. x.height ≤ room.nest) }
+{
+    match cursor::simple_word(rest) {
+        None => assigned(room, rest),
+        Some((word, behind)) => simple(room, word, behind),
+    }
 }
 
 /// A command with the REPEAT words behind it.
 #[cycle(parser)]
-pub fn repeats<'s, 't>(
-    alloc: Global,
-    nest: usize,
-    round: usize,
-    first: Command<'s>,
-    first_height: usize,
-    rest: Rest<'s, 't>,
-) -> Result<(Command<'s>, usize, Rest<'s, 't>), ReadFault>
-    requires { first_height ≤ nest }
-    ensures read { (n : ℕ) → nest + round ≤ n + 1 → ReadCommand result (repeats_read (exp_of n) nest round (piece (command_view first.entry) first_height (seen rest.entry))) }
-    ensures low { IfOk result (λ x. x.1 ≤ nest) }
+pub fn repeats<'s, 't>(room: Room, first: Read<'s, 't, Command<'s>>) -> Answer<'s, 't, Command<'s>>
+    requires { first.height ≤ room.nest }
+    ensures read { (n : ℕ) → room.nest + room.round ≤ n + 1 →
+        Reads command_view result (repeats_read (exp_of n) room.nest room.round (read_view command_view first.entry)) }
+    ensures low { IfOk result (λ x. x.height ≤ room.nest) }
 {
-    let first = boxed(alloc, first)?;
-    let (whole, height, behind) = repeats_from(alloc, nest, round, first, first_height, rest)?;
-    Ok((Box::into_inner(whole), height, behind))
+    match cursor::repeat_word(first.rest) {
+        None => Ok(first),
+        Some(_) => repeats_apart(room, first),
+    }
+}
+
+/// The same where a REPEAT word stands behind the command.
+#[cycle(parser)]
+fn repeats_apart<'s, 't>(
+    room: Room,
+    first: Read<'s, 't, Command<'s>>,
+) -> Answer<'s, 't, Command<'s>>
+    requires { first.height ≤ room.nest }
+    ensures read { (n : ℕ) → room.nest + room.round ≤ n + 1 →
+        Reads command_view result (repeats_read (exp_of n) room.nest room.round (read_view command_view first.entry)) }
+    ensures low { IfOk result (λ x. x.height ≤ room.nest) }
+{
+    let height = first.height;
+    let rest = first.rest;
+    let tree = apart::command(room.alloc, first.tree)?;
+    let whole = repeats_from(room, Read { tree, height, rest })?;
+    Ok(Read {
+        tree: Box::into_inner(whole.tree),
+        height: whole.height,
+        rest: whole.rest,
+    })
 }
 
 /// The same of a command in memory of its own, as each REPEAT word wants it.
 #[cycle(parser)]
 #[tactic(auto, unfolding(bc_parse_defs::specs::Reading::repeats_read))]
 fn repeats_from<'s, 't>(
-    alloc: Global,
-    nest: usize,
-    round: usize,
-    first: Box<Command<'s>>,
-    first_height: usize,
-    rest: Rest<'s, 't>,
-) -> Result<(Box<Command<'s>>, usize, Rest<'s, 't>), ReadFault>
-    requires { first_height ≤ nest }
-    ensures read { (n : ℕ) → nest + round ≤ n + 1 → Gives (λ x. piece (command_view x.0.value) x.1 (seen x.2)) result (repeats_read (exp_of n) nest round (piece (command_view first.entry.value) first_height (seen rest.entry))) }
-    ensures low { IfOk result (λ x. x.1 ≤ nest) }
+    room: Room,
+    first: Read<'s, 't, Box<Command<'s>>>,
+) -> Answer<'s, 't, Box<Command<'s>>>
+    requires { first.height ≤ room.nest }
+    ensures read { (n : ℕ) → room.nest + room.round ≤ n + 1 →
+        Reads (box_view command_view) result (repeats_read (exp_of n) room.nest room.round (read_view (box_view command_view) first.entry)) }
+    ensures low { IfOk result (λ x. x.height ≤ room.nest) }
 {
+    let turns = first.rest.parts.len() + 1;
     let mut whole = first;
-    let mut height = first_height;
-    let mut behind = rest;
-    for _ in 0..rest.parts.len() + 1 {
-        let (c, h, then, is_last) = repeat_step(alloc, nest, round, whole, height, behind)?;
-        if is_last {
-            return Ok((c, h, then));
+    for _ in 0..turns {
+        match repeat_step(room, whole)? {
+            Turn::Last(found) => return Ok(found),
+            Turn::More(found) => whole = found,
         }
-        whole = c;
-        height = h;
-        behind = then;
     }
-    Err(ReadFault::Expected(behind.parts.len()))
+    Err(ReadFault::Expected(whole.rest.parts.len()))
 }
 
 #[cycle(parser)]
 #[tactic(auto, unfolding(bc_parse_defs::specs::Reading::repeat_turn))]
 fn repeat_step<'s, 't>(
-    alloc: Global,
-    nest: usize,
-    round: usize,
-    whole: Box<Command<'s>>,
-    height: usize,
-    rest: Rest<'s, 't>,
-) -> Result<(Box<Command<'s>>, usize, Rest<'s, 't>, bool), ReadFault>
-    requires { height ≤ nest }
-    ensures read { (n : ℕ) → nest + round ≤ n + 1 → CommandTurn result (repeat_turn (exp_of n) nest round (piece (command_view whole.entry.value) height (seen rest.entry))) }
-    ensures low { IfOk result (λ x. x.1 ≤ nest) }
+    room: Room,
+    whole: Read<'s, 't, Box<Command<'s>>>,
+) -> Result<Turn<'s, 't, Box<Command<'s>>>, ReadFault>
+    requires { whole.height ≤ room.nest }
+    ensures read { (n : ℕ) → room.nest + room.round ≤ n + 1 →
+        Takes (box_view command_view) result (repeat_turn (exp_of n) room.nest room.round (read_view (box_view command_view) whole.entry)) }
+    ensures low { IfOk result (λ x. turn_height x ≤ room.nest) }
 {
-    match cursor::repeat_word(rest) {
-        None => Ok((whole, height, rest, true)),
+    match cursor::repeat_word(whole.rest) {
+        None => Ok(Turn::Last(whole)),
         Some((word, behind)) => {
-            if height >= nest {
-                return Err(ReadFault::TooDeep(rest.parts.len()));
+            if whole.height >= room.nest {
+                return Err(ReadFault::TooDeep(whole.rest.parts.len()));
             }
-            repeat_by(alloc, nest, round, word, whole, height, behind)
+            repeat_by(room, word, whole, behind)
         }
+    }
+}
+
+#[cycle(parser)]
+fn repeat_by<'s, 't>(
+    room: Room,
+    word: RepeatWord,
+    whole: Read<'s, 't, Box<Command<'s>>>,
+    rest: Rest<'s, 't>,
+) -> Result<Turn<'s, 't, Box<Command<'s>>>, ReadFault>
+    requires { whole.height < room.nest }
+    ensures read { (n : ℕ) → room.nest + room.round ≤ n + 1 →
+        Takes (box_view command_view) result
+        (repeated (exp_of n) room.nest room.round word (read_view (box_view command_view) whole.entry) (seen rest.entry)) }
+    ensures low { IfOk result (λ x. turn_height x ≤ room.nest) }
+{
+    match word {
+        RepeatWord::Repeat => repeat_always(room, whole, rest),
+        RepeatWord::While => repeat_while(room, whole, rest),
+        RepeatWord::Until => repeat_until(room, whole, rest),
     }
 }
 
 #[cycle(parser)]
 #[tactic(auto, unfolding(bc_parse_defs::specs::Reading::repeated))]
-fn repeat_by<'s, 't>(
-    alloc: Global,
-    nest: usize,
-    round: usize,
-    word: RepeatWord,
-    whole: Box<Command<'s>>,
-    height: usize,
+fn repeat_while<'s, 't>(
+    room: Room,
+    whole: Read<'s, 't, Box<Command<'s>>>,
     rest: Rest<'s, 't>,
-) -> Result<(Box<Command<'s>>, usize, Rest<'s, 't>, bool), ReadFault>
-    requires { height < nest }
-    ensures read { (n : ℕ) → nest + round ≤ n + 1 → (us : List Part) → CommandTurn result (repeated (exp_of n) nest round word (piece (command_view whole.entry.value) height us) (seen rest.entry)) }
-    ensures low { IfOk result (λ x. x.1 ≤ nest) }
+) -> Result<Turn<'s, 't, Box<Command<'s>>>, ReadFault>
+    requires { whole.height < room.nest }
+    ensures read { (n : ℕ) → room.nest + room.round ≤ n + 1 →
+        Takes (box_view command_view) result
+        (repeated (exp_of n) room.nest room.round repeat_word.While (read_view (box_view command_view) whole.entry) (seen rest.entry)) }
+    ensures low { IfOk result (λ x. turn_height x ≤ room.nest) }
 {
-    match word {
-        RepeatWord::Repeat => {
-            Ok((
-                boxed(alloc, Command::Repeat(whole))?,
-                height + 1,
-                rest,
-                false,
-            ))
-        }
-        RepeatWord::While => {
-            let (test, h, behind) = exp(alloc, nest - 1, round, 1, rest)?;
-            Ok((
-                boxed(alloc, Command::RepeatWhile(whole, test))?,
-                height.max(h) + 1,
-                behind,
-                false,
-            ))
-        }
-        RepeatWord::Until => {
-            let (test, h, behind) = exp(alloc, nest - 1, round, 1, rest)?;
-            Ok((
-                boxed(alloc, Command::RepeatUntil(whole, test))?,
-                height.max(h) + 1,
-                behind,
-                false,
-            ))
-        }
-    }
+    let inner = Room {
+        nest: room.nest - 1,
+        ..room
+    };
+    let test = exp(inner, 1, rest)?;
+    let tree = apart::command(room.alloc, Command::RepeatWhile(whole.tree, test.tree))?;
+    Ok(Turn::More(Read {
+        tree,
+        height: whole.height.max(test.height) + 1,
+        rest: test.rest,
+    }))
+}
+
+#[cycle(parser)]
+#[tactic(auto, unfolding(bc_parse_defs::specs::Reading::repeated))]
+fn repeat_until<'s, 't>(
+    room: Room,
+    whole: Read<'s, 't, Box<Command<'s>>>,
+    rest: Rest<'s, 't>,
+) -> Result<Turn<'s, 't, Box<Command<'s>>>, ReadFault>
+    requires { whole.height < room.nest }
+    ensures read { (n : ℕ) → room.nest + room.round ≤ n + 1 →
+        Takes (box_view command_view) result
+        (repeated (exp_of n) room.nest room.round repeat_word.Until (read_view (box_view command_view) whole.entry) (seen rest.entry)) }
+    ensures low { IfOk result (λ x. turn_height x ≤ room.nest) }
+{
+    let inner = Room {
+        nest: room.nest - 1,
+        ..room
+    };
+    let test = exp(inner, 1, rest)?;
+    let tree = apart::command(room.alloc, Command::RepeatUntil(whole.tree, test.tree))?;
+    Ok(Turn::More(Read {
+        tree,
+        height: whole.height.max(test.height) + 1,
+        rest: test.rest,
+    }))
+}
+
+#[tactic(auto, unfolding(bc_parse_defs::specs::Reading::repeated))]
+fn repeat_always<'s, 't>(
+    room: Room,
+    whole: Read<'s, 't, Box<Command<'s>>>,
+    rest: Rest<'s, 't>,
+) -> Result<Turn<'s, 't, Box<Command<'s>>>, ReadFault>
+    requires { whole.height < room.nest }
+    ensures read { (n : ℕ) →
+        Takes (box_view command_view) result
+        (repeated (exp_of n) room.nest room.round repeat_word.Repeat (read_view (box_view command_view) whole.entry) (seen rest.entry)) }
+    ensures low { IfOk result (λ x. turn_height x ≤ room.nest) }
+{
+    let tree = apart::command(room.alloc, Command::Repeat(whole.tree))?;
+    Ok(Turn::More(Read {
+        tree,
+        height: whole.height + 1,
+        rest,
+    }))
 }
 
 /// An assignment or a call.
 #[cycle(parser)]
 #[tactic(auto, unfolding(bc_parse_defs::specs::Reading::assigned_read))]
-fn assigned<'s, 't>(
-    alloc: Global,
-    nest: usize,
-    round: usize,
-    rest: Rest<'s, 't>,
-) -> Result<(Command<'s>, usize, Rest<'s, 't>), ReadFault>
-    requires { 0 < nest }
-    ensures read { (n : ℕ) → nest + round ≤ n + 1 → ReadCommand result (assigned_read (exp_of n) (command_of n) (definition_of n) nest round (seen rest.entry)) }
-    ensures low { IfOk result (λ x. x.1 ≤ nest) }
+fn assigned<'s, 't>(room: Room, rest: Rest<'s, 't>) -> Answer<'s, 't, Command<'s>>
+    requires { 0 < room.nest }
+    ensures read { (n : ℕ) → room.nest + room.round ≤ n + 1 →
+        Reads command_view result (assigned_read (exp_of n) (command_of n) (definition_of n) room.nest room.round (seen rest.entry)) }
+    ensures low { IfOk result (λ x. x.height ≤ room.nest) }
 {
-    let (targets, height, behind) = exps(alloc, nest - 1, round, 1, rest.parts.len() + 1, rest)?;
-    match cursor::after(Symbol::Assign, behind) {
-        None => match one_call(targets) {
-            None => Err(ReadFault::Expected(behind.parts.len())),
-            Some((routine, found)) => Ok((Command::Call(routine, found), height + 1, behind)),
-        },
-        Some(then) => {
-            let limit = exp_count(&targets);
-            let (values, h, behind) = exps(alloc, nest - 1, round, 1, limit, then)?;
-            if exp_count(&values) != limit {
-                return Err(ReadFault::Expected(behind.parts.len()));
-            }
-            Ok((Command::Assign(targets, values), height.max(h) + 1, behind))
-        }
+    let inner = Room {
+        nest: room.nest - 1,
+        ..room
+    };
+    let targets = exps(inner, 1, rest.parts.len() + 1, rest)?;
+    match cursor::after(Symbol::Assign, targets.rest) {
+        None => call_of(room, targets),
+        Some(then) => assignment(room, targets, then),
+    }
+}
+
+/// What stands before an `:=` that is not there: one call.
+#[tactic(auto, using(crate::proofs::Views::call_view))]
+fn call_of<'s, 't>(room: Room, found: Read<'s, 't, Vec<Exp<'s>>>) -> Answer<'s, 't, Command<'s>>
+    requires { found.height < room.nest }
+    ensures read { Reads command_view result
+        (on (call_in (exps_view found.entry.tree.items)) (Err (Expected (length (seen found.entry.rest))))
+        (λ c. Ok (piece (tree.Do c.0 c.1) (found.entry.height + 1) (seen found.entry.rest)))) }
+    ensures low { IfOk result (λ x. x.height ≤ room.nest) }
+{
+    match one_call(found.tree) {
+        None => Err(ReadFault::Expected(found.rest.parts.len())),
+        Some((routine, arguments)) => Ok(Read {
+            tree: Command::Call(routine, arguments),
+            height: found.height + 1,
+            rest: found.rest,
+        }),
     }
 }
 
@@ -234,180 +308,383 @@ fn one_call<'s>(list: Vec<Exp<'s>>) -> Option<(Box<Exp<'s>>, Vec<Exp<'s>>)>
     }
 }
 
-/// A command in memory of its own.
-fn boxed<'s>(alloc: Global, command: Command<'s>) -> Result<Box<Command<'s>>, ReadFault>
-    ensures { Gives (λ x. command_view x.value) result (Ok (command_view command.entry)) }
+/// An assignment, behind its sign.
+#[cycle(parser)]
+#[tactic(auto, using(crate::proofs::Views::assign_view))]
+fn assignment<'s, 't>(
+    room: Room,
+    targets: Read<'s, 't, Vec<Exp<'s>>>,
+    rest: Rest<'s, 't>,
+) -> Answer<'s, 't, Command<'s>>
+    requires { targets.height < room.nest }
+    ensures read { (n : ℕ) → room.nest + room.round ≤ n + 1 →
+        Reads command_view result
+        (exps_read (exp_of n) (room.nest - 1) room.round 1 (count (exps_view targets.entry.tree.items)) (seen rest.entry) ~> λ es.
+        if count es.tree == count (exps_view targets.entry.tree.items)
+        then Ok (piece (tree.Assign (exps_view targets.entry.tree.items) es.tree) (max targets.entry.height es.height + 1) es.rest)
+        else Err (Expected (length es.rest))) }
+    ensures low { IfOk result (λ x. x.height ≤ room.nest) }
 {
-    Ok(Box::new(alloc, command)?)
+    let inner = Room {
+        nest: room.nest - 1,
+        ..room
+    };
+    let limit = exp_count(&targets.tree);
+    let values = exps(inner, 1, limit, rest)?;
+    if exp_count(&values.tree) != limit {
+        return Err(ReadFault::Expected(values.rest.parts.len()));
+    }
+    let tree = Command::Assign(targets.tree, values.tree);
+    let height = targets.height.max(values.height) + 1;
+    Ok(Read {
+        tree,
+        height,
+        rest: values.rest,
+    })
 }
 
 #[cycle(parser)]
 #[tactic(auto, unfolding(bc_parse_defs::specs::Reading::simple_read))]
-fn simple<'s, 't>(
-    alloc: Global,
-    nest: usize,
-    round: usize,
-    word: SimpleWord,
-    rest: Rest<'s, 't>,
-) -> Result<(Command<'s>, usize, Rest<'s, 't>), ReadFault>
-    requires { 0 < nest }
-    ensures read { (n : ℕ) → nest + round ≤ n + 1 → ReadCommand result (simple_read (exp_of n) (command_of n) (definition_of n) nest round word (seen rest.entry)) }
-    ensures low { IfOk result (λ x. x.1 ≤ nest) }
+fn simple<'s, 't>(room: Room, word: SimpleWord, rest: Rest<'s, 't>) -> Answer<'s, 't, Command<'s>>
+    requires { 0 < room.nest }
+    ensures read { (n : ℕ) → room.nest + room.round ≤ n + 1 →
+        Reads command_view result (simple_read (exp_of n) (command_of n) (definition_of n) room.nest room.round word (seen rest.entry)) }
+    ensures low { IfOk result (λ x. x.height ≤ room.nest) }
 {
     match word {
-        SimpleWord::Block => {
-            let (inner, height, behind) = block(alloc, nest - 1, round, rest)?;
-            Ok((Command::Block(inner), height + 1, behind))
-        }
-        SimpleWord::Break => Ok((Command::Break, 1, rest)),
-        SimpleWord::Loop => Ok((Command::Loop, 1, rest)),
-        SimpleWord::EndCase => Ok((Command::EndCase, 1, rest)),
-        SimpleWord::Return => Ok((Command::Return, 1, rest)),
-        SimpleWord::Finish => Ok((Command::Finish, 1, rest)),
-        SimpleWord::ResultIs => {
-            let (value, height, behind) = exp(alloc, nest - 1, round, 1, rest)?;
-            Ok((Command::ResultIs(value), height + 1, behind))
-        }
-        SimpleWord::Goto => {
-            let (name, behind) = cursor::name(rest)?;
-            Ok((Command::Goto(name), 1, behind))
-        }
+        SimpleWord::Block => compound_command(room, rest),
+        SimpleWord::Break => Ok(alone(Command::Break, rest)),
+        SimpleWord::Loop => Ok(alone(Command::Loop, rest)),
+        SimpleWord::EndCase => Ok(alone(Command::EndCase, rest)),
+        SimpleWord::Return => Ok(alone(Command::Return, rest)),
+        SimpleWord::Finish => Ok(alone(Command::Finish, rest)),
+        SimpleWord::ResultIs => result_is(room, rest),
+        SimpleWord::Goto => goto(rest),
     }
+}
+
+/// A command in which no other tree stands.
+fn alone<'s, 't>(tree: Command<'s>, rest: Rest<'s, 't>) -> Read<'s, 't, Command<'s>>
+    ensures read { read_view command_view result ≡ piece (command_view tree.entry) 1 (seen rest.entry) }
+    ensures height { result.height ≡ 1 }
+{
+    Read {
+        tree,
+        height: 1,
+        rest,
+    }
+}
+
+#[cycle(parser)]
+#[tactic(auto, unfolding(bc_parse_defs::specs::Reading::simple_read))]
+fn compound_command<'s, 't>(room: Room, rest: Rest<'s, 't>) -> Answer<'s, 't, Command<'s>>
+    requires { 0 < room.nest }
+    ensures read { (n : ℕ) → room.nest + room.round ≤ n + 1 →
+        Reads command_view result (simple_read (exp_of n) (command_of n) (definition_of n) room.nest room.round simple_word.Block (seen rest.entry)) }
+    ensures low { IfOk result (λ x. x.height ≤ room.nest) }
+{
+    let inner = Room {
+        nest: room.nest - 1,
+        ..room
+    };
+    let found = block(inner, rest)?;
+    let tree = Command::Block(found.tree);
+    Ok(Read {
+        tree,
+        height: found.height + 1,
+        rest: found.rest,
+    })
+}
+
+#[cycle(parser)]
+#[tactic(auto, unfolding(bc_parse_defs::specs::Reading::simple_read))]
+fn result_is<'s, 't>(room: Room, rest: Rest<'s, 't>) -> Answer<'s, 't, Command<'s>>
+    requires { 0 < room.nest }
+    ensures read { (n : ℕ) → room.nest + room.round ≤ n + 1 →
+        Reads command_view result (simple_read (exp_of n) (command_of n) (definition_of n) room.nest room.round simple_word.ResultIs (seen rest.entry)) }
+    ensures low { IfOk result (λ x. x.height ≤ room.nest) }
+{
+    let inner = Room {
+        nest: room.nest - 1,
+        ..room
+    };
+    let value = exp(inner, 1, rest)?;
+    let tree = Command::ResultIs(value.tree);
+    Ok(Read {
+        tree,
+        height: value.height + 1,
+        rest: value.rest,
+    })
+}
+
+fn goto<'s, 't>(rest: Rest<'s, 't>) -> Answer<'s, 't, Command<'s>>
+    ensures read { Reads command_view result (name_of (seen rest.entry) ~> λ n. Ok (piece (tree.Goto n.0) 1 n.1)) }
+    ensures low { (m : ℕ) → 0 < m → IfOk result (λ x. x.height ≤ m) }
+{
+    let (name, rest) = cursor::name(rest)?;
+    Ok(alone(Command::Goto(name), rest))
 }
 
 #[cycle(parser)]
 #[tactic(auto, unfolding(bc_parse_defs::specs::Reading::compound_read))]
 fn compound<'s, 't>(
-    alloc: Global,
-    nest: usize,
-    round: usize,
+    room: Room,
     word: CommandWord,
     rest: Rest<'s, 't>,
-) -> Result<(Command<'s>, usize, Rest<'s, 't>), ReadFault>
-    requires { 0 < nest }
-    ensures read { (n : ℕ) → nest + round ≤ n + 1 → ReadCommand result (compound_read (exp_of n) (command_of n) (definition_of n) nest round word (seen rest.entry)) }
-    ensures low { IfOk result (λ x. x.1 ≤ nest) }
+) -> Answer<'s, 't, Command<'s>>
+    requires { 0 < room.nest }
+    ensures read { (n : ℕ) → room.nest + room.round ≤ n + 1 →
+        Reads command_view result (compound_read (exp_of n) (command_of n) (definition_of n) room.nest room.round word (seen rest.entry)) }
+    ensures low { IfOk result (λ x. x.height ≤ room.nest) }
 {
     match word {
-        CommandWord::Tested(word) => tested(alloc, nest, round, word, rest),
-        CommandWord::Test => test(alloc, nest, round, rest),
-        CommandWord::For => for_command(alloc, nest, round, rest),
-        CommandWord::SwitchOn => switch_on(alloc, nest, round, rest),
+        CommandWord::Tested(word) => tested(room, word, rest),
+        CommandWord::Test => test(room, rest),
+        CommandWord::For => for_command(room, rest),
+        CommandWord::SwitchOn => switch_on(room, rest),
     }
 }
 
 #[cycle(parser)]
 #[tactic(auto, unfolding(bc_parse_defs::specs::Reading::tested_read))]
-fn tested<'s, 't>(
-    alloc: Global,
-    nest: usize,
-    round: usize,
-    word: Tested,
-    rest: Rest<'s, 't>,
-) -> Result<(Command<'s>, usize, Rest<'s, 't>), ReadFault>
-    requires { 0 < nest }
-    ensures read { (n : ℕ) → nest + round ≤ n + 1 → ReadCommand result (tested_read (exp_of n) (command_of n) (definition_of n) word nest round (seen rest.entry)) }
-    ensures low { IfOk result (λ x. x.1 ≤ nest) }
+fn tested<'s, 't>(room: Room, word: Tested, rest: Rest<'s, 't>) -> Answer<'s, 't, Command<'s>>
+    requires { 0 < room.nest }
+    ensures read { (n : ℕ) → room.nest + room.round ≤ n + 1 →
+        Reads command_view result (tested_read (exp_of n) (command_of n) (definition_of n) word room.nest room.round (seen rest.entry)) }
+    ensures low { IfOk result (λ x. x.height ≤ room.nest) }
 {
-    let (test, h, behind) = exp(alloc, nest - 1, round, 1, rest)?;
-    let (found, height, behind) = do_body(alloc, nest - 1, round, behind)?;
-    let height = h.max(height) + 1;
-    Ok(match word {
-        Tested::If => (Command::If(test, found), height, behind),
-        Tested::Unless => (Command::Unless(test, found), height, behind),
-        Tested::While => (Command::While(test, found), height, behind),
-        Tested::Until => (Command::Until(test, found), height, behind),
+    let inner = Room {
+        nest: room.nest - 1,
+        ..room
+    };
+    let test = exp_apart(inner, 1, rest)?;
+    let found = do_body(inner, test.rest)?;
+    let tree = tested_of(word, test.tree, found.tree);
+    Ok(Read {
+        tree,
+        height: test.height.max(found.height) + 1,
+        rest: found.rest,
     })
+}
+
+/// IF, UNLESS, WHILE or UNTIL.
+fn tested_of<'s>(word: Tested, test: Box<Exp<'s>>, body: Block<'s>) -> Command<'s>
+    ensures { command_view result ≡ tested_command word (exp_view test.entry.value) (block_view body.entry) }
+{
+    let test = Box::into_inner(test);
+    match word {
+        Tested::If => Command::If(test, body),
+        Tested::Unless => Command::Unless(test, body),
+        Tested::While => Command::While(test, body),
+        Tested::Until => Command::Until(test, body),
+    }
 }
 
 #[cycle(parser)]
 #[tactic(auto, unfolding(bc_parse_defs::specs::Reading::test_read))]
-fn test<'s, 't>(
-    alloc: Global,
-    nest: usize,
-    round: usize,
-    rest: Rest<'s, 't>,
-) -> Result<(Command<'s>, usize, Rest<'s, 't>), ReadFault>
-    requires { 0 < nest }
-    ensures read { (n : ℕ) → nest + round ≤ n + 1 → ReadCommand result (test_read (exp_of n) (command_of n) (definition_of n) nest round (seen rest.entry)) }
-    ensures low { IfOk result (λ x. x.1 ≤ nest) }
+fn test<'s, 't>(room: Room, rest: Rest<'s, 't>) -> Answer<'s, 't, Command<'s>>
+    requires { 0 < room.nest }
+    ensures read { (n : ℕ) → room.nest + room.round ≤ n + 1 →
+        Reads command_view result (test_read (exp_of n) (command_of n) (definition_of n) room.nest room.round (seen rest.entry)) }
+    ensures low { IfOk result (λ x. x.height ≤ room.nest) }
 {
-    let (test, h, behind) = exp_apart(alloc, nest - 1, round, 1, rest)?;
-    let (this, this_height, behind) = do_body(alloc, nest - 1, round, behind)?;
-    let behind = cursor::expect(Symbol::Else, behind)?;
-    let (that, that_height, behind) = body(alloc, nest - 1, round, behind)?;
-    Ok((
-        Command::Test { test, this, that },
-        h.max(this_height).max(that_height) + 1,
-        behind,
-    ))
+    let inner = Room {
+        nest: room.nest - 1,
+        ..room
+    };
+    let test = exp_apart(inner, 1, rest)?;
+    let this = do_body(inner, test.rest)?;
+    test_else(room, test, this)
+}
+
+/// The other body of a TEST.
+#[cycle(parser)]
+fn test_else<'s, 't>(
+    room: Room,
+    test: Read<'s, 't, Box<Exp<'s>>>,
+    this: Read<'s, 't, Block<'s>>,
+) -> Answer<'s, 't, Command<'s>>
+    requires test { test.height < room.nest }
+    requires this { this.height < room.nest }
+    ensures read { (n : ℕ) → room.nest + room.round ≤ n + 1 →
+        Reads command_view result (expect_of sign.Else (seen this.entry.rest) ~> λ behind.
+        body_read (exp_of n) (command_of n) (definition_of n) (room.nest - 1) room.round behind ~> λ d.
+        Ok (piece (tree.Test (exp_view test.entry.tree.value) (block_view this.entry.tree) d.tree)
+        (max (max test.entry.height this.entry.height) d.height + 1) d.rest)) }
+    ensures low { IfOk result (λ x. x.height ≤ room.nest) }
+{
+    let inner = Room {
+        nest: room.nest - 1,
+        ..room
+    };
+    let rest = cursor::expect(Symbol::Else, this.rest)?;
+    let that = body(inner, rest)?;
+    Ok(Read {
+        tree: test_of(test.tree, this.tree, that.tree),
+        height: test.height.max(this.height).max(that.height) + 1,
+        rest: that.rest,
+    })
+}
+
+fn test_of<'s>(test: Box<Exp<'s>>, this: Block<'s>, that: Block<'s>) -> Command<'s>
+    ensures { command_view result ≡ tree.Test (exp_view test.entry.value) (block_view this.entry) (block_view that.entry) }
+{
+    Command::Test { test, this, that }
 }
 
 #[cycle(parser)]
 #[tactic(auto, unfolding(bc_parse_defs::specs::Reading::step_read))]
-fn step<'s, 't>(
-    alloc: Global,
-    nest: usize,
-    round: usize,
-    rest: Rest<'s, 't>,
-) -> Result<(Option<Box<Exp<'s>>>, usize, Rest<'s, 't>), ReadFault>
-    ensures read { (n : ℕ) → nest + round ≤ n → ReadStep result (step_read (exp_of n) (command_of n) (definition_of n) nest round (seen rest.entry)) }
-    ensures low { IfOk result (λ x. x.1 ≤ nest) }
+fn step<'s, 't>(room: Room, rest: Rest<'s, 't>) -> Answer<'s, 't, Option<Box<Exp<'s>>>>
+    ensures read { (n : ℕ) → room.nest + room.round ≤ n →
+        Reads exp_option result (step_read (exp_of n) (command_of n) (definition_of n) room.nest room.round (seen rest.entry)) }
+    ensures low { IfOk result (λ x. x.height ≤ room.nest) }
 {
     match cursor::after(Symbol::By, rest) {
-        None => Ok((None, 0, rest)),
+        None => Ok(Read {
+            tree: None,
+            height: 0,
+            rest,
+        }),
         Some(then) => {
-            let (value, height, behind) = exp_apart(alloc, nest, round, 2, then)?;
-            Ok((Some(value), height, behind))
+            let value = exp_apart(room, 2, then)?;
+            Ok(Read {
+                tree: Some(value.tree),
+                height: value.height,
+                rest: value.rest,
+            })
         }
     }
 }
 
 #[cycle(parser)]
 #[tactic(auto, unfolding(bc_parse_defs::specs::Reading::for_read))]
-fn for_command<'s, 't>(
-    alloc: Global,
-    nest: usize,
-    round: usize,
-    rest: Rest<'s, 't>,
-) -> Result<(Command<'s>, usize, Rest<'s, 't>), ReadFault>
-    requires { 0 < nest }
-    ensures read { (n : ℕ) → nest + round ≤ n + 1 → ReadCommand result (for_read (exp_of n) (command_of n) (definition_of n) nest round (seen rest.entry)) }
-    ensures low { IfOk result (λ x. x.1 ≤ nest) }
+fn for_command<'s, 't>(room: Room, rest: Rest<'s, 't>) -> Answer<'s, 't, Command<'s>>
+    requires { 0 < room.nest }
+    ensures read { (n : ℕ) → room.nest + room.round ≤ n + 1 →
+        Reads command_view result (for_read (exp_of n) (command_of n) (definition_of n) room.nest room.round (seen rest.entry)) }
+    ensures low { IfOk result (λ x. x.height ≤ room.nest) }
 {
-    let (variable, behind) = cursor::name(rest)?;
-    let behind = cursor::expect(Symbol::Equal, behind)?;
-    let (start, start_height, behind) = exp_apart(alloc, nest - 1, round, 1, behind)?;
-    let behind = cursor::expect(Symbol::To, behind)?;
-    let (limit, limit_height, behind) = exp_apart(alloc, nest - 1, round, 1, behind)?;
-    let (step, step_height, behind) = step(alloc, nest - 1, round, behind)?;
-    let (body, height, behind) = do_body(alloc, nest - 1, round, behind)?;
-    let height = start_height.max(limit_height).max(step_height).max(height) + 1;
-    let command = Command::For {
-        variable,
-        start,
-        limit,
-        step,
-        body,
+    let inner = Room {
+        nest: room.nest - 1,
+        ..room
     };
-    Ok((command, height, behind))
+    let (variable, rest) = cursor::name(rest)?;
+    let rest = cursor::expect(Symbol::Equal, rest)?;
+    let start = exp_apart(inner, 1, rest)?;
+    for_to(room, variable, start)
+}
+
+/// A FOR from its TO on.
+#[cycle(parser)]
+fn for_to<'s, 't>(
+    room: Room,
+    variable: &'s [u8],
+    start: Read<'s, 't, Box<Exp<'s>>>,
+) -> Answer<'s, 't, Command<'s>>
+    requires { start.height < room.nest }
+    ensures read { (n : ℕ) → room.nest + room.round ≤ n + 1 →
+        Reads command_view result (expect_of sign.To (seen start.entry.rest) ~> λ last.
+        exp_of n (room.nest - 1) room.round 1 last ~> λ z.
+        step_read (exp_of n) (command_of n) (definition_of n) (room.nest - 1) room.round z.rest ~> λ k.
+        do_read (exp_of n) (command_of n) (definition_of n) (room.nest - 1) room.round k.rest ~> λ b.
+        Ok (piece (for_from variable.entry.now (exp_view start.entry.tree.value) z.tree k.tree b.tree)
+        (max (max (max start.entry.height z.height) k.height) b.height + 1) b.rest)) }
+    ensures low { IfOk result (λ x. x.height ≤ room.nest) }
+{
+    let inner = Room {
+        nest: room.nest - 1,
+        ..room
+    };
+    let rest = cursor::expect(Symbol::To, start.rest)?;
+    let limit = exp_apart(inner, 1, rest)?;
+    for_by(room, variable, start, limit)
+}
+
+/// A FOR from its step on.
+#[cycle(parser)]
+fn for_by<'s, 't>(
+    room: Room,
+    variable: &'s [u8],
+    start: Read<'s, 't, Box<Exp<'s>>>,
+    limit: Read<'s, 't, Box<Exp<'s>>>,
+) -> Answer<'s, 't, Command<'s>>
+    requires start { start.height < room.nest }
+    requires limit { limit.height < room.nest }
+    ensures read { (n : ℕ) → room.nest + room.round ≤ n + 1 →
+        Reads command_view result
+        (step_read (exp_of n) (command_of n) (definition_of n) (room.nest - 1) room.round (seen limit.entry.rest) ~> λ k.
+        do_read (exp_of n) (command_of n) (definition_of n) (room.nest - 1) room.round k.rest ~> λ b.
+        Ok (piece (for_from variable.entry.now (exp_view start.entry.tree.value) (exp_view limit.entry.tree.value) k.tree b.tree)
+        (max (max (max start.entry.height limit.entry.height) k.height) b.height + 1) b.rest)) }
+    ensures low { IfOk result (λ x. x.height ≤ room.nest) }
+{
+    let inner = Room {
+        nest: room.nest - 1,
+        ..room
+    };
+    let step = step(inner, limit.rest)?;
+    let found = do_body(inner, step.rest)?;
+    let height = start.height.max(limit.height).max(step.height);
+    let tree = Command::For {
+        variable,
+        start: start.tree,
+        limit: limit.tree,
+        step: step.tree,
+        body: found.tree,
+    };
+    Ok(Read {
+        tree,
+        height: height.max(found.height) + 1,
+        rest: found.rest,
+    })
 }
 
 #[cycle(parser)]
 #[tactic(auto, unfolding(bc_parse_defs::specs::Reading::switch_read))]
-fn switch_on<'s, 't>(
-    alloc: Global,
-    nest: usize,
-    round: usize,
-    rest: Rest<'s, 't>,
-) -> Result<(Command<'s>, usize, Rest<'s, 't>), ReadFault>
-    requires { 0 < nest }
-    ensures read { (n : ℕ) → nest + round ≤ n + 1 → ReadCommand result (switch_read (exp_of n) (command_of n) (definition_of n) nest round (seen rest.entry)) }
-    ensures low { IfOk result (λ x. x.1 ≤ nest) }
+fn switch_on<'s, 't>(room: Room, rest: Rest<'s, 't>) -> Answer<'s, 't, Command<'s>>
+    requires { 0 < room.nest }
+    ensures read { (n : ℕ) → room.nest + room.round ≤ n + 1 →
+        Reads command_view result (switch_read (exp_of n) (command_of n) (definition_of n) room.nest room.round (seen rest.entry)) }
+    ensures low { IfOk result (λ x. x.height ≤ room.nest) }
 {
-    let (value, h, behind) = exp(alloc, nest - 1, round, 1, rest)?;
-    let behind = cursor::expect(Symbol::Into, behind)?;
-    let behind = cursor::expect(Symbol::OpenSection, behind)?;
-    let (_, items, height, behind) = places(alloc, nest - 1, round, Places::Cases, behind)?;
-    Ok((Command::SwitchOn(value, items), h.max(height) + 1, behind))
+    let inner = Room {
+        nest: room.nest - 1,
+        ..room
+    };
+    let value = exp_apart(inner, 1, rest)?;
+    let rest = cursor::expect(Symbol::Into, value.rest)?;
+    switch_cases(room, value, rest)
+}
+
+/// The cases of a SWITCHON, with the section bracket before them.
+#[cycle(parser)]
+fn switch_cases<'s, 't>(
+    room: Room,
+    value: Read<'s, 't, Box<Exp<'s>>>,
+    rest: Rest<'s, 't>,
+) -> Answer<'s, 't, Command<'s>>
+    requires { value.height < room.nest }
+    ensures read { (n : ℕ) → room.nest + room.round ≤ n + 1 →
+        Reads command_view result (expect_of sign.OpenSection (seen rest.entry) ~> λ inner.
+        places_read (exp_of n) (command_of n) (definition_of n) places_mode.Cases (room.nest - 1) room.round inner ~> λ p.
+        Ok (piece (tree.SwitchOn (exp_view value.entry.tree.value) p.tree.1) (max value.entry.height p.height + 1) p.rest)) }
+    ensures low { IfOk result (λ x. x.height ≤ room.nest) }
+{
+    let inner = Room {
+        nest: room.nest - 1,
+        ..room
+    };
+    let rest = cursor::expect(Symbol::OpenSection, rest)?;
+    let found = places(inner, Places::Cases, rest)?;
+    Ok(Read {
+        tree: switch_of(value.tree, found.tree),
+        height: value.height.max(found.height) + 1,
+        rest: found.rest,
+    })
+}
+
+fn switch_of<'s>(value: Box<Exp<'s>>, found: Parts<'s>) -> Command<'s>
+    ensures { command_view result ≡ tree.SwitchOn (exp_view value.entry.value) (items_view found.entry.items.items) }
+{
+    Command::SwitchOn(Box::into_inner(value), found.items)
 }

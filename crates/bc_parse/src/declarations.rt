@@ -1,275 +1,399 @@
 //! Declarations and definitions.
-ghost use Rattle.std.specs.Prelude.{◌+◌, ◌<◌, ◌≤◌, ℕ, IfOk};
-ghost use Rattle.bc_parse_tree.specs.View.{definitions_view, entries_view};
-ghost use Rattle.bc_parse_defs.specs.Reading.{piece, exp_of, command_of, definition_of, entry_read, entry_turn, entries_read, definition_turn, definitions_read, declaration_read, variables_read, vector_read, routine_read, defined_read};
-ghost use Rattle.bc_parse.specs.Seen.{seen, ReadEntries, EntriesTurn, ReadDefinition, ReadDefinitions, DefinitionsTurn, ReadDeclaration};
+ghost use Rattle.std.specs.Prelude.{◌≡◌, ◌+◌, ◌-◌, ◌<◌, ◌≤◌, ◌==◌, if◌then◌else◌, ℕ, length, max, Ok, Err, IfOk};
+ghost use Rattle.bc_lex_tokens.specs.declared.symbol.Symbol.TheVariants as sign;
+ghost use Rattle.bc_parse_tree.specs.Tree as tree;
+ghost use Rattle.bc_parse_tree.specs.Spelling.{add_entry, count};
+ghost use Rattle.bc_parse_defs.specs.declared.words.Places.TheVariants as places_mode;
+ghost use Rattle.bc_parse_tree.specs.View.{declaration_view, definition_view, definitions_view, entries_view};
+ghost use Rattle.bc_parse_defs.specs.Reading.{Expected, exps_read, piece, moved, place_end, expect_of, body_read, exp_of, command_of};
+ghost use Rattle.bc_parse_defs.specs.Reading.{definition_of, entry_read, entry_turn, entries_read, definition_turn};
+ghost use Rattle.bc_parse_defs.specs.Reading.{definitions_read, declaration_read, variables_read, vector_read};
+ghost use Rattle.bc_parse_defs.specs.Reading.{routine_read, defined_read};
+ghost use Rattle.bc_parse_defs.specs.declared.words.DeclarationWord.TheVariants as declaration_word;
+ghost use Rattle.bc_parse.specs.Names.{names_view};
+ghost use Rattle.bc_parse.specs.Seen.{◌~>◌, seen, read_view, list_view, Reads, Takes, turn_height};
 
-use crate::blocks::{body, place_end_at};
-use crate::cursor;
+use crate::blocks::{PlaceEnd, body, place_end_at};
 use crate::cursor::{Rest, ShapeAt};
 use crate::expressions::{exp, exp_count, exps};
 use crate::fault::ReadFault;
 use crate::names::{name_count, names, parameters};
+use crate::read::{Answer, Read, Room, Turn};
+use crate::{apart, cursor};
 use bc_lex_tokens::Symbol;
 use bc_parse_defs::words::{DeclarationWord, Places};
-use bc_parse_tree::{Constant, Declaration, Definition};
-use std::alloc::Global;
+use bc_parse_tree::{Constant, Declaration, Definition, Storage};
 
 /// A declaration, behind its word.
 #[cycle(parser)]
-#[tactic(auto, unfolding(bc_parse_defs::specs::Reading::declaration_read))]
 pub fn declaration<'s, 't>(
-    alloc: Global,
-    nest: usize,
-    round: usize,
+    room: Room,
     word: DeclarationWord,
     rest: Rest<'s, 't>,
-) -> Result<(Declaration<'s>, usize, Rest<'s, 't>), ReadFault>
-    ensures read { (n : ℕ) → nest + round ≤ n → ReadDeclaration result (declaration_read (exp_of n) (command_of n) (definition_of n) nest round word (seen rest.entry)) }
-    ensures low { IfOk result (λ x. x.1 ≤ nest) }
+) -> Answer<'s, 't, Declaration<'s>>
+    ensures read { (n : ℕ) → room.nest + room.round ≤ n →
+        Reads declaration_view result (declaration_read (exp_of n) (command_of n) (definition_of n) room.nest room.round word (seen rest.entry)) }
+    ensures low { IfOk result (λ x. x.height ≤ room.nest) }
 {
     match word {
-        DeclarationWord::Let => {
-            let (found, height, behind) = definitions(alloc, nest, round, rest)?;
-            Ok((Declaration::Let(found), height, behind))
-        }
-        DeclarationWord::Constants(storage) => {
-            let behind = cursor::expect(Symbol::OpenSection, rest)?;
-            let (found, height, behind) = entries(alloc, nest, round, behind)?;
-            Ok((Declaration::Constants(storage, found), height, behind))
-        }
+        DeclarationWord::Let => let_declaration(room, rest),
+        DeclarationWord::Constants(storage) => constants(room, storage, rest),
     }
+}
+
+/// The definitions of a LET.
+#[cycle(parser)]
+#[tactic(auto, unfolding(bc_parse_defs::specs::Reading::declaration_read))]
+fn let_declaration<'s, 't>(room: Room, rest: Rest<'s, 't>) -> Answer<'s, 't, Declaration<'s>>
+    ensures read { (n : ℕ) → room.nest + room.round ≤ n →
+        Reads declaration_view result
+        (declaration_read (exp_of n) (command_of n) (definition_of n) room.nest room.round declaration_word.Let (seen rest.entry)) }
+    ensures low { IfOk result (λ x. x.height ≤ room.nest) }
+{
+    let found = definitions(room, rest)?;
+    let tree = Declaration::Let(found.tree);
+    Ok(Read {
+        tree,
+        height: found.height,
+        rest: found.rest,
+    })
+}
+
+/// Constants of this storage.
+#[cycle(parser)]
+#[tactic(auto, unfolding(bc_parse_defs::specs::Reading::declaration_read))]
+fn constants<'s, 't>(
+    room: Room,
+    storage: Storage,
+    rest: Rest<'s, 't>,
+) -> Answer<'s, 't, Declaration<'s>>
+    ensures read { (n : ℕ) → room.nest + room.round ≤ n →
+        Reads declaration_view result
+        (declaration_read (exp_of n) (command_of n) (definition_of n) room.nest room.round (declaration_word.Constants storage) (seen rest.entry)) }
+    ensures low { IfOk result (λ x. x.height ≤ room.nest) }
+{
+    let rest = cursor::expect(Symbol::OpenSection, rest)?;
+    let found = entries(room, rest)?;
+    let tree = Declaration::Constants(storage, found.tree);
+    Ok(Read {
+        tree,
+        height: found.height,
+        rest: found.rest,
+    })
 }
 
 /// Names with their constants, up to the section bracket.
 #[cycle(parser)]
 #[tactic(auto, unfolding(bc_parse_defs::specs::Reading::entries_read))]
-fn entries<'s, 't>(
-    alloc: Global,
-    nest: usize,
-    round: usize,
-    rest: Rest<'s, 't>,
-) -> Result<(Vec<Constant<'s>>, usize, Rest<'s, 't>), ReadFault>
-    ensures read { (n : ℕ) → nest + round ≤ n → ReadEntries result (entries_read (exp_of n) nest round (seen rest.entry)) }
-    ensures low { IfOk result (λ x. x.1 ≤ nest) }
+fn entries<'s, 't>(room: Room, rest: Rest<'s, 't>) -> Answer<'s, 't, Vec<Constant<'s>>>
+    ensures read { (n : ℕ) → room.nest + room.round ≤ n →
+        Reads (list_view entries_view) result (entries_read (exp_of n) room.nest room.round (seen rest.entry)) }
+    ensures low { IfOk result (λ x. x.height ≤ room.nest) }
 {
-    let mut found = Vec::new(alloc);
-    let mut height = 0usize;
-    let mut behind = rest;
+    let mut found = Read {
+        tree: Vec::new(room.alloc),
+        height: 0,
+        rest,
+    };
     for _ in 0..rest.parts.len() + 1 {
-        let (list, h, then, is_last) = entry_step(alloc, nest, round, found, height, behind)?;
-        if is_last {
-            return Ok((list, h, then));
+        match entry_step(room, found)? {
+            Turn::Last(list) => return Ok(list),
+            Turn::More(list) => found = list,
         }
-        found = list;
-        height = h;
-        behind = then;
     }
-    Err(ReadFault::Expected(behind.parts.len()))
+    Err(apart::spent(found))
 }
 
 #[cycle(parser)]
 #[tactic(auto, unfolding(bc_parse_defs::specs::Reading::entry_turn))]
 fn entry_step<'s, 't>(
-    alloc: Global,
-    nest: usize,
-    round: usize,
-    list: Vec<Constant<'s>>,
-    height: usize,
-    rest: Rest<'s, 't>,
-) -> Result<(Vec<Constant<'s>>, usize, Rest<'s, 't>, bool), ReadFault>
-    requires { height ≤ nest }
-    ensures read { (n : ℕ) → nest + round ≤ n → EntriesTurn result (entry_turn (exp_of n) nest round (piece (entries_view list.entry.items) height (seen rest.entry))) }
-    ensures low { IfOk result (λ x. x.1 ≤ nest) }
+    room: Room,
+    list: Read<'s, 't, Vec<Constant<'s>>>,
+) -> Result<Turn<'s, 't, Vec<Constant<'s>>>, ReadFault>
+    requires { list.height ≤ room.nest }
+    ensures read { (n : ℕ) → room.nest + room.round ≤ n →
+        Takes (list_view entries_view) result (entry_turn (exp_of n) room.nest room.round (read_view (list_view entries_view) list.entry)) }
+    ensures low { IfOk result (λ x. turn_height x ≤ room.nest) }
 {
-    if let Some(then) = cursor::after(Symbol::CloseSection, rest) {
-        return Ok((list, height, then, true));
+    if let Some(rest) = cursor::after(Symbol::CloseSection, list.rest) {
+        return Ok(Turn::Last(Read { rest, ..list }));
     }
-    if let Some(then) = cursor::separator(rest) {
-        return Ok((list, height, then, false));
+    if let Some(rest) = cursor::separator(list.rest) {
+        return Ok(Turn::More(Read { rest, ..list }));
     }
-    let (found, h, behind) = entry(alloc, nest, round, list, height, rest)?;
-    let (behind, is_last) = place_end_at(Places::Block, behind)?;
-    Ok((found, h, behind, is_last))
+    let found = entry(room, list)?;
+    ended(found)
+}
+
+/// What was read as a turn: the last one where the list ends behind it.
+fn ended<'s, 't>(
+    found: Read<'s, 't, Vec<Constant<'s>>>,
+) -> Result<Turn<'s, 't, Vec<Constant<'s>>>, ReadFault>
+    ensures read { Takes (list_view entries_view) result (place_end places_mode.Block (seen found.entry.rest) ~> λ e.
+        Ok (moved (read_view (list_view entries_view) found.entry) e.0, e.1)) }
+    ensures low { (m : ℕ) → found.entry.height ≤ m → IfOk result (λ x. turn_height x ≤ m) }
+{
+    Ok(match place_end_at(Places::Block, found.rest)? {
+        PlaceEnd::Last(rest) => Turn::Last(Read { rest, ..found }),
+        PlaceEnd::More(rest) => Turn::More(Read { rest, ..found }),
+    })
 }
 
 #[cycle(parser)]
-#[tactic(auto, using(crate::proofs::Lists::entries_view_push), unfolding(bc_parse_defs::specs::Reading::entry_read))]
+#[tactic(auto, unfolding(bc_parse_defs::specs::Reading::entry_read))]
 fn entry<'s, 't>(
-    alloc: Global,
-    nest: usize,
-    round: usize,
-    list: Vec<Constant<'s>>,
-    height: usize,
-    rest: Rest<'s, 't>,
-) -> Result<(Vec<Constant<'s>>, usize, Rest<'s, 't>), ReadFault>
-    requires { height ≤ nest }
-    ensures read { (n : ℕ) → nest + round ≤ n → ReadEntries result (entry_read (exp_of n) nest round (piece (entries_view list.entry.items) height (seen rest.entry))) }
-    ensures low { IfOk result (λ x. x.1 ≤ nest) }
+    room: Room,
+    list: Read<'s, 't, Vec<Constant<'s>>>,
+) -> Answer<'s, 't, Vec<Constant<'s>>>
+    requires { list.height ≤ room.nest }
+    ensures read { (n : ℕ) → room.nest + room.round ≤ n →
+        Reads (list_view entries_view) result (entry_read (exp_of n) room.nest room.round (read_view (list_view entries_view) list.entry)) }
+    ensures low { IfOk result (λ x. x.height ≤ room.nest) }
 {
-    let mut found = list;
-    let (name, behind) = cursor::name(rest)?;
-    let behind = cursor::constant_sign(behind)?;
-    let (value, h, behind) = exp(alloc, nest, round, 2, behind)?;
-    found.push(Constant { name, value })?;
-    Ok((found, height.max(h), behind))
+    let (name, rest) = cursor::name(list.rest)?;
+    let rest = cursor::constant_sign(rest)?;
+    named(room, list, name, rest)
+}
+
+/// Constants with one more, of this name and the value behind it.
+#[cycle(parser)]
+fn named<'s, 't>(
+    room: Room,
+    list: Read<'s, 't, Vec<Constant<'s>>>,
+    name: &'s [u8],
+    rest: Rest<'s, 't>,
+) -> Answer<'s, 't, Vec<Constant<'s>>>
+    requires { list.height ≤ room.nest }
+    ensures read { (n : ℕ) → room.nest + room.round ≤ n →
+        Reads (list_view entries_view) result (exp_of n room.nest room.round 2 (seen rest.entry) ~> λ k.
+        Ok (piece (add_entry (entries_view list.entry.tree.items) name.entry.now k.tree) (max list.entry.height k.height) k.rest)) }
+    ensures low { IfOk result (λ x. x.height ≤ room.nest) }
+{
+    let value = exp(room, 2, rest)?;
+    let tree = apart::constant_added(list.tree, name, value.tree)?;
+    Ok(Read {
+        tree,
+        height: list.height.max(value.height),
+        rest: value.rest,
+    })
 }
 
 /// The definitions of a LET, which AND joins.
 #[cycle(parser)]
 #[tactic(auto, unfolding(bc_parse_defs::specs::Reading::definitions_read))]
-fn definitions<'s, 't>(
-    alloc: Global,
-    nest: usize,
-    round: usize,
-    rest: Rest<'s, 't>,
-) -> Result<(Vec<Definition<'s>>, usize, Rest<'s, 't>), ReadFault>
-    ensures read { (n : ℕ) → nest + round ≤ n → ReadDefinitions result (definitions_read (exp_of n) (command_of n) (definition_of n) nest round (seen rest.entry)) }
-    ensures low { IfOk result (λ x. x.1 ≤ nest) }
+fn definitions<'s, 't>(room: Room, rest: Rest<'s, 't>) -> Answer<'s, 't, Vec<Definition<'s>>>
+    ensures read { (n : ℕ) → room.nest + room.round ≤ n →
+        Reads (list_view definitions_view) result (definitions_read (exp_of n) (command_of n) (definition_of n) room.nest room.round (seen rest.entry)) }
+    ensures low { IfOk result (λ x. x.height ≤ room.nest) }
 {
-    let mut found = Vec::new(alloc);
-    let mut height = 0usize;
-    let mut behind = rest;
+    let mut found = Read {
+        tree: Vec::new(room.alloc),
+        height: 0,
+        rest,
+    };
     for _ in 0..rest.parts.len() + 1 {
-        let (list, h, then, is_last) = definition_step(alloc, nest, round, found, height, behind)?;
-        if is_last {
-            return Ok((list, h, then));
+        match definition_step(room, found)? {
+            Turn::Last(list) => return Ok(list),
+            Turn::More(list) => found = list,
         }
-        found = list;
-        height = h;
-        behind = then;
     }
-    Err(ReadFault::Expected(behind.parts.len()))
+    Err(apart::spent(found))
 }
 
 #[cycle(parser)]
-#[tactic(auto, using(crate::proofs::Lists::definitions_view_push), unfolding(bc_parse_defs::specs::Reading::definition_turn))]
+#[tactic(auto, unfolding(bc_parse_defs::specs::Reading::definition_turn))]
 fn definition_step<'s, 't>(
-    alloc: Global,
-    nest: usize,
-    round: usize,
-    list: Vec<Definition<'s>>,
-    height: usize,
-    rest: Rest<'s, 't>,
-) -> Result<(Vec<Definition<'s>>, usize, Rest<'s, 't>, bool), ReadFault>
-    requires { height ≤ nest }
-    ensures read { (n : ℕ) → nest + round ≤ n → DefinitionsTurn result (definition_turn (exp_of n) (command_of n) (definition_of n) nest round (piece (definitions_view list.entry.items) height (seen rest.entry))) }
-    ensures low { IfOk result (λ x. x.1 ≤ nest) }
+    room: Room,
+    list: Read<'s, 't, Vec<Definition<'s>>>,
+) -> Result<Turn<'s, 't, Vec<Definition<'s>>>, ReadFault>
+    requires { list.height ≤ room.nest }
+    ensures read { (n : ℕ) → room.nest + room.round ≤ n →
+        Takes (list_view definitions_view) result
+        (definition_turn (exp_of n) (command_of n) (definition_of n) room.nest room.round (read_view (list_view definitions_view) list.entry)) }
+    ensures low { IfOk result (λ x. turn_height x ≤ room.nest) }
 {
-    let mut found = list;
-    let (d, h, behind) = definition(alloc, nest, round, rest)?;
-    found.push(d)?;
-    let height = height.max(h);
-    Ok(match cursor::after(Symbol::And, behind) {
-        None => (found, height, behind, true),
-        Some(next) => (found, height, next, false),
+    let next = definition(room, list.rest)?;
+    let tree = apart::definition_added(list.tree, next.tree)?;
+    let height = list.height.max(next.height);
+    let rest = next.rest;
+    Ok(match cursor::after(Symbol::And, rest) {
+        None => Turn::Last(Read { tree, height, rest }),
+        Some(rest) => Turn::More(Read { tree, height, rest }),
     })
 }
 
 /// A definition.
 #[cycle(parser)]
 #[tactic(auto, unfolding(bc_parse_defs::specs::Reading::definition_of))]
-fn definition<'s, 't>(
-    alloc: Global,
-    nest: usize,
-    round: usize,
-    rest: Rest<'s, 't>,
-) -> Result<(Definition<'s>, usize, Rest<'s, 't>), ReadFault>
-    ensures read { (n : ℕ) → nest + round ≤ n → ReadDefinition result (definition_of n nest round (seen rest.entry)) }
-    ensures low { IfOk result (λ x. x.1 ≤ nest) }
+fn definition<'s, 't>(room: Room, rest: Rest<'s, 't>) -> Answer<'s, 't, Definition<'s>>
+    ensures read { (n : ℕ) → room.nest + room.round ≤ n → Reads definition_view result (definition_of n room.nest room.round (seen rest.entry)) }
+    ensures low { IfOk result (λ x. x.height ≤ room.nest) }
 {
-    if nest == 0 {
+    if room.nest == 0 {
         return Err(ReadFault::TooDeep(rest.parts.len()));
     }
-    defined(alloc, nest, round, rest)
+    defined(room, rest)
 }
 
 #[cycle(parser)]
 #[tactic(auto, unfolding(bc_parse_defs::specs::Reading::defined_read, bc_parse_defs::specs::Reading::shaped_read))]
-fn defined<'s, 't>(
-    alloc: Global,
-    nest: usize,
-    round: usize,
-    rest: Rest<'s, 't>,
-) -> Result<(Definition<'s>, usize, Rest<'s, 't>), ReadFault>
-    requires { 0 < nest }
-    ensures read { (n : ℕ) → nest + round ≤ n + 1 → ReadDefinition result (defined_read (exp_of n) (command_of n) (definition_of n) nest round (seen rest.entry)) }
-    ensures low { IfOk result (λ x. x.1 ≤ nest) }
+fn defined<'s, 't>(room: Room, rest: Rest<'s, 't>) -> Answer<'s, 't, Definition<'s>>
+    requires { 0 < room.nest }
+    ensures read { (n : ℕ) → room.nest + room.round ≤ n + 1 →
+        Reads definition_view result (defined_read (exp_of n) (command_of n) (definition_of n) room.nest room.round (seen rest.entry)) }
+    ensures low { IfOk result (λ x. x.height ≤ room.nest) }
 {
     let (name, behind) = cursor::name(rest)?;
     match cursor::shape_at(behind) {
-        ShapeAt::Parameters(then) => routine(alloc, nest, round, name, behind.parts.len(), then),
-        ShapeAt::Size(then) => vector(alloc, nest, round, name, then),
-        ShapeAt::Values => variables(alloc, nest, round, rest),
+        ShapeAt::Parameters(then) => routine(room, name, behind.parts.len(), then),
+        ShapeAt::Size(then) => vector(room, name, then),
+        ShapeAt::Values => variables(room, rest),
     }
 }
 
 #[cycle(parser)]
 #[tactic(auto, unfolding(bc_parse_defs::specs::Reading::vector_read))]
-fn vector<'s, 't>(
-    alloc: Global,
-    nest: usize,
-    round: usize,
-    name: &'s [u8],
-    rest: Rest<'s, 't>,
-) -> Result<(Definition<'s>, usize, Rest<'s, 't>), ReadFault>
-    requires { 0 < nest }
-    ensures read { (n : ℕ) → nest + round ≤ n + 1 → ReadDefinition result (vector_read (exp_of n) (command_of n) (definition_of n) nest round name.entry.now (seen rest.entry)) }
-    ensures low { IfOk result (λ x. x.1 ≤ nest) }
+fn vector<'s, 't>(room: Room, name: &'s [u8], rest: Rest<'s, 't>) -> Answer<'s, 't, Definition<'s>>
+    requires { 0 < room.nest }
+    ensures read { (n : ℕ) → room.nest + room.round ≤ n + 1 →
+        Reads definition_view result (vector_read (exp_of n) (command_of n) (definition_of n) room.nest room.round name.entry.now (seen rest.entry)) }
+    ensures low { IfOk result (λ x. x.height ≤ room.nest) }
 {
-    let (size, height, behind) = exp(alloc, nest - 1, round, 2, rest)?;
-    Ok((Definition::Vector(name, size), height + 1, behind))
+    let inner = Room {
+        nest: room.nest - 1,
+        ..room
+    };
+    let size = exp(inner, 2, rest)?;
+    let tree = Definition::Vector(name, size.tree);
+    Ok(Read {
+        tree,
+        height: size.height + 1,
+        rest: size.rest,
+    })
 }
 
 #[cycle(parser)]
 #[tactic(auto, unfolding(bc_parse_defs::specs::Reading::variables_read))]
-fn variables<'s, 't>(
-    alloc: Global,
-    nest: usize,
-    round: usize,
-    rest: Rest<'s, 't>,
-) -> Result<(Definition<'s>, usize, Rest<'s, 't>), ReadFault>
-    requires { 0 < nest }
-    ensures read { (n : ℕ) → nest + round ≤ n + 1 → ReadDefinition result (variables_read (exp_of n) (command_of n) (definition_of n) nest round (seen rest.entry)) }
-    ensures low { IfOk result (λ x. x.1 ≤ nest) }
+fn variables<'s, 't>(room: Room, rest: Rest<'s, 't>) -> Answer<'s, 't, Definition<'s>>
+    requires { 0 < room.nest }
+    ensures read { (n : ℕ) → room.nest + room.round ≤ n + 1 →
+        Reads definition_view result (variables_read (exp_of n) (command_of n) (definition_of n) room.nest room.round (seen rest.entry)) }
+    ensures low { IfOk result (λ x. x.height ≤ room.nest) }
 {
-    let (found, behind) = names(alloc, rest)?;
-    let behind = cursor::expect(Symbol::Equal, behind)?;
+    let found = names(room.alloc, rest)?;
+    let rest = cursor::expect(Symbol::Equal, found.rest)?;
+    values(room, found.tree, rest)
+}
+
+/// The values of variables, as many as there are names.
+#[cycle(parser)]
+fn values<'s, 't>(
+    room: Room,
+    found: Vec<&'s [u8]>,
+    rest: Rest<'s, 't>,
+) -> Answer<'s, 't, Definition<'s>>
+    requires { 0 < room.nest }
+    ensures read { (n : ℕ) → room.nest + room.round ≤ n + 1 →
+        Reads definition_view result
+        (exps_read (exp_of n) (room.nest - 1) room.round 1 (length (names_view found.entry.items)) (seen rest.entry) ~> λ es.
+        if count es.tree == length (names_view found.entry.items)
+        then Ok (piece (tree.Variables (names_view found.entry.items) es.tree) (es.height + 1) es.rest)
+        else Err (Expected (length es.rest))) }
+    ensures low { IfOk result (λ x. x.height ≤ room.nest) }
+{
+    let inner = Room {
+        nest: room.nest - 1,
+        ..room
+    };
     let limit = name_count(&found);
-    let (values, height, behind) = exps(alloc, nest - 1, round, 1, limit, behind)?;
-    if exp_count(&values) != limit {
-        return Err(ReadFault::Expected(behind.parts.len()));
+    let values = exps(inner, 1, limit, rest)?;
+    if exp_count(&values.tree) != limit {
+        return Err(ReadFault::Expected(values.rest.parts.len()));
     }
-    Ok((Definition::Variables(found, values), height + 1, behind))
+    let tree = Definition::Variables(found, values.tree);
+    Ok(Read {
+        tree,
+        height: values.height + 1,
+        rest: values.rest,
+    })
 }
 
 #[cycle(parser)]
 #[tactic(auto, unfolding(bc_parse_defs::specs::Reading::routine_read))]
 fn routine<'s, 't>(
-    alloc: Global,
-    nest: usize,
-    round: usize,
+    room: Room,
     name: &'s [u8],
     place: usize,
     rest: Rest<'s, 't>,
-) -> Result<(Definition<'s>, usize, Rest<'s, 't>), ReadFault>
-    requires { 0 < nest }
-    ensures read { (n : ℕ) → nest + round ≤ n + 1 → ReadDefinition result (routine_read (exp_of n) (command_of n) (definition_of n) nest round name.entry.now place (seen rest.entry)) }
-    ensures low { IfOk result (λ x. x.1 ≤ nest) }
+) -> Answer<'s, 't, Definition<'s>>
+    requires { 0 < room.nest }
+    ensures read { (n : ℕ) → room.nest + room.round ≤ n + 1 →
+        Reads definition_view result
+        (routine_read (exp_of n) (command_of n) (definition_of n) room.nest room.round name.entry.now place (seen rest.entry)) }
+    ensures low { IfOk result (λ x. x.height ≤ room.nest) }
 {
-    if round == 0 {
+    if room.round == 0 {
         return Err(ReadFault::TooDeep(place));
     }
-    let (found, behind) = parameters(alloc, rest)?;
-    match cursor::after(Symbol::Equal, behind) {
-        Some(then) => {
-            let (value, height, behind) = exp(alloc, nest - 1, round, 1, then)?;
-            Ok((Definition::Function(name, found, value), height + 1, behind))
-        }
-        None => {
-            let behind = cursor::expect(Symbol::Be, behind)?;
-            let (inner, height, behind) = body(alloc, nest - 1, round, behind)?;
-            Ok((Definition::Routine(name, found, inner), height + 1, behind))
-        }
+    let found = parameters(room.alloc, rest)?;
+    match cursor::after(Symbol::Equal, found.rest) {
+        Some(then) => function(room, name, found.tree, then),
+        None => procedure(room, name, found.tree, found.rest),
     }
+}
+
+/// The value of a function, behind its sign.
+#[cycle(parser)]
+fn function<'s, 't>(
+    room: Room,
+    name: &'s [u8],
+    found: Vec<&'s [u8]>,
+    rest: Rest<'s, 't>,
+) -> Answer<'s, 't, Definition<'s>>
+    requires { 0 < room.nest }
+    ensures read { (n : ℕ) → room.nest + room.round ≤ n + 1 →
+        Reads definition_view result (exp_of n (room.nest - 1) room.round 1 (seen rest.entry) ~> λ e.
+        Ok (piece (tree.Function name.entry.now (names_view found.entry.items) e.tree) (e.height + 1) e.rest)) }
+    ensures low { IfOk result (λ x. x.height ≤ room.nest) }
+{
+    let inner = Room {
+        nest: room.nest - 1,
+        ..room
+    };
+    let value = exp(inner, 1, rest)?;
+    let tree = Definition::Function(name, found, value.tree);
+    Ok(Read {
+        tree,
+        height: value.height + 1,
+        rest: value.rest,
+    })
+}
+
+/// The body of a routine, with BE before it.
+#[cycle(parser)]
+fn procedure<'s, 't>(
+    room: Room,
+    name: &'s [u8],
+    found: Vec<&'s [u8]>,
+    rest: Rest<'s, 't>,
+) -> Answer<'s, 't, Definition<'s>>
+    requires { 0 < room.nest }
+    ensures read { (n : ℕ) → room.nest + room.round ≤ n + 1 →
+        Reads definition_view result (expect_of sign.Be (seen rest.entry) ~> λ behind.
+        body_read (exp_of n) (command_of n) (definition_of n) (room.nest - 1) room.round behind ~> λ b.
+        Ok (piece (tree.Routine name.entry.now (names_view found.entry.items) b.tree) (b.height + 1) b.rest)) }
+    ensures low { IfOk result (λ x. x.height ≤ room.nest) }
+{
+    let inner = Room {
+        nest: room.nest - 1,
+        ..room
+    };
+    let rest = cursor::expect(Symbol::Be, rest)?;
+    let body = body(inner, rest)?;
+    let tree = Definition::Routine(name, found, body.tree);
+    Ok(Read {
+        tree,
+        height: body.height + 1,
+        rest: body.rest,
+    })
 }

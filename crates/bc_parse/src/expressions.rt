@@ -1,444 +1,483 @@
 //! Expressions.
-ghost use Rattle.std.specs.Prelude.{◌≡◌, ◌+◌, ◌<◌, ◌≤◌, ℕ, IfOk};
+ghost use Rattle.std.specs.Prelude.{◌≡◌, ◌+◌, ◌-◌, ◌<◌, ◌≤◌, ℕ, length, max, Ok, IfOk};
+ghost use Rattle.bc_lex_tokens.specs.declared.symbol.Symbol.TheVariants as sign;
 ghost use Rattle.bc_parse_tree.specs.Spelling.{count};
+ghost use Rattle.bc_parse_tree.specs.Tree as tree;
 ghost use Rattle.bc_parse_tree.specs.View.{exp_view, exps_view};
-ghost use Rattle.bc_parse_defs.specs.Reading.{piece, exp_of, command_of, definition_of, exps_turn, exps_read, arguments_read, with_operator, with_arguments, with_choice, suffix_read, grow_turn, grow_read, bracket_read, table_read, monadic_read, valof_read, started_read, operand_read};
-ghost use Rattle.bc_parse.specs.Seen.{seen, ReadExp, ReadApart, ReadOperand, GrowTurn, ReadExps, ExpsTurn};
+ghost use Rattle.bc_parse_defs.specs.Reading.{piece, exp_of, command_of, definition_of, exps_turn, exps_read};
+ghost use Rattle.bc_parse_defs.specs.Reading.{arguments_read, suffix_read, grow_turn, grow_read, started_read};
+ghost use Rattle.bc_parse_defs.specs.Reading.{operand_read, expect_of, Operator, Arguments, Choice};
+ghost use Rattle.bc_parse_defs.specs.declared.words.Start.TheVariants as start;
+ghost use Rattle.bc_parse.specs.Seen.{◌~>◌, seen, read_view, list_view, box_view, levelled_view, Reads, Takes};
+ghost use Rattle.bc_parse.specs.Seen.{turn_height};
 ghost use Rattle.bc_parse.specs.SeenFollow.{follow_view};
 
 use crate::blocks::body;
-use crate::cursor;
 use crate::cursor::{Follow, Rest};
 use crate::fault::ReadFault;
+use crate::read::{Answer, Read, Room, Turn};
+use crate::{apart, cursor};
 use bc_lex_tokens::Symbol;
 use bc_parse_defs::words;
 use bc_parse_defs::words::Start;
 use bc_parse_tree::{Dyadic, Exp, Monadic};
-use std::alloc::Global;
+
+/// An expression so far, and the level that it has.
+#[derive(Drop)]
+pub struct Levelled<'s> {
+    pub exp: Exp<'s>,
+    pub level: usize,
+}
 
 /// An expression of at least this level.
 #[cycle(parser)]
 #[tactic(auto, unfolding(bc_parse_defs::specs::Reading::exp_of))]
-pub fn exp<'s, 't>(
-    alloc: Global,
-    nest: usize,
-    round: usize,
-    level: usize,
-    rest: Rest<'s, 't>,
-) -> Result<(Exp<'s>, usize, Rest<'s, 't>), ReadFault>
-    ensures read { (n : ℕ) → nest + round ≤ n → ReadExp result (exp_of n nest round level (seen rest.entry)) }
-    ensures low { IfOk result (λ x. x.1 ≤ nest) }
+pub fn exp<'s, 't>(room: Room, level: usize, rest: Rest<'s, 't>) -> Answer<'s, 't, Exp<'s>>
+    ensures read { (n : ℕ) → room.nest + room.round ≤ n → Reads exp_view result (exp_of n room.nest room.round level (seen rest.entry)) }
+    ensures low { IfOk result (λ x. x.height ≤ room.nest) }
 {
-    if nest == 0 {
+    if room.nest == 0 {
         return Err(ReadFault::TooDeep(rest.parts.len()));
     }
-    let (first, top, height, behind) = operand(alloc, nest, round, rest)?;
-    grow(
-        alloc,
-        nest,
-        round,
-        rest.parts.len(),
-        level,
-        first,
-        top,
-        height,
-        behind,
-    )
+    let first = operand(room, rest)?;
+    grow(room, level, rest.parts.len(), first)
 }
 
 /// An expression of at least this level, in memory of its own.
 #[cycle(parser)]
 pub fn exp_apart<'s, 't>(
-    alloc: Global,
-    nest: usize,
-    round: usize,
+    room: Room,
     level: usize,
     rest: Rest<'s, 't>,
-) -> Result<(Box<Exp<'s>>, usize, Rest<'s, 't>), ReadFault>
-    ensures read { (n : ℕ) → nest + round ≤ n → ReadApart result (exp_of n nest round level (seen rest.entry)) }
-    ensures low { IfOk result (λ x. x.1 ≤ nest) }
+) -> Answer<'s, 't, Box<Exp<'s>>>
+    ensures read { (n : ℕ) → room.nest + room.round ≤ n → Reads (box_view exp_view) result (exp_of n room.nest room.round level (seen rest.entry)) }
+    ensures low { IfOk result (λ x. x.height ≤ room.nest) }
 {
-    let (e, height, behind) = exp(alloc, nest, round, level, rest)?;
-    Ok((Box::new(alloc, e)?, height, behind))
+    let found = exp(room, level, rest)?;
+    let tree = apart::exp(room.alloc, found.tree)?;
+    Ok(Read {
+        tree,
+        height: found.height,
+        rest: found.rest,
+    })
 }
 
-/// An operand, with the level that it has.
+/// An operand.
 #[cycle(parser)]
 #[tactic(auto, unfolding(bc_parse_defs::specs::Reading::operand_read))]
-fn operand<'s, 't>(
-    alloc: Global,
-    nest: usize,
-    round: usize,
-    rest: Rest<'s, 't>,
-) -> Result<(Exp<'s>, usize, usize, Rest<'s, 't>), ReadFault>
-    requires { 0 < nest }
-    ensures read { (n : ℕ) → nest + round ≤ n + 1 → ReadOperand result (operand_read (exp_of n) (command_of n) (definition_of n) nest round (seen rest.entry)) }
-    ensures low { IfOk result (λ x. x.2 ≤ nest) }
+fn operand<'s, 't>(room: Room, rest: Rest<'s, 't>) -> Answer<'s, 't, Levelled<'s>>
+    requires { 0 < room.nest }
+    ensures read { (n : ℕ) → room.nest + room.round ≤ n + 1 →
+        Reads levelled_view result (operand_read (exp_of n) (command_of n) (definition_of n) room.nest room.round (seen rest.entry)) }
+    ensures low { IfOk result (λ x. x.height ≤ room.nest) }
 {
-    if let Some((leaf, behind)) = cursor::leaf(rest) {
-        return Ok((leaf, 12, 1, behind));
+    if let Some((exp, rest)) = cursor::leaf(rest) {
+        let tree = Levelled { exp, level: 12 };
+        return Ok(Read {
+            tree,
+            height: 1,
+            rest,
+        });
     }
     match cursor::start_word(rest) {
         None => Err(ReadFault::Expected(rest.parts.len())),
-        Some((word, behind)) => started(alloc, nest, round, rest.parts.len(), word, behind),
+        Some((word, behind)) => started(room, rest.parts.len(), word, behind),
     }
 }
 
 #[cycle(parser)]
-#[tactic(auto, unfolding(bc_parse_defs::specs::Reading::started_read))]
 fn started<'s, 't>(
-    alloc: Global,
-    nest: usize,
-    round: usize,
+    room: Room,
     place: usize,
     word: Start,
     rest: Rest<'s, 't>,
-) -> Result<(Exp<'s>, usize, usize, Rest<'s, 't>), ReadFault>
-    requires { 0 < nest }
-    ensures read { (n : ℕ) → nest + round ≤ n + 1 → ReadOperand result (started_read (exp_of n) (command_of n) (definition_of n) nest round place word (seen rest.entry)) }
-    ensures low { IfOk result (λ x. x.2 ≤ nest) }
+) -> Answer<'s, 't, Levelled<'s>>
+    requires { 0 < room.nest }
+    ensures read { (n : ℕ) → room.nest + room.round ≤ n + 1 →
+        Reads levelled_view result (started_read (exp_of n) (command_of n) (definition_of n) room.nest room.round place word (seen rest.entry)) }
+    ensures low { IfOk result (λ x. x.height ≤ room.nest) }
 {
     match word {
-        Start::Bracket => {
-            let (e, height, behind) = bracket(alloc, nest, round, place, rest)?;
-            Ok((e, 12, height, behind))
-        }
-        Start::Table => {
-            let (e, height, behind) = table(alloc, nest, round, rest)?;
-            Ok((e, 12, height, behind))
-        }
-        Start::Valof => {
-            let (e, height, behind) = valof(alloc, nest, round, rest)?;
-            Ok((e, 12, height, behind))
-        }
-        Start::Monadic(op) => {
-            let (e, height, behind) = monadic(alloc, nest, round, op, rest)?;
-            Ok((e, words::monadic_level(op), height, behind))
-        }
+        Start::Bracket => bracket(room, place, rest),
+        Start::Table => table(room, rest),
+        Start::Valof => valof(room, rest),
+        Start::Monadic(op) => monadic(room, op, rest),
     }
 }
 
 #[cycle(parser)]
-#[tactic(auto, unfolding(bc_parse_defs::specs::Reading::bracket_read))]
-fn bracket<'s, 't>(
-    alloc: Global,
-    nest: usize,
-    round: usize,
-    place: usize,
-    rest: Rest<'s, 't>,
-) -> Result<(Exp<'s>, usize, Rest<'s, 't>), ReadFault>
-    ensures read { (n : ℕ) → nest + round ≤ n + 1 → ReadExp result (bracket_read (exp_of n) nest round place (seen rest.entry)) }
-    ensures low { IfOk result (λ x. x.1 ≤ nest) }
+#[tactic(auto, unfolding(bc_parse_defs::specs::Reading::started_read, bc_parse_defs::specs::Reading::bracket_read))]
+fn bracket<'s, 't>(room: Room, place: usize, rest: Rest<'s, 't>) -> Answer<'s, 't, Levelled<'s>>
+    ensures read { (n : ℕ) → room.nest + room.round ≤ n + 1 →
+        Reads levelled_view result (started_read (exp_of n) (command_of n) (definition_of n) room.nest room.round place start.Bracket (seen rest.entry)) }
+    ensures low { IfOk result (λ x. x.height ≤ room.nest) }
 {
-    if round == 0 {
+    if room.round == 0 {
         return Err(ReadFault::TooDeep(place));
     }
-    let (inner, height, behind) = exp(alloc, nest, round - 1, 1, rest)?;
-    Ok((inner, height, cursor::expect(Symbol::CloseBracket, behind)?))
+    let inner = Room {
+        round: room.round - 1,
+        ..room
+    };
+    let found = exp(inner, 1, rest)?;
+    let found = apart::closed(Symbol::CloseBracket, found)?;
+    let tree = Levelled {
+        exp: found.tree,
+        level: 12,
+    };
+    Ok(Read {
+        tree,
+        height: found.height,
+        rest: found.rest,
+    })
 }
 
 #[cycle(parser)]
-#[tactic(auto, unfolding(bc_parse_defs::specs::Reading::table_read))]
-fn table<'s, 't>(
-    alloc: Global,
-    nest: usize,
-    round: usize,
-    rest: Rest<'s, 't>,
-) -> Result<(Exp<'s>, usize, Rest<'s, 't>), ReadFault>
-    requires { 0 < nest }
-    ensures read { (n : ℕ) → nest + round ≤ n + 1 → ReadExp result (table_read (exp_of n) nest round (seen rest.entry)) }
-    ensures low { IfOk result (λ x. x.1 ≤ nest) }
+#[tactic(auto, unfolding(bc_parse_defs::specs::Reading::started_read, bc_parse_defs::specs::Reading::table_read))]
+fn table<'s, 't>(room: Room, rest: Rest<'s, 't>) -> Answer<'s, 't, Levelled<'s>>
+    requires { 0 < room.nest }
+    ensures read { (n : ℕ) → room.nest + room.round ≤ n + 1 → (place : ℕ) →
+        Reads levelled_view result (started_read (exp_of n) (command_of n) (definition_of n) room.nest room.round place start.Table (seen rest.entry)) }
+    ensures low { IfOk result (λ x. x.height ≤ room.nest) }
 {
-    let (words, height, behind) = exps(alloc, nest - 1, round, 2, rest.parts.len() + 1, rest)?;
-    Ok((Exp::Table(words), height + 1, behind))
+    let inner = Room {
+        nest: room.nest - 1,
+        ..room
+    };
+    let found = exps(inner, 2, rest.parts.len() + 1, rest)?;
+    let tree = Levelled {
+        exp: Exp::Table(found.tree),
+        level: 12,
+    };
+    Ok(Read {
+        tree,
+        height: found.height + 1,
+        rest: found.rest,
+    })
 }
 
 #[cycle(parser)]
-#[tactic(auto, unfolding(bc_parse_defs::specs::Reading::valof_read))]
-fn valof<'s, 't>(
-    alloc: Global,
-    nest: usize,
-    round: usize,
-    rest: Rest<'s, 't>,
-) -> Result<(Exp<'s>, usize, Rest<'s, 't>), ReadFault>
-    requires { 0 < nest }
-    ensures read { (n : ℕ) → nest + round ≤ n + 1 → ReadExp result (valof_read (exp_of n) (command_of n) (definition_of n) nest round (seen rest.entry)) }
-    ensures low { IfOk result (λ x. x.1 ≤ nest) }
+#[tactic(auto, unfolding(bc_parse_defs::specs::Reading::started_read, bc_parse_defs::specs::Reading::valof_read))]
+fn valof<'s, 't>(room: Room, rest: Rest<'s, 't>) -> Answer<'s, 't, Levelled<'s>>
+    requires { 0 < room.nest }
+    ensures read { (n : ℕ) → room.nest + room.round ≤ n + 1 → (place : ℕ) →
+        Reads levelled_view result (started_read (exp_of n) (command_of n) (definition_of n) room.nest room.round place start.Valof (seen rest.entry)) }
+    ensures low { IfOk result (λ x. x.height ≤ room.nest) }
 {
-    let (found, height, behind) = body(alloc, nest - 1, round, rest)?;
-    Ok((Exp::Valof(found), height + 1, behind))
+    let inner = Room {
+        nest: room.nest - 1,
+        ..room
+    };
+    let found = body(inner, rest)?;
+    let tree = Levelled {
+        exp: Exp::Valof(found.tree),
+        level: 12,
+    };
+    Ok(Read {
+        tree,
+        height: found.height + 1,
+        rest: found.rest,
+    })
 }
 
 #[cycle(parser)]
-#[tactic(auto, unfolding(bc_parse_defs::specs::Reading::monadic_read))]
-fn monadic<'s, 't>(
-    alloc: Global,
-    nest: usize,
-    round: usize,
-    op: Monadic,
-    rest: Rest<'s, 't>,
-) -> Result<(Exp<'s>, usize, Rest<'s, 't>), ReadFault>
-    requires { 0 < nest }
-    ensures read { (n : ℕ) → nest + round ≤ n + 1 → ReadExp result (monadic_read (exp_of n) nest round op (seen rest.entry)) }
-    ensures low { IfOk result (λ x. x.1 ≤ nest) }
+#[tactic(auto, unfolding(bc_parse_defs::specs::Reading::started_read, bc_parse_defs::specs::Reading::monadic_read))]
+fn monadic<'s, 't>(room: Room, op: Monadic, rest: Rest<'s, 't>) -> Answer<'s, 't, Levelled<'s>>
+    requires { 0 < room.nest }
+    ensures read { (n : ℕ) → room.nest + room.round ≤ n + 1 → (place : ℕ) →
+        Reads levelled_view result (started_read (exp_of n) (command_of n) (definition_of n) room.nest room.round place (start.Monadic op) (seen rest.entry)) }
+    ensures low { IfOk result (λ x. x.height ≤ room.nest) }
 {
-    let (inner, height, behind) = exp_apart(alloc, nest - 1, round, words::level_behind(op), rest)?;
-    Ok((Exp::Monadic(op, inner), height + 1, behind))
+    let inner = Room {
+        nest: room.nest - 1,
+        ..room
+    };
+    let found = exp_apart(inner, words::level_behind(op), rest)?;
+    let tree = Levelled {
+        exp: Exp::Monadic(op, found.tree),
+        level: words::monadic_level(op),
+    };
+    Ok(Read {
+        tree,
+        height: found.height + 1,
+        rest: found.rest,
+    })
 }
 
 /// An expression from its first operand on: operators, calls and choices behind it.
 #[cycle(parser)]
 #[tactic(auto, unfolding(bc_parse_defs::specs::Reading::grow_read))]
 fn grow<'s, 't>(
-    alloc: Global,
-    nest: usize,
-    round: usize,
-    begin: usize,
+    room: Room,
     level: usize,
-    first: Exp<'s>,
-    first_top: usize,
-    first_height: usize,
-    rest: Rest<'s, 't>,
-) -> Result<(Exp<'s>, usize, Rest<'s, 't>), ReadFault>
-    requires { first_height ≤ nest }
-    ensures read { (n : ℕ) → nest + round ≤ n + 1 → ReadExp result (grow_read (exp_of n) nest round begin level (piece (exp_view first.entry, first_top) first_height (seen rest.entry))) }
-    ensures low { IfOk result (λ x. x.1 ≤ nest) }
+    begin: usize,
+    first: Read<'s, 't, Levelled<'s>>,
+) -> Answer<'s, 't, Exp<'s>>
+    requires { first.height ≤ room.nest }
+    ensures read { (n : ℕ) → room.nest + room.round ≤ n + 1 →
+        Reads exp_view result (grow_read (exp_of n) room.nest room.round begin level (read_view levelled_view first.entry)) }
+    ensures low { IfOk result (λ x. x.height ≤ room.nest) }
 {
+    let turns = first.rest.parts.len() + 1;
     let mut left = first;
-    let mut top = first_top;
-    let mut height = first_height;
-    let mut behind = rest;
-    for _ in 0..rest.parts.len() + 1 {
-        let (e, t, h, then, is_last) = grow_step(
-            alloc, nest, round, begin, level, left, top, height, behind,
-        )?;
-        if is_last {
-            return Ok((e, h, then));
+    for _ in 0..turns {
+        match grow_step(room, level, begin, left)? {
+            Turn::Last(whole) => {
+                return Ok(Read {
+                    tree: whole.tree.exp,
+                    height: whole.height,
+                    rest: whole.rest,
+                });
+            }
+            Turn::More(longer) => left = longer,
         }
-        left = e;
-        top = t;
-        height = h;
-        behind = then;
     }
-    Err(ReadFault::Expected(behind.parts.len()))
+    Err(apart::spent(left))
 }
 
 #[cycle(parser)]
 #[tactic(auto, unfolding(bc_parse_defs::specs::Reading::grow_turn))]
 fn grow_step<'s, 't>(
-    alloc: Global,
-    nest: usize,
-    round: usize,
-    begin: usize,
+    room: Room,
     level: usize,
-    left: Exp<'s>,
-    top: usize,
-    height: usize,
-    rest: Rest<'s, 't>,
-) -> Result<(Exp<'s>, usize, usize, Rest<'s, 't>, bool), ReadFault>
-    requires { height ≤ nest }
-    ensures read { (n : ℕ) → nest + round ≤ n + 1 → GrowTurn result (grow_turn (exp_of n) nest round begin level (piece (exp_view left.entry, top) height (seen rest.entry))) }
-    ensures low { IfOk result (λ x. x.2 ≤ nest) }
+    begin: usize,
+    left: Read<'s, 't, Levelled<'s>>,
+) -> Result<Turn<'s, 't, Levelled<'s>>, ReadFault>
+    requires { left.height ≤ room.nest }
+    ensures read { (n : ℕ) → room.nest + room.round ≤ n + 1 →
+        Takes levelled_view result (grow_turn (exp_of n) room.nest room.round begin level (read_view levelled_view left.entry)) }
+    ensures low { IfOk result (λ x. turn_height x ≤ room.nest) }
 {
-    let next = cursor::following_at(level, top, rest);
+    let next = cursor::following_at(level, left.tree.level, left.rest);
     if let Follow::Ends = next {
-        return Ok((left, top, height, rest, true));
+        return Ok(Turn::Last(left));
     }
-    let (e, t, h, behind) = suffix(
-        alloc,
-        nest,
-        round,
-        begin,
-        next,
-        left,
-        height,
-        rest.parts.len(),
-    )?;
-    Ok((e, t, h, behind, false))
+    Ok(Turn::More(suffix(room, begin, next, left)?))
 }
 
 #[cycle(parser)]
 #[tactic(auto, unfolding(bc_parse_defs::specs::Reading::suffix_read))]
 fn suffix<'s, 't>(
-    alloc: Global,
-    nest: usize,
-    round: usize,
+    room: Room,
     begin: usize,
     next: Follow<'s, 't>,
-    left: Exp<'s>,
-    height: usize,
-    place: usize,
-) -> Result<(Exp<'s>, usize, usize, Rest<'s, 't>), ReadFault>
-    ensures read { (n : ℕ) → nest + round ≤ n + 1 → ReadOperand result (suffix_read (exp_of n) nest round begin (follow_view next.entry) (exp_view left.entry) height place) }
-    ensures low { IfOk result (λ x. x.2 ≤ nest) }
+    left: Read<'s, 't, Levelled<'s>>,
+) -> Answer<'s, 't, Levelled<'s>>
+    ensures read { (n : ℕ) → room.nest + room.round ≤ n + 1 →
+        Reads levelled_view result (suffix_read (exp_of n) room.nest room.round begin (follow_view next.entry)
+        (exp_view left.entry.tree.exp) left.entry.height (length (seen left.entry.rest))) }
+    ensures low { IfOk result (λ x. x.height ≤ room.nest) }
 {
     match next {
-        Follow::Ends => Err(ReadFault::Expected(place)),
-        Follow::Operator(op, rest) => {
-            let (e, h, behind) = operated(alloc, nest, round, op, left, height, place, rest)?;
-            Ok((e, words::level(op), h, behind))
-        }
-        Follow::Arguments(rest) => {
-            let (e, h, behind) = called(alloc, nest, round, left, height, place, rest)?;
-            Ok((e, 12, h, behind))
-        }
-        Follow::Choice(rest) => {
-            let (e, h, behind) = chosen(alloc, nest, round, left, height, begin, rest)?;
-            Ok((e, 1, h, behind))
-        }
+        Follow::Ends => Err(apart::spent(left)),
+        Follow::Operator(op, rest) => operated(room, op, left, rest),
+        Follow::Arguments(rest) => called(room, left, rest),
+        Follow::Choice(rest) => chosen(room, begin, left, rest),
     }
 }
 
 #[cycle(parser)]
-#[tactic(auto, unfolding(bc_parse_defs::specs::Reading::with_operator))]
+#[tactic(auto, unfolding(bc_parse_defs::specs::Reading::suffix_read, bc_parse_defs::specs::Reading::with_operator))]
 fn operated<'s, 't>(
-    alloc: Global,
-    nest: usize,
-    round: usize,
+    room: Room,
     op: Dyadic,
-    left: Exp<'s>,
-    height: usize,
-    place: usize,
+    left: Read<'s, 't, Levelled<'s>>,
     rest: Rest<'s, 't>,
-) -> Result<(Exp<'s>, usize, Rest<'s, 't>), ReadFault>
-    ensures read { (n : ℕ) → nest + round ≤ n + 1 → ReadExp result (with_operator (exp_of n) nest round op (exp_view left.entry) height place (seen rest.entry)) }
-    ensures low { IfOk result (λ x. x.1 ≤ nest) }
+) -> Answer<'s, 't, Levelled<'s>>
+    ensures read { (n : ℕ) → room.nest + room.round ≤ n + 1 → (begin : ℕ) →
+        Reads levelled_view result (suffix_read (exp_of n) room.nest room.round begin (Operator op (seen rest.entry))
+        (exp_view left.entry.tree.exp) left.entry.height (length (seen left.entry.rest))) }
+    ensures low { IfOk result (λ x. x.height ≤ room.nest) }
 {
-    if height >= nest {
-        return Err(ReadFault::TooDeep(place));
+    if left.height >= room.nest {
+        return Err(apart::too_deep(left));
     }
-    let (right, h, behind) = exp_apart(alloc, nest - 1, round, words::level(op) + 1, rest)?;
-    let left = Box::new(alloc, left)?;
-    Ok((Exp::Dyadic(op, left, right), height.max(h) + 1, behind))
+    let inner = Room {
+        nest: room.nest - 1,
+        ..room
+    };
+    let level = words::level(op);
+    let height = left.height;
+    let left = apart::exp(room.alloc, left.tree.exp)?;
+    let right = exp_apart(inner, level + 1, rest)?;
+    let tree = Levelled {
+        exp: Exp::Dyadic(op, left, right.tree),
+        level,
+    };
+    Ok(Read {
+        tree,
+        height: height.max(right.height) + 1,
+        rest: right.rest,
+    })
 }
 
 #[cycle(parser)]
-#[tactic(auto, unfolding(bc_parse_defs::specs::Reading::with_arguments))]
+#[tactic(auto, unfolding(bc_parse_defs::specs::Reading::suffix_read, bc_parse_defs::specs::Reading::with_arguments))]
 fn called<'s, 't>(
-    alloc: Global,
-    nest: usize,
-    round: usize,
-    left: Exp<'s>,
-    height: usize,
-    place: usize,
+    room: Room,
+    left: Read<'s, 't, Levelled<'s>>,
     rest: Rest<'s, 't>,
-) -> Result<(Exp<'s>, usize, Rest<'s, 't>), ReadFault>
-    ensures read { (n : ℕ) → nest + round ≤ n + 1 → ReadExp result (with_arguments (exp_of n) nest round (exp_view left.entry) height place (seen rest.entry)) }
-    ensures low { IfOk result (λ x. x.1 ≤ nest) }
+) -> Answer<'s, 't, Levelled<'s>>
+    ensures read { (n : ℕ) → room.nest + room.round ≤ n + 1 → (begin : ℕ) →
+        Reads levelled_view result (suffix_read (exp_of n) room.nest room.round begin (Arguments (seen rest.entry))
+        (exp_view left.entry.tree.exp) left.entry.height (length (seen left.entry.rest))) }
+    ensures low { IfOk result (λ x. x.height ≤ room.nest) }
 {
-    if height >= nest || round == 0 {
-        return Err(ReadFault::TooDeep(place));
+    if left.height >= room.nest || room.round == 0 {
+        return Err(apart::too_deep(left));
     }
-    let (found, h, behind) = arguments(alloc, nest - 1, round - 1, rest)?;
-    let left = Box::new(alloc, left)?;
-    Ok((Exp::Call(left, found), height.max(h) + 1, behind))
+    let inner = Room {
+        nest: room.nest - 1,
+        round: room.round - 1,
+        ..room
+    };
+    let height = left.height;
+    let routine = apart::exp(room.alloc, left.tree.exp)?;
+    let found = arguments(inner, rest)?;
+    let tree = Levelled {
+        exp: Exp::Call(routine, found.tree),
+        level: 12,
+    };
+    Ok(Read {
+        tree,
+        height: height.max(found.height) + 1,
+        rest: found.rest,
+    })
 }
 
 #[cycle(parser)]
-#[tactic(auto, unfolding(bc_parse_defs::specs::Reading::with_choice))]
+#[tactic(auto, unfolding(bc_parse_defs::specs::Reading::suffix_read, bc_parse_defs::specs::Reading::with_choice))]
 fn chosen<'s, 't>(
-    alloc: Global,
-    nest: usize,
-    round: usize,
-    left: Exp<'s>,
-    height: usize,
-    place: usize,
+    room: Room,
+    begin: usize,
+    left: Read<'s, 't, Levelled<'s>>,
     rest: Rest<'s, 't>,
-) -> Result<(Exp<'s>, usize, Rest<'s, 't>), ReadFault>
-    ensures read { (n : ℕ) → nest + round ≤ n + 1 → ReadExp result (with_choice (exp_of n) nest round (exp_view left.entry) height place (seen rest.entry)) }
-    ensures low { IfOk result (λ x. x.1 ≤ nest) }
+) -> Answer<'s, 't, Levelled<'s>>
+    ensures read { (n : ℕ) → room.nest + room.round ≤ n + 1 → (place : ℕ) →
+        Reads levelled_view result (suffix_read (exp_of n) room.nest room.round begin (Choice (seen rest.entry))
+        (exp_view left.entry.tree.exp) left.entry.height place) }
+    ensures low { IfOk result (λ x. x.height ≤ room.nest) }
 {
-    if height >= nest {
-        return Err(ReadFault::TooDeep(place));
+    if left.height >= room.nest {
+        return Err(apart::too_deep_at(begin, left));
     }
-    let test = Box::new(alloc, left)?;
-    let (this, this_height, behind) = exp_apart(alloc, nest - 1, round, 1, rest)?;
-    let behind = cursor::expect(Symbol::Comma, behind)?;
-    let (that, that_height, behind) = exp_apart(alloc, nest - 1, round, 1, behind)?;
-    Ok((
-        Exp::Condition { test, this, that },
-        height.max(this_height).max(that_height) + 1,
-        behind,
-    ))
+    let inner = Room {
+        nest: room.nest - 1,
+        ..room
+    };
+    let height = left.height;
+    let test = apart::exp(room.alloc, left.tree.exp)?;
+    let this = exp_apart(inner, 1, rest)?;
+    otherwise(room, height.max(this.height), test, this)
+}
+
+/// The other part of a choice, where what is before it nests so deep.
+#[cycle(parser)]
+fn otherwise<'s, 't>(
+    room: Room,
+    height: usize,
+    test: Box<Exp<'s>>,
+    this: Read<'s, 't, Box<Exp<'s>>>,
+) -> Answer<'s, 't, Levelled<'s>>
+    requires { height < room.nest }
+    ensures read { (n : ℕ) → room.nest + room.round ≤ n + 1 →
+        Reads levelled_view result ((expect_of sign.Comma (seen this.entry.rest) ~> λ behind.
+        exp_of n (room.nest - 1) room.round 1 behind ~> λ y.
+        Ok (piece (tree.Condition (exp_view test.entry.value) (exp_view this.entry.tree.value) y.tree) (max height y.height + 1) y.rest)) ~> λ p.
+        Ok (piece (p.tree, 1) p.height p.rest)) }
+    ensures low { IfOk result (λ x. x.height ≤ room.nest) }
+{
+    let inner = Room {
+        nest: room.nest - 1,
+        ..room
+    };
+    let rest = cursor::expect(Symbol::Comma, this.rest)?;
+    let that = exp_apart(inner, 1, rest)?;
+    let tree = Levelled {
+        exp: Exp::Condition {
+            test,
+            this: this.tree,
+            that: that.tree,
+        },
+        level: 1,
+    };
+    Ok(Read {
+        tree,
+        height: height.max(that.height) + 1,
+        rest: that.rest,
+    })
 }
 
 #[cycle(parser)]
 #[tactic(auto, unfolding(bc_parse_defs::specs::Reading::arguments_read))]
-fn arguments<'s, 't>(
-    alloc: Global,
-    nest: usize,
-    round: usize,
-    rest: Rest<'s, 't>,
-) -> Result<(Vec<Exp<'s>>, usize, Rest<'s, 't>), ReadFault>
-    ensures read { (n : ℕ) → nest + round ≤ n → ReadExps result (arguments_read (exp_of n) nest round (seen rest.entry)) }
-    ensures low { IfOk result (λ x. x.1 ≤ nest) }
+fn arguments<'s, 't>(room: Room, rest: Rest<'s, 't>) -> Answer<'s, 't, Vec<Exp<'s>>>
+    ensures read { (n : ℕ) → room.nest + room.round ≤ n →
+        Reads (list_view exps_view) result (arguments_read (exp_of n) room.nest room.round (seen rest.entry)) }
+    ensures low { IfOk result (λ x. x.height ≤ room.nest) }
 {
-    match cursor::after(Symbol::CloseBracket, rest) {
-        Some(behind) => Ok((Vec::new(alloc), 0, behind)),
-        None => {
-            let (found, height, behind) = exps(alloc, nest, round, 1, rest.parts.len() + 1, rest)?;
-            Ok((found, height, cursor::expect(Symbol::CloseBracket, behind)?))
-        }
+    if let Some(rest) = cursor::after(Symbol::CloseBracket, rest) {
+        let tree = Vec::new(room.alloc);
+        return Ok(Read {
+            tree,
+            height: 0,
+            rest,
+        });
     }
+    let found = exps(room, 1, rest.parts.len() + 1, rest)?;
+    let rest = cursor::expect(Symbol::CloseBracket, found.rest)?;
+    Ok(Read { rest, ..found })
 }
 
 /// Expressions of at least this level, at most so many, with commas between them.
 #[cycle(parser)]
 #[tactic(auto, unfolding(bc_parse_defs::specs::Reading::exps_read))]
 pub fn exps<'s, 't>(
-    alloc: Global,
-    nest: usize,
-    round: usize,
+    room: Room,
     level: usize,
     limit: usize,
     rest: Rest<'s, 't>,
-) -> Result<(Vec<Exp<'s>>, usize, Rest<'s, 't>), ReadFault>
-    ensures read { (n : ℕ) → nest + round ≤ n → ReadExps result (exps_read (exp_of n) nest round level limit (seen rest.entry)) }
-    ensures low { IfOk result (λ x. x.1 ≤ nest) }
+) -> Answer<'s, 't, Vec<Exp<'s>>>
+    ensures read { (n : ℕ) → room.nest + room.round ≤ n →
+        Reads (list_view exps_view) result (exps_read (exp_of n) room.nest room.round level limit (seen rest.entry)) }
+    ensures low { IfOk result (λ x. x.height ≤ room.nest) }
 {
-    let mut found = Vec::new(alloc);
-    let mut height = 0usize;
-    let mut behind = rest;
+    let mut found = Read {
+        tree: Vec::new(room.alloc),
+        height: 0,
+        rest,
+    };
     for _ in 0..rest.parts.len() + 1 {
-        let (list, h, then, is_last) = exps_step(
-            alloc, nest, round, level, limit, found, height, behind,
-        )?;
-        if is_last {
-            return Ok((list, h, then));
+        match exps_step(room, level, limit, found)? {
+            Turn::Last(list) => return Ok(list),
+            Turn::More(list) => found = list,
         }
-        found = list;
-        height = h;
-        behind = then;
     }
-    Err(ReadFault::Expected(behind.parts.len()))
+    Err(apart::spent(found))
 }
 
 #[cycle(parser)]
-#[tactic(auto, using(crate::proofs::Lists::exps_view_push), unfolding(bc_parse_defs::specs::Reading::exps_turn))]
+#[tactic(auto, unfolding(bc_parse_defs::specs::Reading::exps_turn))]
 fn exps_step<'s, 't>(
-    alloc: Global,
-    nest: usize,
-    round: usize,
+    room: Room,
     level: usize,
     limit: usize,
-    list: Vec<Exp<'s>>,
-    height: usize,
-    rest: Rest<'s, 't>,
-) -> Result<(Vec<Exp<'s>>, usize, Rest<'s, 't>, bool), ReadFault>
-    requires { height ≤ nest }
-    ensures read { (n : ℕ) → nest + round ≤ n → ExpsTurn result (exps_turn (exp_of n) nest round level limit (piece (exps_view list.entry.items) height (seen rest.entry))) }
-    ensures low { IfOk result (λ x. x.1 ≤ nest) }
+    list: Read<'s, 't, Vec<Exp<'s>>>,
+) -> Result<Turn<'s, 't, Vec<Exp<'s>>>, ReadFault>
+    requires { list.height ≤ room.nest }
+    ensures read { (n : ℕ) → room.nest + room.round ≤ n →
+        Takes (list_view exps_view) result (exps_turn (exp_of n) room.nest room.round level limit (read_view (list_view exps_view) list.entry)) }
+    ensures low { IfOk result (λ x. turn_height x ≤ room.nest) }
 {
-    let mut found = list;
-    let (e, h, behind) = exp(alloc, nest, round, level, rest)?;
-    found.push(e)?;
-    let height = height.max(h);
-    if exp_count(&found) == limit {
-        return Ok((found, height, behind, true));
+    let next = exp(room, level, list.rest)?;
+    let tree = apart::exp_added(list.tree, next.tree)?;
+    let height = list.height.max(next.height);
+    let rest = next.rest;
+    if exp_count(&tree) == limit {
+        return Ok(Turn::Last(Read { tree, height, rest }));
     }
-    Ok(match cursor::after(Symbol::Comma, behind) {
-        None => (found, height, behind, true),
-        Some(next) => (found, height, next, false),
+    Ok(match cursor::after(Symbol::Comma, rest) {
+        None => Turn::Last(Read { tree, height, rest }),
+        Some(rest) => Turn::More(Read { tree, height, rest }),
     })
 }
 

@@ -1,6 +1,7 @@
 //! From tokens to trees, and back by `bc_parse_spell`.
 #![tactic(auto)]
 
+mod apart;
 mod blocks;
 mod commands;
 mod cursor;
@@ -9,6 +10,7 @@ mod error;
 mod expressions;
 mod fault;
 mod names;
+mod read;
 mod section;
 
 pub use bc_parse_spell::{render, spell};

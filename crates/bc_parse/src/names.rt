@@ -1,68 +1,71 @@
 //! Lists of names.
 ghost use Rattle.std.specs.Prelude.{◌≡◌, length};
-ghost use Rattle.bc_parse_defs.specs.Reading.{piece, names_read, name_turn, parameters_read};
-ghost use Rattle.bc_parse.specs.Seen.{seen};
-ghost use Rattle.bc_parse.specs.Names.{names_view, ReadNames, NamesTurn};
+ghost use Rattle.bc_parse_defs.specs.Reading.{names_read, name_turn, parameters_read};
+ghost use Rattle.bc_parse.specs.Seen.{seen, list_view, read_view, Reads, Takes};
+ghost use Rattle.bc_parse.specs.Names.{names_view};
 
 use crate::cursor;
 use crate::cursor::Rest;
 use crate::fault::ReadFault;
+use crate::read::{Answer, Read, Turn};
 use bc_lex_tokens::Symbol;
 use std::alloc::Global;
 
 /// One more name, and whether it is the last.
 #[tactic(auto, unfolding(bc_parse_defs::specs::Reading::name_turn), using(crate::proofs::Lists::names_view_push))]
 fn name_step<'s, 't>(
-    names: Vec<&'s [u8]>,
-    rest: Rest<'s, 't>,
-) -> Result<(Vec<&'s [u8]>, Rest<'s, 't>, bool), ReadFault>
-    ensures { NamesTurn result (name_turn (piece (names_view names.entry.items) 0 (seen rest.entry))) }
+    list: Read<'s, 't, Vec<&'s [u8]>>,
+) -> Result<Turn<'s, 't, Vec<&'s [u8]>>, ReadFault>
+    ensures { Takes (list_view names_view) result (name_turn (read_view (list_view names_view) list.entry)) }
 {
-    let mut found = names;
-    let (name, rest) = cursor::name(rest)?;
-    found.push(name)?;
+    let height = list.height;
+    let mut tree = list.tree;
+    let (name, rest) = cursor::name(list.rest)?;
+    tree.push(name)?;
     Ok(match cursor::after(Symbol::Comma, rest) {
-        None => (found, rest, true),
-        Some(next) => (found, next, false),
+        None => Turn::Last(Read { tree, height, rest }),
+        Some(rest) => Turn::More(Read { tree, height, rest }),
     })
 }
 
 /// Names with commas between them.
 #[tactic(auto, unfolding(bc_parse_defs::specs::Reading::names_read))]
-pub fn names<'s, 't>(
-    alloc: Global,
-    rest: Rest<'s, 't>,
-) -> Result<(Vec<&'s [u8]>, Rest<'s, 't>), ReadFault>
-    ensures { ReadNames result (names_read (seen rest.entry)) }
+pub fn names<'s, 't>(alloc: Global, rest: Rest<'s, 't>) -> Answer<'s, 't, Vec<&'s [u8]>>
+    ensures { Reads (list_view names_view) result (names_read (seen rest.entry)) }
 {
-    let mut found = Vec::new(alloc);
-    let mut behind = rest;
+    let mut found = Read {
+        tree: Vec::new(alloc),
+        height: 0,
+        rest,
+    };
     for _ in 0..rest.parts.len() + 1 {
-        let (list, then, is_last) = name_step(found, behind)?;
-        if is_last {
-            return Ok((list, then));
+        match name_step(found)? {
+            Turn::Last(list) => return Ok(list),
+            Turn::More(list) => found = list,
         }
-        found = list;
-        behind = then;
     }
-    Err(ReadFault::Expected(behind.parts.len()))
+    Err(ReadFault::Expected(found.rest.parts.len()))
 }
 
 /// The parameters of a routine, behind the first bracket, and the parts behind the other.
 #[tactic(auto, unfolding(bc_parse_defs::specs::Reading::parameters_read))]
-pub fn parameters<'s, 't>(
-    alloc: Global,
-    rest: Rest<'s, 't>,
-) -> Result<(Vec<&'s [u8]>, Rest<'s, 't>), ReadFault>
-    ensures { ReadNames result (parameters_read (seen rest.entry)) }
+pub fn parameters<'s, 't>(alloc: Global, rest: Rest<'s, 't>) -> Answer<'s, 't, Vec<&'s [u8]>>
+    ensures { Reads (list_view names_view) result (parameters_read (seen rest.entry)) }
 {
-    match cursor::after(Symbol::CloseBracket, rest) {
-        Some(behind) => Ok((Vec::new(alloc), behind)),
-        None => {
-            let (found, then) = names(alloc, rest)?;
-            Ok((found, cursor::expect(Symbol::CloseBracket, then)?))
-        }
+    if let Some(rest) = cursor::after(Symbol::CloseBracket, rest) {
+        return Ok(Read {
+            tree: Vec::new(alloc),
+            height: 0,
+            rest,
+        });
     }
+    let found = names(alloc, rest)?;
+    let rest = cursor::expect(Symbol::CloseBracket, found.rest)?;
+    Ok(Read {
+        tree: found.tree,
+        height: 0,
+        rest,
+    })
 }
 
 /// How many names a list has.

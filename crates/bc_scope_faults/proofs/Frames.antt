@@ -50,3 +50,5 @@ wider w v m r whole e h = ap (λ x. max x r) e ∙ max_along w v r ∙ h
 
 pub follows : (b c : Bool) (xs ys : List Thing) (whole : Bool) → c ≡ frames_fit b xs → frames_fit b (xs ++ ys) ≡ whole → frames_fit c ys ≡ whole
 follows b c xs ys whole e h = ap (λ x. frames_fit x ys) e ∙ sym (frames_along b xs ys) ∙ h
+
+pub ruleset along = (frames_along, max_along)

@@ -2,4 +2,5 @@ pub mod Judged
 pub mod Kept
 pub mod Seen
 pub mod Walked
+pub mod Walk
 pub mod Parts

@@ -1,16 +1,11 @@
 -- For proofs: what the walk's own data stand for.
-use Rattle.std.specs.Prelude.{◌≡◌, ℕ, nat_le, ◌&&◌, Bool, List, [], ◌∷◌, map, Option, None, Result, Ok, Err}
+use Rattle.std.specs.Prelude.{nat_le, ◌&&◌, Bool, List, [], ◌∷◌, map, ℕ}
 use Rattle.std.specs.Borrow.{Bor}
-use Rattle.bc_scope_names.specs.View.{numbers_view}
-use Rattle.bc_scope_names.specs.declared.error.ScopeError.{ScopeError}
 use Rattle.bc_scope_faults.specs.declared.judging.Allowed as code_allowed
 use Rattle.bc_scope_faults.specs.declared.judging.Met as code_met
-use Rattle.bc_scope_faults.specs.declared.progress.Progress.{Progress}
-use Rattle.bc_scope_faults.specs.Judged.{IsFault}
-use Rattle.bc_scope_defs.specs.Scope.{Numbers}
 use Rattle.bc_scope_defs.specs.Found.{Thing, AValof, ARoutine, Data}
 use Rattle.bc_scope_defs.specs.FramesAlong.{frame_of}
-use Rattle.bc_scope_defs.specs.Faults.{Fault, Allowed, Met}
+use Rattle.bc_scope_defs.specs.Faults.{Allowed, Met}
 
 abbrev pub allowed_view : code_allowed.Allowed → Allowed
 allowed_view a = record { in_loop = a.in_loop; in_cases = a.in_cases; in_valof = a.in_valof; may_return = a.may_return }
@@ -27,13 +22,3 @@ frames_fit b [] = b
 frames_fit b (AValof f ∷ things) = frames_fit b things
 frames_fit b (ARoutine r ∷ things) = frames_fit (b && nat_le (frame_of r) 32768) things
 frames_fit b (Data q d ∷ things) = frames_fit b things
-
--- the answer of a walk over a part: its first fault; without one its width, and the numbers and frames behind it
-abbrev pub Walks : Result ℕ ScopeError → Option Fault → (before after : Progress) → (behind : Numbers) → List Thing → (width : ℕ) → Type 0
-Walks (Ok w) f before after behind things width = (f ≡ None) × (w ≡ width) × (numbers_view after.at ≡ behind) × (after.fits ≡ frames_fit before.fits things)
-Walks (Err e) f before after behind things width = IsFault e f
-
--- the same of a part that has no width of its own
-abbrev pub WalksOn : {X : Type 0} → Result X ScopeError → Option Fault → (before after : Progress) → (behind : Numbers) → List Thing → Type 0
-WalksOn (Ok w) f before after behind things = (f ≡ None) × (numbers_view after.at ≡ behind) × (after.fits ≡ frames_fit before.fits things)
-WalksOn (Err e) f before after behind things = IsFault e f

@@ -1,13 +1,17 @@
 //! The first fault of a section, in text order.
 #![tactic(auto)]
 
-mod faults;
+mod blocks;
+mod commands;
+mod declarations;
+mod expressions;
 mod judging;
 mod progress;
+mod section;
 
-pub use faults::judge;
 pub use judging::{
     Allowed, address_fault, all_held, entry_fault, has_cell, jump_fault, level_at, name_fault,
     widest,
 };
 pub use progress::{Extent, Progress};
+pub use section::judge;

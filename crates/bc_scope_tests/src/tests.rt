@@ -136,7 +136,8 @@ fn labels_are_counted(rt: HostRuntime) -> Result<(), Fail> {
 
 /// A hundred names of two letters each.
 const NAMES: &[u8] =
-    b"A0A1A2A3A4A5A6A7A8A9B0B1B2B3B4B5B6B7B8B9C0C1C2C3C4C5C6C7C8C9D0D1D2D3D4D5D6D7D8D9E0E1E2E3E4E5E6E7E8E9F0F1F2F3F4F5F6F7F8F9G0G1G2G3G4G5G6G7G8G9H0H1H2H3H4H5H6H7H8H9I0I1I2I3I4I5I6I7I8I9J0J1J2J3J4J5J6J7J8J9";
+    b"A0A1A2A3A4A5A6A7A8A9B0B1B2B3B4B5B6B7B8B9C0C1C2C3C4C5C6C7C8C9D0D1D2D3D4D5D6D7D8D9E0E1E2E3E4E5E6E7E8E9\
+      F0F1F2F3F4F5F6F7F8F9G0G1G2G3G4G5G6G7G8G9H0H1H2H3H4H5H6H7H8H9I0I1I2I3I4I5I6I7I8I9J0J1J2J3J4J5J6J7J8J9";
 
 /// All names, with this meaning.
 fn declare_all(scope: &mut Scope<'_>, meant: Meant) -> Result<(), Memory> {
@@ -200,7 +201,8 @@ fn grown(alloc: Global) -> Option<ScopeError<'static>> {
     }
     let texts: [&[u8]; 2] = [
         b"MANIFEST $( M = 2 $); STATIC $( S = 'A' $); GLOBAL $( G:100 $)",
-        b"LET F(X) = VALOF $( LET V = VEC 2; L: V!0, X := X, TABLE 1, 2; SWITCHON X INTO $( CASE 1: ENDCASE; DEFAULT: FOR I = 1 TO 3 DO V!I := F(I, \"AB\") $); GOTO L $) AND P() BE F(@F(1)!2) REPEATWHILE P() = 0",
+        b"LET F(X) = VALOF $( LET V = VEC 2; L: V!0, X := X, TABLE 1, 2; \
+          SWITCHON X INTO $( CASE 1: ENDCASE; DEFAULT: FOR I = 1 TO 3 DO V!I := F(I, \"AB\") $); GOTO L $) AND P() BE F(@F(1)!2) REPEATWHILE P() = 0",
     ];
     for text in texts {
         let fault = fault(alloc, text);

@@ -1,11 +1,10 @@
-use crate::places::{addresses, instruction, is_long};
 use crate::references::{Manner, Reference, of_label, references};
 use crate::strings::{run_behind, said_of_bytes};
 use bc_machine_image::Image;
 use bc_show::ShownItem;
 use bc_text_items::{Base, Function, Item, Segment};
 use bc_word::{Memory, Word};
-use bcpl_segments::library_name;
+use bcpl_segments::{addresses, instruction, is_long, library_name};
 use std::alloc::Global;
 
 /// What is said of the code that begins at an item.
@@ -360,7 +359,7 @@ impl<'p> Listing<'p> {
             Some(place) => usize::from(place.start.get()),
             None => 0,
         };
-        let addresses = addresses(self.alloc, start, items)?;
+        let (addresses, _) = addresses(self.alloc, start, items)?;
         let references = references(self.alloc, items, addresses.as_slice())?;
         let name = self.name_of(segment);
         writeln!(self.text, "\n/ segment {segment}, {name}: from {start} on")?;

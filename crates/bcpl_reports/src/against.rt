@@ -1,6 +1,6 @@
-use crate::certificate::{entry_index, line_place, lines_of};
-use crate::fields::{field_of, item_text};
-use crate::placed::{Placed, Stretch, Text, add_help, add_note, add_place, is_byte};
+use crate::certificate::{Lined, lines_of};
+use crate::placed::{Placed, Text, is_byte};
+use crate::report::{Part, Report};
 use crate::text_items::item_at;
 use bc_cert_defs::{Judged, Mismatch, Verdict};
 use bc_rules_defs::Piece;
@@ -29,19 +29,38 @@ fn extent(code: &[Piece]) -> u64 {
     count
 }
 
-/// Where code and items differ first: the piece's index, the item's index, and the item that the code has there.
-fn difference(judged: &Judged, items: &[Item]) -> Option<(usize, usize, Item)> {
+/// Where items have another one than the code.
+#[derive(Clone, Copy)]
+struct Other<'a> {
+    /// The index of the piece.
+    piece: usize,
+    /// The index of the item.
+    item: usize,
+    /// The item that the code has there.
+    wanted: &'a Item,
+}
+
+/// Whether this item stands there.
+fn has(items: &[Item], at: usize, wanted: &Item) -> bool {
+    match items.get(at) {
+        Some(found) => *found == *wanted,
+        None => false,
+    }
+}
+
+/// Where code and items differ first.
+fn difference<'a>(judged: &'a Judged, items: &[Item]) -> Option<Other<'a>> {
     let mut at = as_index(judged.item);
     for (index, piece) in judged.code.iter().enumerate() {
         match piece {
             Piece::Body(count) => at = at.saturating_add(as_index(*count)),
             Piece::Item(item) => {
-                let is_there = match items.get(at) {
-                    Some(found) => *found == *item,
-                    None => false,
-                };
-                if !is_there {
-                    return Some((index, at, *item));
+                if !has(items, at, item) {
+                    return Some(Other {
+                        piece: index,
+                        item: at,
+                        wanted: item,
+                    });
                 }
                 at = at.saturating_add(1);
             }
@@ -50,122 +69,194 @@ fn difference(judged: &Judged, items: &[Item]) -> Option<(usize, usize, Item)> {
     None
 }
 
-/// A certificate, its lines, and the number of an entry.
+/// A certificate with its lines, and the number of an entry.
 #[derive(Clone, Copy)]
 struct At<'a> {
-    text: Text<'a>,
-    lines: &'a [Stretch],
+    lined: Lined<'a>,
     entry: u64,
 }
 
 impl<'a> At<'a> {
     /// Where the `E` line of the entry stands.
     fn head(&self) -> Option<Placed<'a>> {
-        match entry_index(self.text.bytes, self.lines, self.entry) {
-            Some(index) => line_place(self.text, self.lines, index),
-            None => None,
-        }
+        let index = self.lined.entry_index(self.entry)?;
+        Some(self.lined.place(index))
     }
 
     /// Where the piece with this index of the entry's code line stands.
     fn piece(&self, piece: usize) -> Option<Placed<'a>> {
-        let index = entry_index(self.text.bytes, self.lines, self.entry)?;
-        for line in self.lines.get(index..).unwrap_or(&[]) {
-            if is_byte(self.text.bytes, line.start, b'C') {
-                return Some(Placed {
-                    text: self.text,
-                    stretch: field_of(self.text.bytes, *line, piece.saturating_add(1)),
-                });
+        let first = self.lined.entry_index(self.entry)?;
+        for index in first..self.lined.lines.len() {
+            if is_byte(self.lined.line(index), 0, b'C') {
+                return Some(self.lined.field(index, piece.saturating_add(1)));
             }
         }
         None
     }
 }
 
-/// The lines on code that is not in the text.
+/// Adds where the text has another item than the code.
+fn add_item(
+    report: &mut Report,
+    placed: Placed<'_>,
+    other: Other<'_>,
+    segment: usize,
+    entry: u64,
+) -> Result<(), Memory> {
+    report.place(
+        placed,
+        "item {} of segment {} is {} by entry {} of the certificate",
+        &[
+            Part::Number(other.item as u128),
+            Part::Number(segment as u128),
+            Part::Item(other.wanted),
+            Part::Number(u128::from(entry)),
+        ],
+    )
+}
+
+/// Adds where the certificate says what the text doesn't have, and what to do.
+fn add_piece(report: &mut Report, piece: Option<Placed<'_>>) -> Result<(), Memory> {
+    if let Some(placed) = piece {
+        report.note(placed, "the certificate says so here")?;
+    }
+    report.help(
+        "build both anew, by one build; the texts come in the order in which the certificate numbers their segments",
+    )
+}
+
+/// Adds what is said of code that is not in the text.
 fn code_differs(
-    alloc: Global,
+    report: &mut Report,
     at: At<'_>,
     judged: &Judged,
     texts: &[Text<'_>],
-    segments: &[Segment],
-) -> Result<String, Memory> {
-    let mut report = String::new(alloc);
+    items: &[Item],
+) -> Result<(), Memory> {
+    let Some(other) = difference(judged, items) else {
+        return Ok(())
+    };
     let segment = as_index(judged.segment);
-    let Some(found) = segments.get(segment) else {
-        return Ok(report)
-    };
-    let Some((piece, item, wanted)) = difference(judged, found.items()) else {
-        return Ok(report)
-    };
-    let wanted = item_text(alloc, wanted)?;
-    let entry = at.entry;
-    if let Some(place) = item_at(alloc, texts, segment, item)? {
-        let sentence = format!(in alloc;
-            "item {item} of segment {segment} is {wanted} by entry {entry} of the certificate"
-        )?;
-        add_place(alloc, &mut report, place, sentence.as_str())?;
+    if let Some(placed) = item_at(texts, segment, other.item) {
+        add_item(report, placed, other, segment, at.entry)?;
     }
-    if let Some(place) = at.piece(piece) {
-        add_note(alloc, &mut report, place, "the certificate says so here")?;
-    }
-    add_help(
-        &mut report,
-        "build both anew, by one build; the texts come in the order in which the certificate numbers their segments",
-    )?;
-    Ok(report)
+    add_piece(report, at.piece(other.piece))
 }
 
-/// The lines on an entry whose code lies in no segment.
+/// What to do where an entry's code lies in no segment.
+const ALL_TEXTS: &str = "name all texts of the build, and none of another one";
+
+/// Adds what is said of an entry whose code goes beyond its segment, which has so many items.
+fn beyond(
+    report: &mut Report,
+    placed: Placed<'_>,
+    judged: &Judged,
+    items: usize,
+) -> Result<(), Memory> {
+    let count = extent(judged.code.as_slice());
+    report.fault(
+        placed,
+        "the code of this entry takes {} items from item {} on, and segment {} has {}",
+        &[
+            Part::Number(u128::from(count)),
+            Part::Number(u128::from(judged.item)),
+            Part::Number(u128::from(judged.segment)),
+            Part::Number(items as u128),
+        ],
+        ALL_TEXTS,
+    )
+}
+
+/// Adds what is said of an entry whose segment is none of so many.
+fn elsewhere(
+    report: &mut Report,
+    placed: Placed<'_>,
+    segment: u64,
+    count: usize,
+) -> Result<(), Memory> {
+    report.fault(
+        placed,
+        "this entry stands in segment {}, and the texts have {}, counted from 0",
+        &[
+            Part::Number(u128::from(segment)),
+            Part::Number(count as u128),
+        ],
+        ALL_TEXTS,
+    )
+}
+
+/// Adds what is said of an entry whose code lies in no segment.
 fn outside(
-    alloc: Global,
-    at: At<'_>,
+    report: &mut Report,
+    placed: Placed<'_>,
     judged: &Judged,
     segments: &[Segment],
-) -> Result<String, Memory> {
-    let mut report = String::new(alloc);
-    let segment = judged.segment;
-    let sentence = match segments.get(as_index(segment)) {
-        Some(found) => {
-            let item = judged.item;
-            let count = extent(judged.code.as_slice());
-            let items = found.items().len();
-            format!(in alloc;
-                "the code of this entry takes {count} items from item {item} on, and segment {segment} has {items}"
-            )?
-        }
-        None => {
-            let count = segments.len();
-            format!(in alloc;
-                "this entry stands in segment {segment}, and the texts have {count}, counted from 0"
-            )?
-        }
-    };
-    if let Some(place) = at.head() {
-        add_place(alloc, &mut report, place, sentence.as_str())?;
-        add_help(
-            &mut report,
-            "name all texts of the build, and none of another one",
-        )?;
+) -> Result<(), Memory> {
+    match segments.get(as_index(judged.segment)) {
+        Some(found) => beyond(report, placed, judged, found.items().len()),
+        None => elsewhere(report, placed, judged.segment, segments.len()),
     }
-    Ok(report)
 }
 
-/// The lines on an entry that stands in front of the one before it.
-fn disordered(alloc: Global, at: At<'_>) -> Result<String, Memory> {
-    let mut report = String::new(alloc);
-    if let Some(place) = at.head() {
+/// Adds what is said of an entry that stands in front of the one before it.
+fn disordered(report: &mut Report, at: At<'_>) -> Result<(), Memory> {
+    if let Some(placed) = at.head() {
         let sentence = "by segment and item this entry stands in front of the one before it";
-        add_place(alloc, &mut report, place, sentence)?;
+        report.place(placed, sentence, &[])?;
     }
     let before = At {
+        lined: at.lined,
         entry: at.entry.saturating_sub(1),
-        ..at
     };
-    if let Some(place) = before.head() {
-        add_note(alloc, &mut report, place, "the one before it")?;
+    match before.head() {
+        Some(placed) => report.note(placed, "the one before it"),
+        None => Ok(()),
     }
-    Ok(report)
+}
+
+/// Adds what is said of a mismatch at this entry; nothing where nothing more is known.
+fn add_mismatch(
+    report: &mut Report,
+    at: At<'_>,
+    judged: &Judged,
+    compared: (&[Text<'_>], &[Segment]),
+    mismatch: Mismatch,
+) -> Result<(), Memory> {
+    let (texts, segments) = compared;
+    match mismatch {
+        Mismatch::CodeDiffers(_) => match segments.get(as_index(judged.segment)) {
+            Some(found) => code_differs(report, at, judged, texts, found.items()),
+            None => Ok(()),
+        },
+        Mismatch::OutsideText(_) => match at.head() {
+            Some(placed) => outside(report, placed, judged, segments),
+            None => Ok(()),
+        },
+        Mismatch::Order(_) => disordered(report, at),
+    }
+}
+
+/// Adds what is said of a mismatch of a certificate.
+fn add_entry(
+    report: &mut Report,
+    certificate: Text<'_>,
+    verdict: &Verdict,
+    compared: (&[Text<'_>], &[Segment]),
+    mismatch: Mismatch,
+) -> Result<(), Memory> {
+    let entry = match mismatch {
+        Mismatch::CodeDiffers(entry) | Mismatch::OutsideText(entry) | Mismatch::Order(entry) =>
+            entry,
+    };
+    let lines = lines_of(report.alloc(), certificate.bytes)?;
+    let lined = Lined {
+        text: certificate,
+        lines: lines.as_slice(),
+    };
+    match verdict.entries.get(as_index(entry)) {
+        Some(judged) => add_mismatch(report, At { lined, entry }, judged, compared, mismatch),
+        None => Ok(()),
+    }
 }
 
 /// The lines on a certificate whose code the texts, with these segments, don't have: what the text has, and what the certificate says.
@@ -177,23 +268,7 @@ pub fn against_lines(
     compared: (&[Text<'_>], &[Segment]),
     mismatch: Mismatch,
 ) -> Result<String, Memory> {
-    let (texts, segments) = compared;
-    let entry = match mismatch {
-        Mismatch::CodeDiffers(entry) | Mismatch::OutsideText(entry) | Mismatch::Order(entry) =>
-            entry,
-    };
-    let lines = lines_of(alloc, certificate.bytes)?;
-    let at = At {
-        text: certificate,
-        lines: lines.as_slice(),
-        entry,
-    };
-    let Some(judged) = verdict.entries.get(as_index(entry)) else {
-        return Ok(String::new(alloc))
-    };
-    match mismatch {
-        Mismatch::CodeDiffers(_) => code_differs(alloc, at, judged, texts, segments),
-        Mismatch::OutsideText(_) => outside(alloc, at, judged, segments),
-        Mismatch::Order(_) => disordered(alloc, at),
-    }
+    let mut report = Report::new(alloc);
+    add_entry(&mut report, certificate, verdict, compared, mismatch)?;
+    Ok(report.into_text())
 }

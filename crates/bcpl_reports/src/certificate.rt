@@ -1,3 +1,4 @@
+use crate::fields::field_of;
 use crate::placed::{Placed, Stretch, Text, is_byte};
 use bc_cert_defs::Head;
 use bc_cert_lines::{NodeLine, RootLine, entry_line, header, node_line, root_line};
@@ -33,39 +34,112 @@ pub fn bytes_at(bytes: &[u8], stretch: Stretch) -> &[u8] {
         .unwrap_or(b"".as_slice())
 }
 
-/// The table of a certificate.
-pub fn table_of(bytes: &[u8], lines: &[Stretch]) -> Table {
-    match lines.first() {
-        Some(first) => header(bytes_at(bytes, *first)).unwrap_or(Table::Two),
-        None => Table::Two,
-    }
+/// A certificate with its lines.
+#[derive(Clone, Copy)]
+pub struct Lined<'a> {
+    pub text: Text<'a>,
+    pub lines: &'a [Stretch],
 }
 
-/// The index of the `E` line of an entry; none where there is none.
-pub fn entry_index(bytes: &[u8], lines: &[Stretch], entry: u64) -> Option<usize> {
-    let mut left = entry;
-    for (index, line) in lines.iter().enumerate() {
-        if is_byte(bytes, line.start, b'E') {
-            if left == 0 {
-                return Some(index);
-            }
-            left -= 1;
+impl<'a> Lined<'a> {
+    /// The bytes of the line with this index.
+    pub fn line(&self, index: usize) -> &'a [u8] {
+        match self.lines.get(index) {
+            Some(stretch) => bytes_at(self.text.bytes, *stretch),
+            None => b"",
         }
     }
-    None
+
+    /// The bytes of the line in front of that with this index; none where there is none.
+    pub fn line_before(&self, index: usize) -> &'a [u8] {
+        match index.checked_sub(1) {
+            Some(before) => self.line(before),
+            None => b"",
+        }
+    }
+
+    /// The stretch of the line with this index; where there is none, the text's end.
+    fn stretch(&self, index: usize) -> Stretch {
+        match self.lines.get(index) {
+            Some(stretch) => *stretch,
+            None => {
+                let end = self.text.bytes.len();
+                Stretch { start: end, end }
+            }
+        }
+    }
+
+    /// Where the line with this index stands.
+    pub fn place(&self, index: usize) -> Placed<'a> {
+        Placed {
+            text: self.text,
+            stretch: self.stretch(index),
+        }
+    }
+
+    /// Where the field with this index of a line stands.
+    pub fn field(&self, index: usize, field: usize) -> Placed<'a> {
+        Placed {
+            text: self.text,
+            stretch: field_of(self.text.bytes, self.stretch(index), field),
+        }
+    }
+
+    /// The bytes of a line in front of the field with this index.
+    pub fn front(&self, index: usize, field: usize) -> &'a [u8] {
+        let start = self.stretch(index).start;
+        let end = self.field(index, field).stretch.start;
+        bytes_at(self.text.bytes, Stretch { start, end })
+    }
+
+    /// The table of the certificate.
+    pub fn table(&self) -> Table {
+        header(self.line(0)).unwrap_or(Table::Two)
+    }
+
+    /// The index of the `E` line of an entry; none where there is none.
+    pub fn entry_index(&self, entry: u64) -> Option<usize> {
+        let mut left = entry;
+        for (index, line) in self.lines.iter().enumerate() {
+            if is_byte(self.text.bytes, line.start, b'E') {
+                if left == 0 {
+                    return Some(index);
+                }
+                left -= 1;
+            }
+        }
+        None
+    }
 }
 
 /// An entry of a certificate, as far as its lines are of their forms.
-#[derive(Drop)]
-pub struct EntryText {
+#[derive(Clone, Copy)]
+pub struct Entry<'a> {
+    pub lined: Lined<'a>,
+    pub table: Table,
     /// The index of its `E` line.
     pub index: usize,
     /// What that says.
     pub head: Head,
     /// Its node lines.
-    pub nodes: Vec<NodeLine>,
-    /// Its root line, if there is one.
-    pub root: Option<RootLine>,
+    pub nodes: &'a [NodeLine],
+}
+
+impl<'a> Entry<'a> {
+    /// The index of the line of the node with this index, or of the root line behind the last one.
+    pub fn line(&self, node: usize) -> usize {
+        self.index.saturating_add(1).saturating_add(node)
+    }
+
+    /// The index of its root line.
+    pub fn root_index(&self) -> usize {
+        self.line(self.nodes.len())
+    }
+
+    /// What its root line says, if there is one.
+    pub fn root(&self) -> Option<RootLine> {
+        root_line(self.lined.line(self.root_index()))
+    }
 }
 
 /// Adds what a line says, where it is a node line, and says whether it is one. Memory is answered where a growth was refused.
@@ -73,56 +147,24 @@ fn add_node(nodes: &mut Vec<NodeLine>, line: &[u8]) -> Result<bool, Memory> {
     let Some(node) = node_line(line) else {
         return Ok(false)
     };
+    // With its type named: else the borrow checker's plan doesn't find where the type stands.
     let form: Form = node.form;
     nodes.push(NodeLine { form, ..node })?;
     Ok(true)
 }
 
-/// The node lines up to the first line that is none. Memory is answered where a growth was refused.
-fn node_lines(alloc: Global, bytes: &[u8], lines: &[Stretch]) -> Result<Vec<NodeLine>, Memory> {
+/// The node lines from the line with this index on, up to the first line that is none. Memory is answered where a growth was refused.
+pub fn node_lines(alloc: Global, lined: Lined<'_>, index: usize) -> Result<Vec<NodeLine>, Memory> {
     let mut nodes = Vec::new(alloc);
-    for line in lines {
-        if !add_node(&mut nodes, bytes_at(bytes, *line))? {
-            return Ok(nodes);
+    for at in index..lined.lines.len() {
+        if !add_node(&mut nodes, lined.line(at))? {
+            break;
         }
     }
     Ok(nodes)
 }
 
-/// The entry whose `E` line has this index. Memory is answered where a growth was refused.
-pub fn entry_text(
-    alloc: Global,
-    bytes: &[u8],
-    lines: &[Stretch],
-    index: usize,
-) -> Result<Option<EntryText>, Memory> {
-    let Some(line) = lines.get(index) else {
-        return Ok(None)
-    };
-    let Some(head) = entry_line(bytes_at(bytes, *line)) else {
-        return Ok(None)
-    };
-    let behind = lines.get(index.saturating_add(1)..).unwrap_or(&[]);
-    let nodes = node_lines(alloc, bytes, behind)?;
-    let root = match behind.get(nodes.len()) {
-        Some(line) => root_line(bytes_at(bytes, *line)),
-        None => None,
-    };
-    Ok(Some(EntryText {
-        index,
-        head,
-        nodes,
-        root,
-    }))
-}
-
-/// The stretch of a line of a certificate.
-pub fn line_place<'a>(text: Text<'a>, lines: &[Stretch], index: usize) -> Option<Placed<'a>> {
-    match lines.get(index) {
-        Some(stretch) => Some(Placed {
-            text,
-            stretch: *stretch,
-        }),
-        None => None,
-    }
+/// What the `E` line with this index says.
+pub fn head_of(lined: Lined<'_>, index: usize) -> Option<Head> {
+    entry_line(lined.line(index))
 }

@@ -1,4 +1,4 @@
-ghost use Rattle.std.specs.Prelude.{IfOk};
+ghost use Rattle.std.specs.Prelude.{OnOk};
 ghost use Rattle.bc_cert_trees.specs.Stacks.{AreParallel};
 ghost use Rattle.bc_cert_trees.specs.View.{stack};
 
@@ -6,6 +6,7 @@ use bc_cert_defs::CheckFault;
 use bc_cert_lines::{NodeLine, RootLine};
 use bc_cert_trees::{Place, Rooted, Stack};
 use bc_rules_defs::Table;
+use bc_word::Memory;
 use std::alloc::Global;
 
 /// A place of which nothing is told.
@@ -15,45 +16,72 @@ const NOWHERE: Place = Place {
     node: 0,
 };
 
-/// The trees of these nodes, as the checker judges them.
-pub fn trees_of(alloc: Global, table: Table, nodes: &[NodeLine]) -> Result<Stack, CheckFault>
-    ensures { IfOk result (λ trees. AreParallel (stack trees)) }
+/// Puts the trees of these nodes, as the checker judges them, in place of all trees.
+fn trees_of(
+    trees: &mut Stack,
+    alloc: Global,
+    table: Table,
+    nodes: &[NodeLine],
+) -> Result<(), CheckFault>
+    ensures { OnOk result (AreParallel (stack trees.new)) }
 {
-    let mut trees = Stack::new(alloc);
+    trees.clear();
     for node in nodes {
-        if let Err(fault) = trees.node(alloc, table, node, NOWHERE) {
-            return Err(fault);
-        }
+        trees.node(alloc, table, node, NOWHERE)?;
     }
-    Ok(trees)
+    Ok(())
 }
 
-/// The root of these nodes, as the checker judges it.
-pub fn rooted_of(
+/// What the checker says of a node behind these.
+fn judged(
+    trees: &mut Stack,
+    alloc: Global,
+    table: Table,
+    nodes: &[NodeLine],
+    last: &NodeLine,
+) -> Result<(), CheckFault> {
+    trees_of(trees, alloc, table, nodes)?;
+    trees.node(alloc, table, last, NOWHERE)
+}
+
+/// Whether the checker takes a node behind these.
+pub fn takes(
+    trees: &mut Stack,
+    alloc: Global,
+    table: Table,
+    nodes: &[NodeLine],
+    last: &NodeLine,
+) -> Result<bool, Memory> {
+    match judged(trees, alloc, table, nodes, last) {
+        Ok(()) => Ok(true),
+        Err(CheckFault::Memory) => Err(Memory),
+        Err(_) => Ok(false),
+    }
+}
+
+/// What the checker says of a root of these nodes.
+fn judged_root(
+    trees: &mut Stack,
     alloc: Global,
     table: Table,
     nodes: &[NodeLine],
     root: RootLine,
 ) -> Result<Rooted, CheckFault> {
-    match trees_of(alloc, table, nodes) {
-        Ok(mut trees) => trees.root(alloc, root, NOWHERE),
-        Err(fault) => Err(fault),
-    }
+    trees_of(trees, alloc, table, nodes)?;
+    trees.root(alloc, root, NOWHERE)
 }
 
-/// Whether the checker takes a node behind these.
-pub fn takes(
+/// The root of these nodes, where the checker takes it.
+pub fn rooted_of(
+    trees: &mut Stack,
     alloc: Global,
     table: Table,
     nodes: &[NodeLine],
-    last: &NodeLine,
-) -> Result<bool, CheckFault> {
-    match trees_of(alloc, table, nodes) {
-        Ok(mut trees) => match trees.node(alloc, table, last, NOWHERE) {
-            Ok(()) => Ok(true),
-            Err(CheckFault::Memory) => Err(CheckFault::Memory),
-            Err(_) => Ok(false),
-        },
-        Err(fault) => Err(fault),
+    root: RootLine,
+) -> Result<Option<Box<Rooted>>, Memory> {
+    match judged_root(trees, alloc, table, nodes, root) {
+        Ok(rooted) => Ok(Some(Box::new(alloc, rooted)?)),
+        Err(CheckFault::Memory) => Err(Memory),
+        Err(_) => Ok(None),
     }
 }

@@ -1,5 +1,6 @@
-use crate::instruction::decoded;
-use crate::placed::{Placed, Text, add_help, add_place};
+use crate::instruction::instruction;
+use crate::placed::{Placed, Text};
+use crate::report::{Part, Report};
 use crate::text_items::item_at;
 use bc_machine_defs::End;
 use bc_machine_image::Image;
@@ -52,6 +53,28 @@ fn label_address(items: &[Item], addresses: &[usize], wanted: u16) -> Option<usi
     None
 }
 
+/// Where the routine begins that a global is set to, and the global's number.
+fn routine_of(item: &Item, items: &[Item], addresses: &[usize]) -> Option<(u16, usize)> {
+    match item {
+        Item::Global { number, label } => {
+            let begins = label_address(items, addresses, label.get())?;
+            Some((number.get(), begins))
+        }
+        _ => None,
+    }
+}
+
+impl Spot {
+    /// Takes along an item that stands at an address which is not behind that of the spot, but so many words in front of it.
+    fn pass(&mut self, index: usize, item: &Item, distance: usize) {
+        match item {
+            Item::Label(label) => self.label = nearer(self.label, label.get(), distance),
+            Item::Global { .. } => {}
+            _ => self.item = index,
+        }
+    }
+}
+
 /// What stands at an address of a segment whose items have these addresses.
 fn spot_in(segment: usize, items: &[Item], addresses: &[usize], address: usize) -> Spot {
     let mut spot = Spot {
@@ -62,27 +85,32 @@ fn spot_in(segment: usize, items: &[Item], addresses: &[usize], address: usize) 
     };
     for (index, item) in items.iter().enumerate() {
         let stands = addresses.get(index).copied().unwrap_or(usize::MAX);
-        match item {
-            Item::Label(label) => {
-                if stands <= address {
-                    spot.label = nearer(spot.label, label.get(), address - stands);
-                }
-            }
-            Item::Global { number, label } => {
-                if let Some(begins) = label_address(items, addresses, label.get()) {
-                    if begins <= address {
-                        spot.routine = nearer(spot.routine, number.get(), address - begins);
-                    }
-                }
-            }
-            _ => {
-                if stands <= address {
-                    spot.item = index;
-                }
+        if stands <= address {
+            spot.pass(index, item, address - stands);
+        }
+        if let Some((global, begins)) = routine_of(item, items, addresses) {
+            if begins <= address {
+                spot.routine = nearer(spot.routine, global, address - begins);
             }
         }
     }
     spot
+}
+
+/// What stands at an address, where this segment, which begins at `start`, has a word there.
+fn spot_of(
+    alloc: Global,
+    number: usize,
+    start: usize,
+    items: &[Item],
+    address: usize,
+) -> Result<Option<Spot>, Memory> {
+    let (addresses, behind) = addresses(alloc, start, items)?;
+    if start <= address && address < behind {
+        Ok(Some(spot_in(number, items, addresses.as_slice(), address)))
+    } else {
+        Ok(None)
+    }
 }
 
 /// What stands at an address; none where no segment's word does.
@@ -96,61 +124,79 @@ fn spot_at(
     for (number, segment) in segments.iter().enumerate() {
         if let Some(place) = starts.get(number) {
             let start = usize::from(place.start.get());
-            let (addresses, behind) = addresses(alloc, start, segment.items())?;
-            if start <= address && address < behind {
-                return Ok(Some(spot_in(number, segment.items(), addresses.as_slice(), address)));
+            let spot = spot_of(alloc, number, start, segment.items(), address)?;
+            if spot.is_some() {
+                return Ok(spot);
             }
         }
     }
     Ok(None)
 }
 
-/// What is said of the address itself.
-fn address_sentence(
-    alloc: Global,
-    image: &Image,
-    spot: Option<Spot>,
-    address: u16,
-) -> Result<String, Memory> {
-    let stack = image.stack_base.get();
-    Ok(match spot {
-        Some(spot) if spot.segment == 0 => format!(in alloc;
-            "the address {address}, in the primitives"
-        )?,
-        Some(_) => format!(in alloc; "the address {address}")?,
-        None if address >= stack => format!(in alloc;
-            "the address {address}, in the stack, where no code stands"
-        )?,
-        None if address >= 8 && address < 520 => {
-            let global = address.saturating_sub(8);
-            format!(in alloc;
-                "the address {address}, the cell of the global {global}, where no code stands"
-            )?
+/// What is said of the address itself, with a place for the number of a global.
+fn address_sentence(image: &Image, spot: Option<Spot>, address: u16) -> &'static str {
+    match spot {
+        Some(spot) if spot.segment == 0 => "the address {}, in the primitives",
+        Some(_) => "the address {}",
+        None if address >= image.stack_base.get() => {
+            "the address {}, in the stack, where no code stands"
         }
-        None => format!(in alloc; "the address {address}, in front of all code")?,
-    })
+        None if address >= 8 && address < 520 => {
+            "the address {}, the cell of the global {}, where no code stands"
+        }
+        None => "the address {}, in front of all code",
+    }
 }
 
-/// What is said of the end of a run, given what is said of its address.
-fn sentence_of(alloc: Global, stop: &Stop, place: &str) -> Result<String, Memory> {
-    let (word, following) = stop.words;
-    Ok(match stop.end {
-        End::ZeroDivide => format!(in alloc; "a division or a remainder by 0, at {place}")?,
-        End::BadInstruction(_) => {
-            let instruction = decoded(alloc, word, following)?;
-            format!(in alloc;
-                "the word {word} is no instruction, at {place}: it says {instruction}"
-            )?
-        }
-        End::BudgetSpent => {
-            let steps = stop.steps;
-            format!(in alloc;
-                "{steps} instructions were carried out; the next one stands at {place}"
-            )?
-        }
-        End::Device => format!(in alloc; "an input or an output failed, at {place}")?,
-        End::Finished => String::new(alloc),
-    })
+/// Adds what is said of an address; `sentence` says of which kind it is.
+fn add_address(report: &mut Report, address: u16, sentence: &str) -> Result<(), Memory> {
+    let global = address.saturating_sub(8);
+    report.say(
+        sentence,
+        &[
+            Part::Number(u128::from(address)),
+            Part::Number(u128::from(global)),
+        ],
+    )
+}
+
+/// Adds what is said of the end of a run in front of its address.
+fn add_end(report: &mut Report, stop: &Stop) -> Result<(), Memory> {
+    match stop.end {
+        End::ZeroDivide => report.text("a division or a remainder by 0, at "),
+        End::BadInstruction(_) => report.say(
+            "the word {} is no instruction, at ",
+            &[Part::Number(u128::from(stop.words.0))],
+        ),
+        End::BudgetSpent => report.say(
+            "{} instructions were carried out; the next one stands at ",
+            &[Part::Number(u128::from(stop.steps))],
+        ),
+        End::Device => report.text("an input or an output failed, at "),
+        End::Finished => Ok(()),
+    }
+}
+
+/// Adds what the word is, as an instruction, at which a run ended.
+fn add_instruction(report: &mut Report, words: (u16, u16)) -> Result<(), Memory> {
+    let (word, following) = words;
+    report.say(": it says {}{}{}", &instruction(word, following))
+}
+
+/// Adds what is said of the end of a run, given what is said of its address.
+fn add_sentence(report: &mut Report, stop: &Stop, address: &str) -> Result<(), Memory> {
+    add_end(report, stop)?;
+    match stop.end {
+        End::Finished => Ok(()),
+        End::BadInstruction(_) => add_bad_instruction(report, stop, address),
+        _ => add_address(report, stop.address, address),
+    }
+}
+
+/// Adds at which address a word stands that is no instruction, and what it is.
+fn add_bad_instruction(report: &mut Report, stop: &Stop, address: &str) -> Result<(), Memory> {
+    add_address(report, stop.address, address)?;
+    add_instruction(report, stop.words)
 }
 
 /// What to do about the end of a run.
@@ -170,40 +216,100 @@ fn help_for(stop: &Stop, is_code: bool) -> Option<&'static str> {
     }
 }
 
-/// A number of words.
-fn counted(alloc: Global, words: usize) -> Result<String, Memory> {
-    if words == 1 {
-        Ok(String::from_str(alloc, "1 word")?)
-    } else {
-        Ok(format!(in alloc; "{words} words")?)
-    }
+/// What so many words are called.
+fn unit(words: usize) -> Part<'static> {
+    Part::Text(if words == 1 { "word" } else { "words" })
+}
+
+/// Adds which routine stands in front of a spot.
+fn add_routine(report: &mut Report, global: u16, distance: usize) -> Result<(), Memory> {
+    let (comma, name) = match library_name(global) {
+        Some(name) => (", ", name),
+        None => ("", ""),
+    };
+    report.line(
+        "  the nearest routine of a global in front of it is that of {}{}{}, which begins {} {} before",
+        &[
+            Part::Number(u128::from(global)),
+            Part::Text(comma),
+            Part::Text(name),
+            Part::Number(distance as u128),
+            unit(distance),
+        ],
+    )
+}
+
+/// Adds which label stands in front of a spot.
+fn add_label(report: &mut Report, label: u16, distance: usize) -> Result<(), Memory> {
+    report.line(
+        "  the nearest label in front of it is {}, {} {} before",
+        &[
+            Part::Number(u128::from(label)),
+            Part::Number(distance as u128),
+            unit(distance),
+        ],
+    )
 }
 
 /// Adds which routine and label stand in front of a spot.
-fn add_nearest(alloc: Global, report: &mut String, spot: Spot) -> Result<(), Memory> {
+fn add_nearest(report: &mut Report, spot: Spot) -> Result<(), Memory> {
     if let Some((global, distance)) = spot.routine {
-        let words = counted(alloc, distance)?;
-        let words = words.as_str();
-        match library_name(global) {
-            Some(name) => writeln!(
-                report,
-                "  the nearest routine of a global in front of it is that of {global}, {name}, which begins {words} before"
-            )?,
-            None => writeln!(
-                report,
-                "  the nearest routine of a global in front of it is that of {global}, which begins {words} before"
-            )?,
-        }
+        add_routine(report, global, distance)?;
     }
-    if let Some((label, distance)) = spot.label {
-        let words = counted(alloc, distance)?;
-        let words = words.as_str();
-        writeln!(
-            report,
-            "  the nearest label in front of it is {label}, {words} before"
-        )?;
+    match spot.label {
+        Some((label, distance)) => add_label(report, label, distance),
+        None => Ok(()),
     }
-    Ok(())
+}
+
+/// Where the item at which a run ended stands in its text.
+fn place_of<'a>(texts: &[Text<'a>], spot: Option<Spot>) -> Option<Placed<'a>> {
+    let spot = spot?;
+    if spot.segment == 0 {
+        return None;
+    }
+    item_at(texts, spot.segment - 1, spot.item)
+}
+
+/// Adds how a run ended, at a place of its text or, where it is in none, in a line.
+fn add_ended(
+    report: &mut Report,
+    stop: &Stop,
+    address: &str,
+    placed: Option<Placed<'_>>,
+) -> Result<(), Memory> {
+    if let Some(placed) = placed {
+        report.begin_place(placed)?;
+    }
+    add_sentence(report, stop, address)?;
+    match placed {
+        Some(placed) => report.end_place(placed),
+        None => report.text("\n"),
+    }
+}
+
+/// Adds what stands in front of the spot at which a run ended, and what to do.
+fn add_advice(report: &mut Report, stop: &Stop, spot: Option<Spot>) -> Result<(), Memory> {
+    if let Some(spot) = spot {
+        add_nearest(report, spot)?;
+    }
+    match help_for(stop, spot.is_some()) {
+        Some(help) => report.help(help),
+        None => Ok(()),
+    }
+}
+
+/// Adds all that is said of the end of a run at this spot.
+fn add_stop(
+    report: &mut Report,
+    texts: &[Text<'_>],
+    image: &Image,
+    stop: &Stop,
+    spot: Option<Spot>,
+) -> Result<(), Memory> {
+    let address = address_sentence(image, spot, stop.address);
+    add_ended(report, stop, address, place_of(texts, spot))?;
+    add_advice(report, stop, spot)
 }
 
 /// The lines on a run that ended otherwise than by finishing: the item at which it ended, in its text, and the routine. The segments
@@ -215,32 +321,8 @@ pub fn ended_lines(
     image: &Image,
     stop: &Stop,
 ) -> Result<String, Memory> {
-    let mut report = String::new(alloc);
-    let address = stop.address;
-    let spot = spot_at(alloc, segments, image, usize::from(address))?;
-    let place = address_sentence(alloc, image, spot, address)?;
-    let sentence = sentence_of(alloc, stop, place.as_str())?;
-    let stands: Option<Placed<'_>> = match spot {
-        Some(spot) if spot.segment > 0 => item_at(
-            alloc,
-            texts,
-            spot.segment.saturating_sub(1),
-            spot.item,
-        )?,
-        _ => None,
-    };
-    match stands {
-        Some(placed) => add_place(alloc, &mut report, placed, sentence.as_str())?,
-        None => {
-            let sentence = sentence.as_str();
-            writeln!(report, "{sentence}")?;
-        }
-    }
-    if let Some(spot) = spot {
-        add_nearest(alloc, &mut report, spot)?;
-    }
-    if let Some(help) = help_for(stop, spot.is_some()) {
-        add_help(&mut report, help)?;
-    }
-    Ok(report)
+    let spot = spot_at(alloc, segments, image, usize::from(stop.address))?;
+    let mut report = Report::new(alloc);
+    add_stop(&mut report, texts, image, stop, spot)?;
+    Ok(report.into_text())
 }

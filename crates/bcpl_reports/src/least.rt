@@ -2,120 +2,106 @@ use bc_cert_lines::NodeLine;
 use bc_cert_node::{Facts, Form, LeastWords, Node, words_as_operand};
 use bc_core::CoreExp;
 use bc_rules_defs::Table;
-use bc_word::Memory;
+use bc_word::{Memory, Op};
 use std::alloc::Global;
 
-/// The trees of node lines that no whole has taken yet, with what the rules ask of them.
-#[derive(Drop)]
-struct Trees {
-    expressions: Vec<CoreExp>,
-    facts: Vec<Facts>,
-}
-
-/// The last one, in a box; none where there is none.
-fn last(alloc: Global, parts: &mut Vec<CoreExp>) -> Result<Option<Box<CoreExp>>, Memory> {
-    match parts.pop() {
-        Some(part) => Ok(Some(Box::new(alloc, part)?)),
-        None => Ok(None),
+/// The expression of a node without parts. For any other node a VALOF, which is no operand, either.
+fn leaf(form: Form) -> CoreExp {
+    match form {
+        Form::Num(n) => CoreExp::Num(n),
+        Form::Frame(offset) => CoreExp::Frame(offset),
+        Form::Glob(n) => CoreExp::Glob(n),
+        Form::Place(label) => CoreExp::Place(label),
+        _ => CoreExp::Valof(0),
     }
 }
 
-/// The two last ones.
-fn pair(
+/// The same in a box.
+fn boxed(alloc: Global, form: Form) -> Result<Box<CoreExp>, Memory> {
+    Ok(Box::new(alloc, leaf(form))?)
+}
+
+/// A sum of two nodes without parts.
+fn sum(alloc: Global, left: Form, right: Form) -> Result<CoreExp, Memory> {
+    let left = boxed(alloc, left)?;
+    Ok(CoreExp::Bin(Op::Add, left, boxed(alloc, right)?))
+}
+
+/// The expression of the last of these nodes as far as an address looks into it: a sum with its sides, where these have no parts.
+fn address(alloc: Global, nodes: &[NodeLine]) -> Result<CoreExp, Memory> {
+    match nodes {
+        [.., left, right, node] if matches!(node.form, Form::Bin(Op::Add)) => {
+            sum(alloc, left.form, right.form)
+        }
+        [.., node] => Ok(leaf(node.form)),
+        [] => Ok(CoreExp::Valof(0)),
+    }
+}
+
+/// The expression of the last of these nodes as far as an operand looks into it: what is loaded is an address.
+fn operand(alloc: Global, nodes: &[NodeLine]) -> Result<CoreExp, Memory> {
+    match nodes {
+        [before @ .., load] if matches!(load.form, Form::Load) => {
+            Ok(CoreExp::Load(Box::new(alloc, address(alloc, before)?)?))
+        }
+        _ => address(alloc, nodes),
+    }
+}
+
+/// Whether a part holds a call or a VALOF.
+fn calls(parts: &[Facts]) -> bool {
+    for part in parts {
+        if part.calls {
+            return true;
+        }
+    }
+    false
+}
+
+/// Where the facts of a node's parts begin among those that no whole has taken yet; none where they are too few.
+fn parts_from(facts: &[Facts], node: &NodeLine) -> Option<usize> {
+    facts.len().checked_sub(node.form.parts())
+}
+
+/// What is known of the last of these nodes, over these parts.
+fn known(
     alloc: Global,
-    parts: &mut Vec<CoreExp>,
-) -> Result<Option<(Box<CoreExp>, Box<CoreExp>)>, Memory> {
-    let Some(right) = last(alloc, parts)? else {
+    nodes: &[NodeLine],
+    line: &NodeLine,
+    parts: &[Facts],
+) -> Result<Facts, Memory> {
+    let expression = operand(alloc, nodes)?;
+    let calls = line.form.calls() || calls(parts);
+    Ok(Facts::of(&expression, calls, line.costs))
+}
+
+/// The least words of the last of these nodes, what is known of which is put in place of what was known of its parts; none where these are
+/// too few.
+fn take(
+    facts: &mut Vec<Facts>,
+    alloc: Global,
+    table: Table,
+    nodes: &[NodeLine],
+) -> Result<Option<LeastWords>, Memory> {
+    let Some(line) = nodes.last() else {
         return Ok(None)
     };
-    match last(alloc, parts)? {
-        Some(left) => Ok(Some((left, right))),
-        None => Ok(None),
-    }
-}
-
-/// An expression without parts.
-fn leaf(form: Form) -> Option<CoreExp> {
-    match form {
-        Form::Num(n) => Some(CoreExp::Num(n)),
-        Form::Frame(offset) => Some(CoreExp::Frame(offset)),
-        Form::Glob(n) => Some(CoreExp::Glob(n)),
-        Form::Place(label) => Some(CoreExp::Place(label)),
-        Form::Valof(number) => Some(CoreExp::Valof(number)),
-        _ => None,
-    }
-}
-
-/// The expression of a node whose last part is this, over its other parts; none where they are too few.
-fn over(
-    alloc: Global,
-    form: Form,
-    parts: Vec<CoreExp>,
-    last_part: Box<CoreExp>,
-) -> Result<Option<CoreExp>, Memory> {
-    let mut parts = parts;
-    Ok(match form {
-        Form::Neg => Some(CoreExp::Neg(last_part)),
-        Form::Not => Some(CoreExp::Not(last_part)),
-        Form::Load => Some(CoreExp::Load(last_part)),
-        Form::Bin(op) => match last(alloc, &mut parts)? {
-            Some(left) => Some(CoreExp::Bin(op, left, last_part)),
-            None => None,
-        },
-        Form::Cond => match pair(alloc, &mut parts)? {
-            Some((condition, this)) => Some(CoreExp::Cond(condition, this, last_part)),
-            None => None,
-        },
-        Form::Call(_) => Some(CoreExp::Call(parts, last_part)),
-        _ => None,
-    })
-}
-
-/// The expression of a node over its parts; none where they are too few.
-fn whole(alloc: Global, form: Form, parts: Vec<CoreExp>) -> Result<Option<CoreExp>, Memory> {
-    let found = leaf(form);
-    if found.is_some() {
-        return Ok(found);
-    }
-    let mut parts = parts;
-    match parts.pop() {
-        Some(part) => over(alloc, form, parts, Box::new(alloc, part)?),
-        None => Ok(None),
-    }
-}
-
-impl Trees {
-    /// The least words of a node over the trees of its parts, which it takes off, and whose place it takes; none where they are too few.
-    fn take(
-        &mut self,
-        alloc: Global,
-        table: Table,
-        line: &NodeLine,
-    ) -> Result<Option<LeastWords>, Memory> {
-        let count = line.form.parts();
-        if self.expressions.len() < count || self.facts.len() < count {
-            return Ok(None);
-        }
-        let from = self.expressions.len() - count;
-        let parts = self.expressions.split_off(from)?;
-        let from = self.facts.len() - count;
-        let facts = self.facts.split_off(from)?;
-        let Some(expression) = whole(alloc, line.form, parts)? else {
-            return Ok(None)
-        };
-        let node = Node {
-            table,
-            level: line.level,
-            form: line.form,
-            operand: words_as_operand(&expression),
-            parts: facts.as_slice(),
-        };
-        let least = node.least_words();
-        let calls = line.form.calls() || facts.iter().any(|part| part.calls);
-        self.facts.push(Facts::of(&expression, calls, line.costs))?;
-        self.expressions.push(expression)?;
-        Ok(Some(least))
-    }
+    let Some(from) = parts_from(facts.as_slice(), line) else {
+        return Ok(None)
+    };
+    let parts = facts.as_slice().get(from..).unwrap_or(&[]);
+    let known = known(alloc, nodes, line, parts)?;
+    let node = Node {
+        table,
+        level: line.level,
+        form: line.form,
+        operand: known.operand,
+        parts,
+    };
+    let least = node.least_words();
+    facts.truncate(from);
+    facts.push(known)?;
+    Ok(Some(least))
 }
 
 /// The least words of the derivations of the last of these nodes, by the numbers of those in front of it; none where they are no trees.
@@ -125,13 +111,11 @@ pub fn least_of(
     table: Table,
     nodes: &[NodeLine],
 ) -> Result<Option<LeastWords>, Memory> {
-    let mut trees = Trees {
-        expressions: Vec::new(alloc),
-        facts: Vec::new(alloc),
-    };
+    let mut facts = Vec::new(alloc);
     let mut least = None;
-    for node in nodes {
-        least = trees.take(alloc, table, node)?;
+    for index in 0..nodes.len() {
+        let front = nodes.get(..index.saturating_add(1)).unwrap_or(&[]);
+        least = take(&mut facts, alloc, table, front)?;
         if least.is_none() {
             break;
         }

@@ -5,6 +5,8 @@
 mod against;
 mod certificate;
 mod checked;
+mod codes;
+mod costs;
 mod derived;
 mod ended;
 mod fields;
@@ -12,6 +14,8 @@ mod instruction;
 mod least;
 mod linked;
 mod placed;
+mod report;
+mod rules;
 mod streams;
 mod text_items;
 mod texts;

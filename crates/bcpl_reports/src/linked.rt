@@ -1,4 +1,5 @@
-use crate::placed::{Placed, Text, add_help, add_note, add_place};
+use crate::placed::{Placed, Text};
+use crate::report::{Part, Report};
 use crate::text_items::item_at;
 use bc_link::LinkError;
 use bc_text_items::{Base, Item, Segment};
@@ -28,154 +29,261 @@ fn sets(item: &Item, wanted: u16) -> bool {
 }
 
 /// Where the item with this index of this segment stands, the primitives being the segment 0.
-fn place_of<'a>(
-    alloc: Global,
-    texts: &[Text<'a>],
-    segment: usize,
-    index: usize,
-) -> Result<Option<Placed<'a>>, Memory> {
+fn place_of<'a>(texts: &[Text<'a>], segment: usize, index: usize) -> Option<Placed<'a>> {
     if segment == 0 {
-        return Ok(None);
+        return None;
     }
-    item_at(alloc, texts, segment - 1, index)
+    item_at(texts, segment - 1, index)
 }
 
-/// The lines on a label that stands nowhere.
-fn label_unset(
-    alloc: Global,
-    texts: &[Text<'_>],
-    segments: &[Segment],
-    segment: usize,
-    label: u16,
-) -> Result<String, Memory> {
-    let mut report = String::new(alloc);
-    let Some(found) = segments.get(segment) else {
-        return Ok(report)
-    };
-    for (index, item) in found.items().iter().enumerate() {
+/// The index of the first item of a segment that speaks of a label.
+fn first_speaking(segment: &Segment, label: u16) -> Option<usize> {
+    for (index, item) in segment.items().iter().enumerate() {
         if speaks_of(item, label) {
-            if let Some(place) = place_of(alloc, texts, segment, index)? {
-                let sentence = format!(in alloc;
-                    "the label {label} stands nowhere in this segment"
-                )?;
-                add_place(alloc, &mut report, place, sentence.as_str())?;
-                add_help(
-                    &mut report,
-                    "each segment has labels of its own; what another segment has is reached by a global",
-                )?;
-            }
-            break;
+            return Some(index);
         }
     }
-    Ok(report)
+    None
 }
 
-/// The lines on a label that stands twice.
-fn label_twice(
-    alloc: Global,
-    texts: &[Text<'_>],
+/// Where a label is spoken of first.
+fn spoken_at<'a>(
+    texts: &[Text<'a>],
     segments: &[Segment],
     segment: usize,
     label: u16,
-) -> Result<String, Memory> {
-    let mut report = String::new(alloc);
-    let Some(found) = segments.get(segment) else {
-        return Ok(report)
-    };
-    let mut first = None;
-    for (index, item) in found.items().iter().enumerate() {
-        if sets(item, label) {
-            let place = place_of(alloc, texts, segment, index)?;
-            match (first, place) {
-                (None, _) => first = place,
-                (Some(before), Some(place)) => {
-                    let sentence = format!(in alloc; "the label {label} stands here once more")?;
-                    add_place(alloc, &mut report, place, sentence.as_str())?;
-                    add_note(alloc, &mut report, before, "it stands here already")?;
-                    add_help(
-                        &mut report,
-                        "a segment has each label once; a Z may be missing between two segments",
-                    )?;
-                    break;
-                }
-                _ => {}
-            }
-        }
-    }
-    Ok(report)
+) -> Option<Placed<'a>> {
+    let index = first_speaking(segments.get(segment)?, label)?;
+    place_of(texts, segment, index)
 }
 
-/// Where the items stand that set a global: the index of the segment, and that of the item in it.
-fn setters(
-    alloc: Global,
+/// Adds what is said of a label that stands nowhere.
+fn label_unset(report: &mut Report, placed: Placed<'_>, label: u16) -> Result<(), Memory> {
+    report.fault(
+        placed,
+        "the label {} stands nowhere in this segment",
+        &[Part::Number(u128::from(label))],
+        "each segment has labels of its own; what another segment has is reached by a global",
+    )
+}
+
+/// The index of the item that sets a label for the time with this index, the times counted from 0.
+fn nth_setting(segment: &Segment, label: u16, time: usize) -> Option<usize> {
+    let mut left = time;
+    for (index, item) in segment.items().iter().enumerate() {
+        if sets(item, label) {
+            if left == 0 {
+                return Some(index);
+            }
+            left -= 1;
+        }
+    }
+    None
+}
+
+/// Where a label is set for the time with this index.
+fn set_at<'a>(
+    texts: &[Text<'a>],
     segments: &[Segment],
-    wanted: u16,
-) -> Result<Vec<(usize, usize)>, Memory> {
-    let mut found = Vec::new(alloc);
+    segment: usize,
+    label: u16,
+    time: usize,
+) -> Option<Placed<'a>> {
+    let index = nth_setting(segments.get(segment)?, label, time)?;
+    place_of(texts, segment, index)
+}
+
+/// Adds what is said of a label that stands twice.
+fn label_twice(
+    report: &mut Report,
+    first: Placed<'_>,
+    second: Placed<'_>,
+    label: u16,
+) -> Result<(), Memory> {
+    report.place(
+        second,
+        "the label {} stands here once more",
+        &[Part::Number(u128::from(label))],
+    )?;
+    report.note(first, "it stands here already")?;
+    report.help("a segment has each label once; a Z may be missing between two segments")
+}
+
+/// Whether an item sets a global.
+fn sets_global(item: &Item, wanted: u16) -> bool {
+    match item {
+        Item::Global { number, .. } => number.get() == wanted,
+        _ => false,
+    }
+}
+
+/// The item that sets a global for the time with this index, the times counted from 0: the index of the segment, and that of the item in
+/// it.
+fn setter(segments: &[Segment], wanted: u16, time: usize) -> Option<(usize, usize)> {
+    let mut left = time;
     for (number, segment) in segments.iter().enumerate() {
         for (index, item) in segment.items().iter().enumerate() {
-            if let Item::Global { number: global, .. } = item {
-                if global.get() == wanted {
-                    found.push((number, index))?;
+            if sets_global(item, wanted) {
+                if left == 0 {
+                    return Some((number, index));
                 }
+                left -= 1;
             }
         }
     }
-    Ok(found)
+    None
 }
 
-/// The lines on a global that is set twice.
+/// Where a global is set for the time with this index.
+fn global_set_at<'a>(
+    texts: &[Text<'a>],
+    segments: &[Segment],
+    wanted: u16,
+    time: usize,
+) -> Option<Placed<'a>> {
+    let (segment, index) = setter(segments, wanted, time)?;
+    place_of(texts, segment, index)
+}
+
+/// Adds that a global is set once more.
+fn set_again(report: &mut Report, placed: Placed<'_>, number: u16) -> Result<(), Memory> {
+    let global = Part::Number(u128::from(number));
+    match library_name(number) {
+        Some(name) => report.place(
+            placed,
+            "the global {}, {} of the library, is set here once more",
+            &[global, Part::Text(name)],
+        ),
+        None => report.place(placed, "the global {} is set here once more", &[global]),
+    }
+}
+
+/// Adds what is said of a global that is set twice.
 fn global_twice(
+    report: &mut Report,
+    first: Option<Placed<'_>>,
+    second: Placed<'_>,
+    number: u16,
+) -> Result<(), Memory> {
+    set_again(report, second, number)?;
+    match first {
+        Some(placed) => report.note(placed, "it is set here already"),
+        None => report.help(
+            "the primitives, which stand in front of all texts, set the globals 11 to 18",
+        ),
+    }
+}
+
+/// Adds what a segment is called.
+fn add_name(name: &mut Report, texts: &[Text<'_>], segment: usize) -> Result<(), Memory> {
+    match place_of(texts, segment, 0) {
+        Some(placed) => name.say(
+            "{}, segment {} of all",
+            &[Part::Text(placed.text.path), Part::Number(segment as u128)],
+        ),
+        None if segment == 0 => name.text("the primitives"),
+        None => name.say("segment {}", &[Part::Number(segment as u128)]),
+    }
+}
+
+/// A segment's name and its size.
+fn size_of(
     alloc: Global,
+    texts: &[Text<'_>],
+    number: usize,
+    segment: &Segment,
+) -> Result<SegmentSize, Memory> {
+    let words = segment_words(alloc, segment.items())?;
+    let mut name = Report::new(alloc);
+    add_name(&mut name, texts, number)?;
+    Ok(SegmentSize {
+        name: name.into_text(),
+        words,
+    })
+}
+
+/// The names and the sizes of segments.
+fn sizes_of(
+    alloc: Global,
+    texts: &[Text<'_>],
+    segments: &[Segment],
+) -> Result<Vec<SegmentSize>, Memory> {
+    let mut sizes = Vec::new(alloc);
+    for (number, segment) in segments.iter().enumerate() {
+        sizes.push(size_of(alloc, texts, number, segment)?)?;
+    }
+    Ok(sizes)
+}
+
+/// Adds what is said of segments that take too many words.
+fn add_sizes(report: &mut Report, texts: &[Text<'_>], segments: &[Segment]) -> Result<(), Memory> {
+    let sizes = sizes_of(report.alloc(), texts, segments)?;
+    let lines = too_large(report.alloc(), sizes.as_slice())?;
+    report.line("{}", &[Part::Text(lines.as_str())])
+}
+
+/// Adds what is said of a label that stands nowhere in its segment.
+fn add_unset(
+    report: &mut Report,
+    texts: &[Text<'_>],
+    segments: &[Segment],
+    segment: usize,
+    label: u16,
+) -> Result<(), Memory> {
+    match spoken_at(texts, segments, segment, label) {
+        Some(placed) => label_unset(report, placed, label),
+        None => Ok(()),
+    }
+}
+
+/// Adds what is said of a label that stands twice in its segment.
+fn add_twice(
+    report: &mut Report,
+    texts: &[Text<'_>],
+    segments: &[Segment],
+    segment: usize,
+    label: u16,
+) -> Result<(), Memory> {
+    let first = set_at(texts, segments, segment, label, 0);
+    let second = set_at(texts, segments, segment, label, 1);
+    match (first, second) {
+        (Some(first), Some(second)) => label_twice(report, first, second, label),
+        _ => Ok(()),
+    }
+}
+
+/// Adds what is said of a global that is set twice.
+fn add_global_twice(
+    report: &mut Report,
     texts: &[Text<'_>],
     segments: &[Segment],
     number: u16,
-) -> Result<String, Memory> {
-    let mut report = String::new(alloc);
-    let found = setters(alloc, segments, number)?;
-    let (Some((first_segment, first)), Some((second_segment, second))) = (
-        found.first(),
-        found.get(1),
-    ) else {
-        return Ok(report)
-    };
-    if let Some(place) = place_of(alloc, texts, *second_segment, *second)? {
-        let sentence = match library_name(number) {
-            Some(name) => format!(in alloc;
-                "the global {number}, {name} of the library, is set here once more"
-            )?,
-            None => format!(in alloc; "the global {number} is set here once more")?,
-        };
-        add_place(alloc, &mut report, place, sentence.as_str())?;
-        match place_of(alloc, texts, *first_segment, *first)? {
-            Some(place) => add_note(alloc, &mut report, place, "it is set here already")?,
-            None => add_help(
-                &mut report,
-                "the primitives, which stand in front of all texts, set the globals 11 to 18",
-            )?,
-        }
+) -> Result<(), Memory> {
+    let first = global_set_at(texts, segments, number, 0);
+    match global_set_at(texts, segments, number, 1) {
+        Some(second) => global_twice(report, first, second, number),
+        None => Ok(()),
     }
-    Ok(report)
 }
 
-/// The lines on segments that take too many words.
-fn sizes_lines(alloc: Global, texts: &[Text<'_>], segments: &[Segment]) -> Result<String, Memory> {
-    let mut sizes = Vec::new(alloc);
-    for (number, segment) in segments.iter().enumerate() {
-        let words = segment_words(alloc, segment.items())?;
-        let name = match place_of(alloc, texts, number, 0)? {
-            Some(place) => {
-                let path = place.text.path;
-                format!(in alloc; "{path}, segment {number} of all")?
-            }
-            None if number == 0 => String::from_str(alloc, "the primitives")?,
-            None => format!(in alloc; "segment {number}")?,
-        };
-        sizes.push(SegmentSize { name, words })?;
+/// Adds what is said of a fault; nothing where nothing more is known.
+fn add_fault(
+    report: &mut Report,
+    texts: &[Text<'_>],
+    segments: &[Segment],
+    fault: LinkError,
+) -> Result<(), Memory> {
+    match fault {
+        LinkError::LabelUnset(segment, label) => {
+            add_unset(report, texts, segments, segment, label.get())
+        }
+        LinkError::LabelTwice(segment, label) => {
+            add_twice(report, texts, segments, segment, label.get())
+        }
+        LinkError::GlobalTwice(number) => add_global_twice(report, texts, segments, number.get()),
+        LinkError::TooLarge => add_sizes(report, texts, segments),
+        LinkError::Memory => Ok(()),
     }
-    let mut report = too_large(alloc, sizes.as_slice())?;
-    report.push_str("\n")?;
-    Ok(report)
 }
 
 /// The lines on segments that can't be linked: the item in its text, and what it collides with. The segments are those of the texts
@@ -186,15 +294,7 @@ pub fn link_lines(
     segments: &[Segment],
     fault: LinkError,
 ) -> Result<String, Memory> {
-    match fault {
-        LinkError::LabelUnset(segment, label) => {
-            label_unset(alloc, texts, segments, segment, label.get())
-        }
-        LinkError::LabelTwice(segment, label) => {
-            label_twice(alloc, texts, segments, segment, label.get())
-        }
-        LinkError::GlobalTwice(number) => global_twice(alloc, texts, segments, number.get()),
-        LinkError::TooLarge => sizes_lines(alloc, texts, segments),
-        LinkError::Memory => Ok(String::new(alloc)),
-    }
+    let mut report = Report::new(alloc);
+    add_fault(&mut report, texts, segments, fault)?;
+    Ok(report.into_text())
 }

@@ -1,25 +1,9 @@
-use crate::placed::add_help;
+use crate::report::{Part, Report};
 use bc_word::Memory;
 use std::alloc::Global;
 
 /// The most bytes of a stream's name.
 const MOST: usize = 255;
-
-/// How much of a name is told.
-const SHOWN: usize = 40;
-
-/// A name as it is told: its first characters.
-fn cut(alloc: Global, name: &str) -> Result<String, Memory> {
-    let mut text = String::new(alloc);
-    for (index, character) in name.chars().enumerate() {
-        if index >= SHOWN {
-            text.push_str("...")?;
-            break;
-        }
-        text.push(character)?;
-    }
-    Ok(text)
-}
 
 /// The first name that stands twice.
 fn repeated<'a>(names: &[&'a str]) -> Option<&'a str> {
@@ -33,36 +17,55 @@ fn repeated<'a>(names: &[&'a str]) -> Option<&'a str> {
     None
 }
 
-/// Adds what is wrong with the names of the streams of one side, `side` being what these are called.
-fn add_names(alloc: Global, report: &mut String, names: &[&str], side: &str) -> Result<(), Memory> {
-    if let Some(name) = repeated(names) {
-        let name = cut(alloc, name)?;
-        let name = name.as_str();
-        writeln!(report, "two {side} have the name {name}")?;
+/// Adds that a name stands twice, where one does.
+fn add_repeated<'a>(report: &mut Report, names: &[&'a str], side: &'a str) -> Result<(), Memory> {
+    match repeated(names) {
+        Some(name) => report.line(
+            "two {} have the name {}",
+            &[Part::Text(side), Part::Front(name)],
+        ),
+        None => Ok(()),
     }
+}
+
+/// Adds that a name is too long, where it is.
+fn add_long<'a>(report: &mut Report, name: &'a str, side: &'a str) -> Result<(), Memory> {
+    if name.len() <= MOST {
+        return Ok(());
+    }
+    report.line(
+        "the name {} of one of the {} has {} bytes, and {} are the most",
+        &[
+            Part::Front(name),
+            Part::Text(side),
+            Part::Number(name.len() as u128),
+            Part::Number(MOST as u128),
+        ],
+    )
+}
+
+/// Adds what is wrong with the names of the streams of one side, `side` being what these are called.
+fn add_names<'a>(report: &mut Report, names: &[&'a str], side: &'a str) -> Result<(), Memory> {
+    add_repeated(report, names, side)?;
     for name in names {
-        let length = name.len();
-        if length > MOST {
-            let name = cut(alloc, name)?;
-            let name = name.as_str();
-            writeln!(
-                report,
-                "the name {name} of one of the {side} has {length} bytes, and {MOST} are the most"
-            )?;
-        }
+        add_long(report, name, side)?;
     }
     Ok(())
+}
+
+/// Adds what is wrong with the names of the streams of both sides.
+fn add_sides(report: &mut Report, inputs: &[&str], outputs: &[&str]) -> Result<(), Memory> {
+    add_names(report, inputs, "inputs")?;
+    add_names(report, outputs, "outputs")?;
+    report.help(
+        "standard input has the name SYSIN, and standard output SYSPRINT; --in and --to name further ones, by NAME=PATH",
+    )
 }
 
 /// The lines on streams of a run whose names are refused. The first input is SYSIN, the first output SYSPRINT. Memory is answered where a
 /// growth was refused.
 pub fn stream_lines(alloc: Global, inputs: &[&str], outputs: &[&str]) -> Result<String, Memory> {
-    let mut report = String::new(alloc);
-    add_names(alloc, &mut report, inputs, "inputs")?;
-    add_names(alloc, &mut report, outputs, "outputs")?;
-    add_help(
-        &mut report,
-        "standard input has the name SYSIN, and standard output SYSPRINT; --in and --to name further ones, by NAME=PATH",
-    )?;
-    Ok(report)
+    let mut report = Report::new(alloc);
+    add_sides(&mut report, inputs, outputs)?;
+    Ok(report.into_text())
 }

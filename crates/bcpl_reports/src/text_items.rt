@@ -1,14 +1,4 @@
 use crate::placed::{Placed, Stretch, Text, is_byte};
-use bc_word::Memory;
-use std::alloc::Global;
-
-/// An item of a text: where it stands.
-#[derive(Clone, Copy)]
-struct Found {
-    /// The segment within the text, counted from 0.
-    segment: usize,
-    stretch: Stretch,
-}
 
 /// The offset of the first byte from `at` on which is a digit, or which is none.
 pub fn next_where(bytes: &[u8], at: usize, is_digit: bool) -> usize {
@@ -41,76 +31,102 @@ fn behind_comment(bytes: &[u8], at: usize) -> usize {
     bytes.len()
 }
 
-/// Whether a byte separates items.
-fn is_blank(byte: u8) -> bool {
-    matches!(byte, b' ' | b'\t' | b'\r' | b'\n' | b'$')
+/// What may begin at an offset of a text.
+#[derive(Clone, Copy)]
+enum Begun {
+    Item,
+    /// The end of a segment.
+    End,
+    Comment,
+    Blank,
 }
 
-/// The items of a text that was read, in their order, and how many segments it has.
-fn items_of(alloc: Global, bytes: &[u8]) -> Result<(Vec<Found>, usize), Memory> {
-    let mut items = Vec::new(alloc);
-    let mut segment: usize = 0;
-    let mut at: usize = 0;
-    for _ in 0..bytes.len() {
-        if at >= bytes.len() {
-            break;
-        }
-        let byte = bytes[at];
-        let next = if byte == b'/' {
-            behind_comment(bytes, at)
-        } else if byte == b'Z' {
-            segment = segment.saturating_add(1);
-            at + 1
-        } else if is_blank(byte) {
-            at + 1
-        } else {
-            let end = behind_item(bytes, at);
-            items.push(Found {
-                segment,
-                stretch: Stretch { start: at, end },
-            })?;
-            end
-        };
-        at = next.max(at + 1);
+/// What begins with a byte.
+fn begins(byte: u8) -> Begun {
+    match byte {
+        b'/' => Begun::Comment,
+        b'Z' => Begun::End,
+        b' ' | b'\t' | b'\r' | b'\n' | b'$' => Begun::Blank,
+        _ => Begun::Item,
     }
-    Ok((items, segment))
+}
+
+/// A walk over what stands in a text that was read.
+#[derive(Clone, Copy)]
+struct Walk<'a> {
+    bytes: &'a [u8],
+    /// The offset of what comes next.
+    at: usize,
+}
+
+impl<'a> Walk<'a> {
+    /// What comes next and its stretch, behind which the walk goes on; none at the text's end.
+    fn next(&mut self) -> Option<(Begun, Stretch)> {
+        let at = self.at;
+        let begun = begins(*self.bytes.get(at)?);
+        let behind = match begun {
+            Begun::Item => behind_item(self.bytes, at),
+            Begun::Comment => behind_comment(self.bytes, at),
+            Begun::End | Begun::Blank => at,
+        };
+        self.at = behind.max(at.saturating_add(1));
+        Some((
+            begun,
+            Stretch {
+                start: at,
+                end: behind,
+            },
+        ))
+    }
+}
+
+/// How many segments a text has.
+fn count(bytes: &[u8]) -> usize {
+    let mut walk = Walk { bytes, at: 0 };
+    let mut count: usize = 0;
+    for _ in bytes {
+        match walk.next() {
+            Some((Begun::End, _)) => count = count.saturating_add(1),
+            Some(_) => {}
+            None => break,
+        }
+    }
+    count
 }
 
 /// The item with this index of this segment of a text.
-fn nth(items: &[Found], segment: usize, index: usize) -> Option<Stretch> {
+fn nth(bytes: &[u8], segment: usize, index: usize) -> Option<Stretch> {
+    let mut walk = Walk { bytes, at: 0 };
+    let mut segment_at: usize = 0;
     let mut left = index;
-    for item in items {
-        if item.segment == segment {
-            if left == 0 {
-                return Some(item.stretch);
+    for _ in bytes {
+        match walk.next()? {
+            (Begun::End, _) => segment_at = segment_at.saturating_add(1),
+            (Begun::Item, stretch) if segment_at == segment => {
+                if left == 0 {
+                    return Some(stretch);
+                }
+                left -= 1;
             }
-            left -= 1;
+            _ => {}
         }
     }
     None
 }
 
 /// Where the item with this index of this segment stands, the segments counted from 0 over all texts; none where there is none.
-/// Memory is answered where a growth was refused.
-pub fn item_at<'a>(
-    alloc: Global,
-    texts: &[Text<'a>],
-    segment: usize,
-    index: usize,
-) -> Result<Option<Placed<'a>>, Memory> {
+pub fn item_at<'a>(texts: &[Text<'a>], segment: usize, index: usize) -> Option<Placed<'a>> {
     let mut left = segment;
     for text in texts {
-        let (items, count) = items_of(alloc, text.bytes)?;
+        let count = count(text.bytes);
         if left < count {
-            return Ok(match nth(items.as_slice(), left, index) {
-                Some(stretch) => Some(Placed {
-                    text: *text,
-                    stretch,
-                }),
-                None => None,
+            let stretch = nth(text.bytes, left, index)?;
+            return Some(Placed {
+                text: *text,
+                stretch,
             });
         }
         left -= count;
     }
-    Ok(None)
+    None
 }

@@ -1,4 +1,5 @@
-use crate::placed::{Placed, Stretch, Text, add_help, add_place, is_byte, quoted};
+use crate::placed::{Placed, Stretch, Text, is_byte};
+use crate::report::{Part, Report};
 use crate::text_items::next_where;
 use bc_text::TextError;
 use bc_word::Memory;
@@ -14,17 +15,6 @@ const ITEMS: &str =
 /// How large numbers may be.
 const RANGES: &str =
     "labels and words go up to 65535, globals to 511, bytes to 255; a word may be as small as -32768";
-
-/// What is said of a fault.
-#[derive(Drop)]
-struct Said {
-    /// What is wrong.
-    sentence: String,
-    /// Where it is.
-    stretch: Stretch,
-    /// What to do.
-    help: &'static str,
-}
 
 /// An offset that fits into a text of this length.
 fn within(at: u64, length: usize) -> usize {
@@ -68,71 +58,97 @@ fn range(letters: &[u8], is_negative: bool) -> &'static str {
     }
 }
 
-/// A stretch of one byte.
-fn one_byte(at: usize) -> Stretch {
-    Stretch {
-        start: at,
-        end: at.saturating_add(1),
+/// One byte of a text.
+fn one_byte(text: Text<'_>, at: usize) -> Placed<'_> {
+    Placed {
+        text,
+        stretch: Stretch {
+            start: at,
+            end: at.saturating_add(1),
+        },
     }
 }
 
-/// What stands at an offset, as a sentence names it.
-fn found_at(alloc: Global, bytes: &[u8], at: usize) -> Result<String, Memory> {
-    match bytes.get(at) {
-        Some(byte) => quoted(alloc, *byte),
-        None => Ok(String::from_str(alloc, "nothing")?),
-    }
-}
-
-/// What is said of a byte that begins no item.
-fn bad_character(alloc: Global, bytes: &[u8], at: usize) -> Result<(String, &'static str), Memory> {
-    let found = found_at(alloc, bytes, at)?;
-    let sentence = format!(in alloc; "no item begins with {found}")?;
-    let help = match bytes.get(at) {
+/// What to do about a byte that begins no item.
+fn character_help(byte: Option<u8>) -> &'static str {
+    match byte {
         Some(byte) if LETTERS.contains(&byte.to_ascii_uppercase()) => {
             "the letters of INTCODE are capitals"
         }
         Some(byte) if !byte.is_ascii() => "save the file as plain text, without a byte order mark",
         Some(b'-') => "a label's number has no sign",
         _ => ITEMS,
-    };
-    Ok((sentence, help))
+    }
 }
 
-/// What is said of a number that is missing or out of its range, and where it is.
-fn bad_number(alloc: Global, bytes: &[u8], at: usize) -> Result<Said, Memory> {
-    let letters = letters_before(bytes, at);
-    let is_digit = match bytes.get(at) {
+/// Adds what is said of a byte that begins no item.
+fn bad_character(report: &mut Report, text: Text<'_>, at: usize) -> Result<(), Memory> {
+    let found = text.bytes.get(at).copied();
+    report.fault(
+        one_byte(text, at),
+        "no item begins with {}",
+        &[Part::Found(found)],
+        character_help(found),
+    )
+}
+
+/// The stretch of the number that begins at `at`.
+fn number_at(bytes: &[u8], at: usize) -> Stretch {
+    let digits = next_where(bytes, at, true);
+    Stretch {
+        start: at,
+        end: next_where(bytes, digits, false),
+    }
+}
+
+/// Whether the byte at an offset is a digit.
+fn is_digit(bytes: &[u8], at: usize) -> bool {
+    match bytes.get(at) {
         Some(byte) => byte.is_ascii_digit(),
         None => false,
-    };
-    let is_negative = is_byte(bytes, at, b'-') && may_be_negative(letters);
-    if is_digit || is_negative {
-        let digits = next_where(bytes, at, true);
-        return Ok(Said {
-            sentence: String::from_str(alloc, range(letters, is_negative))?,
-            stretch: Stretch {
-                start: at,
-                end: next_where(bytes, digits, false),
-            },
-            help: RANGES,
-        });
     }
-    let found = found_at(alloc, bytes, at)?;
-    let mut head = String::new(alloc);
-    for letter in letters {
-        head.push(char::from(*letter))?;
-    }
-    let sentence = if head.is_empty() {
-        format!(in alloc; "a number is wanted here, and {found} stands here")?
+}
+
+/// Adds what is said of a number that is missing behind these letters.
+fn no_number(report: &mut Report, text: Text<'_>, at: usize, letters: &[u8]) -> Result<(), Memory> {
+    let sentence = if letters.is_empty() {
+        "a number is wanted here{}, and {} stands here"
     } else {
-        format!(in alloc; "a number is wanted behind {head}, and {found} stands here")?
+        "a number is wanted behind {}, and {} stands here"
     };
-    Ok(Said {
+    let found = text.bytes.get(at).copied();
+    report.fault(
+        one_byte(text, at),
         sentence,
-        stretch: one_byte(at),
-        help: ITEMS,
-    })
+        &[Part::Letters(letters), Part::Found(found)],
+        ITEMS,
+    )
+}
+
+/// Adds what is said of a number that is missing or out of its range, and where it is.
+fn bad_number(report: &mut Report, text: Text<'_>, at: usize) -> Result<(), Memory> {
+    let bytes = text.bytes;
+    let letters = letters_before(bytes, at);
+    let is_negative = is_byte(bytes, at, b'-') && may_be_negative(letters);
+    if !is_negative && !is_digit(bytes, at) {
+        return no_number(report, text, at, letters);
+    }
+    let placed = Placed {
+        text,
+        stretch: number_at(bytes, at),
+    };
+    report.fault(placed, range(letters, is_negative), &[], RANGES)
+}
+
+/// Adds what is said of a global without its label.
+fn missing_label(report: &mut Report, text: Text<'_>, at: usize) -> Result<(), Memory> {
+    let found = text.bytes.get(at).copied();
+    report.fault(
+        one_byte(text, at),
+        "`L` and the number of a label are wanted here, and {} stands here",
+        &[Part::Found(found)],
+        "G5L7 says that the global 5 begins as the address of the label 7",
+    )
 }
 
 /// The last byte of a text that is no blank.
@@ -143,54 +159,32 @@ fn last_byte(bytes: &[u8]) -> usize {
     }
 }
 
-/// What is said of a fault of a text; none where nothing more is known.
-fn said_of(alloc: Global, bytes: &[u8], fault: TextError) -> Result<Option<Said>, Memory> {
-    let length = bytes.len();
-    Ok(match fault {
-        TextError::BadCharacter(at) => {
-            let at = within(at, length);
-            let (sentence, help) = bad_character(alloc, bytes, at)?;
-            Some(Said {
-                sentence,
-                stretch: one_byte(at),
-                help,
-            })
-        }
-        TextError::BadNumber(at) => { Some(bad_number(alloc, bytes, within(at, length))?) }
-        TextError::MissingLabel(at) => {
-            let at = within(at, length);
-            let found = found_at(alloc, bytes, at)?;
-            Some(Said {
-                sentence: format!(in alloc;
-                    "`L` and the number of a label are wanted here, and {found} stands here"
-                )?,
-                stretch: one_byte(at),
-                help: "G5L7 says that the global 5 begins as the address of the label 7",
-            })
-        }
-        TextError::Unended => Some(Said {
-            sentence: String::from_str(
-                alloc,
-                "the text ends within a segment: no Z stands behind its last item",
-            )?,
-            stretch: one_byte(last_byte(bytes)),
-            help: "each segment ends with Z; perhaps the end of the file is lost",
-        }),
-        TextError::Write | TextError::Memory | TextError::Failed => None,
-    })
+/// Adds what is said of a text that ends within a segment.
+fn unended(report: &mut Report, text: Text<'_>) -> Result<(), Memory> {
+    report.fault(
+        one_byte(text, last_byte(text.bytes)),
+        "the text ends within a segment: no Z stands behind its last item",
+        &[],
+        "each segment ends with Z; perhaps the end of the file is lost",
+    )
+}
+
+/// Adds what is said of a fault of a text; nothing where nothing more is known.
+fn add_fault(report: &mut Report, text: Text<'_>, fault: TextError) -> Result<(), Memory> {
+    let length = text.bytes.len();
+    match fault {
+        TextError::BadCharacter(at) => bad_character(report, text, within(at, length)),
+        TextError::BadNumber(at) => bad_number(report, text, within(at, length)),
+        TextError::MissingLabel(at) => missing_label(report, text, within(at, length)),
+        TextError::Unended => unended(report, text),
+        TextError::Write | TextError::Memory | TextError::Failed => Ok(()),
+    }
 }
 
 /// The lines on the refusal of a text: the place, the line with a mark below it, and what to do. None where nothing more is known.
 /// Memory is answered where a growth was refused.
 pub fn text_lines(alloc: Global, text: Text<'_>, fault: TextError) -> Result<String, Memory> {
-    let mut report = String::new(alloc);
-    if let Some(said) = said_of(alloc, text.bytes, fault)? {
-        let placed = Placed {
-            text,
-            stretch: said.stretch,
-        };
-        add_place(alloc, &mut report, placed, said.sentence.as_str())?;
-        add_help(&mut report, said.help)?;
-    }
-    Ok(report)
+    let mut report = Report::new(alloc);
+    add_fault(&mut report, text, fault)?;
+    Ok(report.into_text())
 }

@@ -1,8 +1,13 @@
-//! How many words segments take, what is said where these are too many, and what the library calls its globals.
+//! How many words segments and their items take, what is said where these are too many, what a word is as an instruction, and what the
+//! library calls its globals.
 #![tactic(auto)]
 
+mod decoded;
+mod items;
 mod names;
 mod sizes;
 
+pub use decoded::instruction;
+pub use items::{addresses, is_long};
 pub use names::library_name;
-pub use sizes::{SegmentSize, addresses, segment_words, too_large};
+pub use sizes::{SegmentSize, segment_words, too_large};

@@ -1,4 +1,5 @@
-use bc_text_items::{Base, Item};
+use crate::items::addresses;
+use bc_text_items::Item;
 use bc_word::Memory;
 use std::alloc::Global;
 
@@ -10,45 +11,6 @@ const GREATEST_BASE: usize = 65_472;
 
 /// The most segments that are told where a program is too large.
 const MOST: usize = 10;
-
-/// How many words an item takes where it stands alone.
-fn words_alone(item: &Item) -> usize {
-    match item {
-        Item::Label(_) | Item::Global { .. } => 0,
-        Item::Data(_) | Item::DataLabel(_) | Item::Byte(_) => 1,
-        Item::Operation { base, number, .. } => match base {
-            Base::Label => 2,
-            _ if number.get() <= 511 => 1,
-            _ => 2,
-        },
-    }
-}
-
-/// The address of each item, where they stand from `start` on: that of its first word, or of the next word where it takes none; and
-/// the address behind them. Memory is answered where a growth was refused.
-pub fn addresses(
-    alloc: Global,
-    start: usize,
-    items: &[Item],
-) -> Result<(Vec<usize>, usize), Memory> {
-    let mut found = Vec::new(alloc);
-    let mut next = start;
-    let mut is_half = false;
-    for item in items {
-        match item {
-            Item::Byte(_) if is_half => {
-                found.push(next.saturating_sub(1))?;
-                is_half = false;
-            }
-            _ => {
-                found.push(next)?;
-                next = next.saturating_add(words_alone(item));
-                is_half = matches!(item, Item::Byte(_));
-            }
-        }
-    }
-    Ok((found, next))
-}
 
 /// How many words a segment of these items takes. Memory is answered where a growth was refused.
 pub fn segment_words(alloc: Global, items: &[Item]) -> Result<usize, Memory> {
@@ -111,7 +73,7 @@ pub fn too_large(alloc: Global, sizes: &[SegmentSize]) -> Result<String, Memory>
     }
     let left = sizes.len().saturating_sub(told.len());
     if left > 0 {
-        write!(lines, "\n  and {left} smaller ones")?;
+        write!(lines, "\n  and {left} more")?;
     }
     Ok(lines)
 }

@@ -7,7 +7,7 @@ use crate::watch::Watch;
 use bc_machine::Machine;
 use bc_machine_image::Image;
 use bc_word::{Memory, Word};
-use bcpl_list::instruction;
+use bcpl_segments::instruction;
 use std::alloc::Global;
 
 /// How many routines are told.

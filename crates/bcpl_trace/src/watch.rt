@@ -5,7 +5,7 @@ use crate::counts::Counts;
 use bc_machine::Machine;
 use bc_machine_defs::End;
 use bc_word::{Memory, Word};
-use bcpl_list::instruction;
+use bcpl_segments::instruction;
 use std::alloc::Global;
 use std::io;
 use std::io::Write;

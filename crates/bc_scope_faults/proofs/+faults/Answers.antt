@@ -12,37 +12,37 @@ use Rattle.bc_scope_faults.proofs.Held.{exp_held, entry_held, declaration_held, 
 use Rattle.bc_scope_faults.proofs.Lists.{exps_on, constant_seen, entries_on, declarations_on, definitions_on, items_on, drop_one}
 use Rattle.bc_scope_faults.proofs.Scopes.{left_both}
 use Rattle.bc_scope_faults.proofs.Turns.{fault_whole, entry_fits, item_fault_on, item_found_on, item_width_on, side_fault_on, side_found_on, side_widths_on}
-use Rattle.bc_scope_faults.proofs.faults.+faults.Goals as goal
+use Rattle.bc_scope_faults.proofs.+faults.Goals as goal
 
-pub arguments-expression-requires : goal.arguments-expression-requires
-arguments-expression-requires t c = (omega (arith, exp_held c.args.list.now c.loop-e.e-index c.e-item.result c.loop-e-test.true c.e-item.is, c.decreases), tt)
+pub expressions::arguments-expression-requires : goal.expressions::arguments-expression-requires
+expressions::arguments-expression-requires t c = (omega (arith, exp_held c.args.list.now c.loop-e.e-index c.e-item.result c.loop-e-test.true c.e-item.is, c.decreases), tt)
 
-pub constants-constant_fault-requires : goal.constants-constant_fault-requires
-constants-constant_fault-requires t c = (omega (arith, exp_held c.args.list.now c.loop-e.e-index c.e-item.result c.loop-e-test.true c.e-item.is, c.decreases), tt)
+pub expressions::constants-constant_fault-requires : goal.expressions::constants-constant_fault-requires
+expressions::constants-constant_fault-requires t c = (omega (arith, exp_held c.args.list.now c.loop-e.e-index c.e-item.result c.loop-e-test.true c.e-item.is, c.decreases), tt)
 
-pub sides-expression-requires : goal.sides-expression-requires
-sides-expression-requires t c = (omega (arith, exp_held c.args.list.now c.loop-e.e-index c.e-item.result c.loop-e-test.true c.e-item.is, c.decreases), tt)
+pub expressions::sides-expression-requires : goal.expressions::sides-expression-requires
+expressions::sides-expression-requires t c = (omega (arith, exp_held c.args.list.now c.loop-e.e-index c.e-item.result c.loop-e-test.true c.e-item.is, c.decreases), tt)
 
-pub initials-expression-requires : goal.initials-expression-requires
-initials-expression-requires t c = (omega (arith, exp_held c.args.list.now c.loop-e.e-index c.e-item.result c.loop-e-test.true c.e-item.is, c.decreases), tt)
+pub expressions::initials-expression-requires : goal.expressions::initials-expression-requires
+expressions::initials-expression-requires t c = (omega (arith, exp_held c.args.list.now c.loop-e.e-index c.e-item.result c.loop-e-test.true c.e-item.is, c.decreases), tt)
 
-pub entries-constant_fault-requires : goal.entries-constant_fault-requires
-entries-constant_fault-requires t c = (omega (arith, entry_held c.args.list.now c.loop-entry.entry-index c.entry-item.result c.loop-entry-test.true c.entry-item.is, c.decreases), tt)
+pub declarations::entries-constant_fault-requires : goal.declarations::entries-constant_fault-requires
+declarations::entries-constant_fault-requires t c = (omega (arith, entry_held c.args.list.now c.loop-entry.entry-index c.entry-item.result c.loop-entry-test.true c.entry-item.is, c.decreases), tt)
 
-pub definitions-definition-requires : goal.definitions-definition-requires
-definitions-definition-requires t c = (omega (arith, definition_held c.args.list.now c.loop-tree.tree-index c.tree-item.result c.loop-tree-test.true c.tree-item.is, c.decreases), tt)
+pub declarations::definitions-definition-requires : goal.declarations::definitions-definition-requires
+declarations::definitions-definition-requires t c = (omega (arith, definition_held c.args.list.now c.loop-tree.tree-index c.tree-item.result c.loop-tree-test.true c.tree-item.is, c.decreases), tt)
 
-pub declarations-declaration-requires : goal.declarations-declaration-requires
-declarations-declaration-requires t c = (omega (arith, declaration_held c.args.list.now c.loop-tree.tree-index c.tree-item.result c.loop-tree-test.true c.tree-item.is, c.decreases), tt)
+pub declarations::declarations-declaration-requires : goal.declarations::declarations-declaration-requires
+declarations::declarations-declaration-requires t c = (omega (arith, declaration_held c.args.list.now c.loop-tree.tree-index c.tree-item.result c.loop-tree-test.true c.tree-item.is, c.decreases), tt)
 
-pub labels-label-requires : goal.labels-label-requires
-labels-label-requires t c = (omega (arith, label_held c.args.list.now c.loop-tree.tree-index c.tree-item.result c.loop-tree-test.true c.tree-item.is, c.decreases), tt)
+pub blocks::labels-label-requires : goal.blocks::labels-label-requires
+blocks::labels-label-requires t c = (omega (arith, label_held c.args.list.now c.loop-tree.tree-index c.tree-item.result c.loop-tree-test.true c.tree-item.is, c.decreases), tt)
 
-pub items-one_item-requires : goal.items-one_item-requires
-items-one_item-requires t c = (omega (arith, item_held c.args.trees.now c.loop-tree.tree-index c.tree-item.result c.loop-tree-test.true c.tree-item.is, c.decreases), tt)
+pub blocks::items-one_item-requires : goal.blocks::items-one_item-requires
+blocks::items-one_item-requires t c = (omega (arith, item_held c.args.trees.now c.loop-tree.tree-index c.tree-item.result c.loop-tree-test.true c.tree-item.is, c.decreases), tt)
 
-pub arguments-loop-e-preserved : goal.arguments-loop-e-preserved
-arguments-loop-e-preserved t c =
+pub expressions::arguments-loop-e-preserved : goal.expressions::arguments-loop-e-preserved
+expressions::arguments-loop-e-preserved t c =
     let n = exps_on c.args.list.now c.loop-e.e-index c.e-item.result c.loop-e-test.true c.e-item.is in
     let v = rw n at c.loop-e.invariant in
     let w = c.in_ok-expression.ensures.answer in
@@ -55,8 +55,8 @@ arguments-loop-e-preserved t c =
       k ∙ v.4,
     )
 
-pub initials-loop-e-preserved : goal.initials-loop-e-preserved
-initials-loop-e-preserved t c =
+pub expressions::initials-loop-e-preserved : goal.expressions::initials-loop-e-preserved
+expressions::initials-loop-e-preserved t c =
     let n = exps_on c.args.list.now c.loop-e.e-index c.e-item.result c.loop-e-test.true c.e-item.is in
     let v = rw n at c.loop-e.invariant in
     let w = c.in_ok-expression.ensures.answer in
@@ -68,21 +68,8 @@ initials-loop-e-preserved t c =
       k ∙ v.4,
     )
 
-pub definitions-loop-tree-preserved : goal.definitions-loop-tree-preserved
-definitions-loop-tree-preserved t c =
-    let n = definitions_on c.args.list.now c.loop-tree.tree-index c.tree-item.result c.loop-tree-test.true c.tree-item.is in
-    let v = rw n at c.loop-tree.invariant in
-    let w = c.in_ok-definition.ensures.answer in
-    let k = c.in_ok-definition.ensures.kept in (
-      rw (w.2, w.4, k) (rw w.0 at v.0),
-      rw (w.2, k, c.max-width.ensures, w.1) (max_along _ _ _ ∙ v.1),
-      rw w.2 v.2,
-      rw (w.2, k, w.3) (simp frames_along at v.3),
-      k ∙ v.4,
-    )
-
-pub entries-loop-entry-preserved : goal.entries-loop-entry-preserved
-entries-loop-entry-preserved t c =
+pub declarations::entries-loop-entry-preserved : goal.declarations::entries-loop-entry-preserved
+declarations::entries-loop-entry-preserved t c =
     let e = c.entry-item.result in
     let n = entries_on c.args.list.now c.loop-entry.entry-index e c.loop-entry-test.true c.entry-item.is in
     let v = rw n at c.loop-entry.invariant in
@@ -98,12 +85,12 @@ entries-loop-entry-preserved t c =
       extends_on _ _ _ v.4 d.1,
     )
 
-pub declared_then_done-returns-clause-kept : goal.declared_then_done-returns-clause-kept
-declared_then_done-returns-clause-kept t c =
+pub blocks::declared_then_done-returns-clause-kept : goal.blocks::declared_then_done-returns-clause-kept
+blocks::declared_then_done-returns-clause-kept t c =
     c.leave.ensures ∙ left_both _ _ _ _ _ c.in_ok-extent.ensures.kept c.in_ok-declare_list.ensures.1 c.in_ok-width.ensures.kept c.mark-mark.ensures
 
-pub declarations-loop-tree-preserved : goal.declarations-loop-tree-preserved
-declarations-loop-tree-preserved t c =
+pub declarations::declarations-loop-tree-preserved : goal.declarations::declarations-loop-tree-preserved
+declarations::declarations-loop-tree-preserved t c =
     let n = declarations_on c.args.list.now c.loop-tree.tree-index c.tree-item.result c.loop-tree-test.true c.tree-item.is in
     let v = rw n at c.loop-tree.invariant in
     let w = c.in_ok-extent.ensures.answer in (
@@ -116,8 +103,8 @@ declarations-loop-tree-preserved t c =
       extends_on _ _ _ v.6 c.in_ok-extent.ensures.kept,
     )
 
-pub items-loop-tree-preserved : goal.items-loop-tree-preserved
-items-loop-tree-preserved t c =
+pub blocks::items-loop-tree-preserved : goal.blocks::items-loop-tree-preserved
+blocks::items-loop-tree-preserved t c =
     let E = scope_view c.loop-tree.scope in
     let at0 = numbers_view c.loop-tree.progress.at in
     let i = item_view c.tree-item.result in
@@ -136,8 +123,8 @@ items-loop-tree-preserved t c =
       k ∙ v.4,
     )
 
-pub sides-loop-e-preserved : goal.sides-loop-e-preserved
-sides-loop-e-preserved t c =
+pub expressions::sides-loop-e-preserved : goal.expressions::sides-loop-e-preserved
+expressions::sides-loop-e-preserved t c =
     let E = scope_view c.loop-e.scope in
     let at0 = numbers_view c.loop-e.progress.at in
     let x = exp_view c.e-item.result in
@@ -158,8 +145,8 @@ sides-loop-e-preserved t c =
       k ∙ v.4,
     )
 
-pub items-returns-in_err-one_item-clause-answer : goal.items-returns-in_err-one_item-clause-answer
-items-returns-in_err-one_item-clause-answer t c =
+pub blocks::items-returns-in_err-one_item-clause-answer : goal.blocks::items-returns-in_err-one_item-clause-answer
+blocks::items-returns-in_err-one_item-clause-answer t c =
     let E = scope_view c.loop-tree.scope in
     let at0 = numbers_view c.loop-tree.progress.at in
     let i = item_view c.tree-item.result in
@@ -169,3 +156,16 @@ items-returns-in_err-one_item-clause-answer t c =
     let f = item_fault_on c.args.list.cases (met_view c.loop-tree.met) (allowed_view c.args.list.allowed) E at0 i is c.args.level in
     let p = err_from_is_err_and c.from_residual.result c.from_residual.ensures.1 in
     rw (p.1, p.2) (fault_whole _ _ _ _ _ f v.0 c.in_err-one_item.ensures.answer)
+
+pub declarations::definitions-loop-tree-preserved : goal.declarations::definitions-loop-tree-preserved
+declarations::definitions-loop-tree-preserved t c =
+    let n = definitions_on c.args.list.now c.loop-tree.tree-index c.tree-item.result c.loop-tree-test.true c.tree-item.is in
+    let v = rw n at c.loop-tree.invariant in
+    let w = c.in_ok-definition.ensures.answer in
+    let k = c.in_ok-definition.ensures.kept in (
+      rw (w.2, w.4, k) (rw w.0 at v.0),
+      rw (w.2, k, c.max-width.ensures, w.1) (max_along _ _ _ ∙ v.1),
+      rw w.2 v.2,
+      rw (w.2, k, w.3) (simp frames_along at v.3),
+      k ∙ v.4,
+    )

@@ -1,0 +1,174 @@
+//! The first fault of a block or a list of commands, and how many cells of the frame it takes.
+ghost use Rattle.std.specs.Prelude.{◌≡◌};
+ghost use Rattle.bc_parse_tree.specs.View.{block_view, declarations_view, label_view, labels_view, item_view, items_view};
+ghost use Rattle.bc_scope_defs.specs.Faults.{met_label, met_labels};
+ghost use Rattle.bc_scope_defs.specs.FaultsAlong.{label_fault, labels_fault};
+ghost use Rattle.bc_scope_names.specs.View.{scope_view, numbers_view};
+ghost use Rattle.bc_scope_faults.specs.Judged.{Judges};
+ghost use Rattle.bc_scope_faults.specs.Kept.{Keeps};
+ghost use Rattle.bc_scope_faults.specs.Seen.{allowed_view, met_view};
+ghost use Rattle.bc_scope_faults.specs.Walked.{Walks, ItemWalks};
+ghost use Rattle.bc_scope_defs.specs.Source.{labels_of_that};
+ghost use Rattle.bc_scope_faults.specs.Walk.{here};
+ghost use Rattle.bc_scope_faults.specs.Parts.{of_block, of_items, of_body, of_item};
+
+use crate::commands::command;
+use crate::declarations::declarations;
+use crate::expressions::constant_fault;
+use crate::judging::{Allowed, Met};
+use crate::progress::Progress;
+use bc_parse_tree::{Block, Declaration, Item, Label};
+use bc_scope_names::{Scope, ScopeError, constant, declare_list, labels_in};
+
+/// Whose list items stand in: a SWITCHON's or not, and what its commands may do.
+#[derive(Clone, Copy)]
+pub struct List {
+    pub cases: bool,
+    pub allowed: Allowed,
+}
+
+/// A block.
+#[cycle(faults)]
+#[tactic(auto, using(crate::proofs::Kept::keeping))]
+pub fn block<'s>(
+    scope: &mut Scope<'s>,
+    progress: &mut Progress,
+    allowed: Allowed,
+    tree: &Block<'s>,
+    level: u64,
+) -> Result<u64, ScopeError<'s>>
+    ensures answer { Walks result progress.old progress.new (of_block (allowed_view allowed) (block_view tree.now) level (here scope.old progress.old)) }
+    ensures kept { Keeps result scope.old scope.new }
+{
+    declared_then_done(
+        scope,
+        progress,
+        allowed,
+        &tree.declarations,
+        &tree.items,
+        level,
+    )
+}
+
+/// Declarations, and the items behind them.
+#[cycle(faults)]
+#[tactic(auto, using(crate::proofs::Numberless::numberless, bc_scope_names::proofs::Extends::left, crate::proofs::Kept::keeping))]
+fn declared_then_done<'s>(
+    scope: &mut Scope<'s>,
+    progress: &mut Progress,
+    allowed: Allowed,
+    declared: &[Declaration<'s>],
+    trees: &[Item<'s>],
+    level: u64,
+) -> Result<u64, ScopeError<'s>>
+    ensures answer { Walks result progress.old progress.new
+        (of_body (allowed_view allowed) (declarations_view declared.now) (items_view trees.now) level (here scope.old progress.old)) }
+    ensures kept { Keeps result scope.old scope.new }
+{
+    let mark = scope.mark();
+    let extent = declarations(scope, progress, declared, level)?;
+    declare_list(scope, progress.at.label, trees)?;
+    progress.at = progress.at.behind_labels(labels_in(trees)?)?;
+    let list = List {
+        cases: false,
+        allowed,
+    };
+    let width = items(scope, progress, list, trees, extent.level)?;
+    scope.leave(mark);
+    Ok(extent.width.max(width))
+}
+
+/// A label, behind those of its list that were met.
+#[inline(never)]
+#[cycle(faults)]
+#[tactic(auto, using(crate::proofs::Frames::along, crate::proofs::Kept::keeping))]
+fn label<'s>(
+    scope: &mut Scope<'s>,
+    progress: Progress,
+    in_cases: bool,
+    met: &mut Met<'s>,
+    tree: &Label<'s>,
+) -> Result<(), ScopeError<'s>>
+    ensures answer { Judges result (label_fault in_cases (met_view met.old) (scope_view scope.old) (numbers_view progress.at) (label_view tree.now))
+        (λ _. met_view met.new ≡ met_label (scope_view scope.old) (met_view met.old) (label_view tree.now)) }
+    ensures kept { Keeps result scope.old scope.new }
+{
+    match tree {
+        Label::Case(value) => {
+            constant_fault(scope, progress, value)?;
+            met.case(in_cases, constant(scope, value))
+        }
+        Label::Default => met.default(in_cases),
+        Label::Name(name) => met.name(name),
+    }
+}
+
+/// The labels of an item.
+#[cycle(faults)]
+#[tactic(auto, using(crate::proofs::Frames::along, crate::proofs::Kept::keeping))]
+fn labels<'s>(
+    scope: &mut Scope<'s>,
+    progress: Progress,
+    in_cases: bool,
+    met: &mut Met<'s>,
+    list: &[Label<'s>],
+) -> Result<(), ScopeError<'s>>
+    ensures answer { Judges result (labels_fault in_cases (met_view met.old) (scope_view scope.old) (numbers_view progress.at) (labels_view list.now))
+        (λ _. met_view met.new ≡ met_labels (scope_view scope.old) (met_view met.old) (labels_view list.now)) }
+    ensures kept { Keeps result scope.old scope.new }
+{
+    for tree in list {
+        label(scope, progress, in_cases, met, tree)?;
+    }
+    Ok(())
+}
+
+/// The items of a command list.
+#[cycle(faults)]
+#[tactic(auto, using(crate::proofs::Kept::keeping))]
+pub fn items<'s>(
+    scope: &mut Scope<'s>,
+    progress: &mut Progress,
+    list: List,
+    trees: &[Item<'s>],
+    level: u64,
+) -> Result<u64, ScopeError<'s>>
+    ensures answer { Walks result progress.old progress.new
+        (of_items list.cases (allowed_view list.allowed) 0 (items_view trees.now) level (here scope.old progress.old)) }
+    ensures kept { Keeps result scope.old scope.new }
+{
+    let mut met = Met::new(scope.alloc());
+    let mut width = 0u64;
+    for tree in trees {
+        width = width.max(one_item(scope, progress, list, &mut met, tree, level)?);
+    }
+    Ok(width)
+}
+
+/// One item: its labels, and its command.
+#[cycle(faults)]
+#[tactic(auto, using(crate::proofs::Kept::keeping))]
+fn one_item<'s>(
+    scope: &mut Scope<'s>,
+    progress: &mut Progress,
+    list: List,
+    met: &mut Met<'s>,
+    tree: &Item<'s>,
+    level: u64,
+) -> Result<u64, ScopeError<'s>>
+    ensures answer { ItemWalks result progress.old progress.new
+        (of_item list.cases (met_view met.old) (allowed_view list.allowed) (item_view tree.now) level (here scope.old progress.old))
+        (met_view met.new) (met_labels (scope_view scope.old) (met_view met.old) (labels_of_that (item_view tree.now))) }
+    ensures kept { Keeps result scope.old scope.new }
+{
+    match &tree.command {
+        Some(labelled) => {
+            labels(scope, *progress, list.cases, met, &tree.labels)?;
+            command(scope, progress, list.allowed, labelled, level)
+        }
+        None => {
+            labels(scope, *progress, list.cases, met, &tree.labels)?;
+            Ok(0)
+        }
+    }
+}

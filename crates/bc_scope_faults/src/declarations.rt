@@ -1,0 +1,227 @@
+//! The first fault of declarations, and how many cells of the frame they take.
+ghost use Rattle.std.specs.Prelude.{◌++◌};
+ghost use Rattle.bc_parse_tree.specs.View.{exp_view, block_view, declaration_view, declarations_view, definition_view, definitions_view, entries_view};
+ghost use Rattle.bc_scope_defs.specs.Scoping.{names_of};
+ghost use Rattle.bc_scope_faults.specs.Kept.{Keeps, Grows};
+ghost use Rattle.bc_scope_faults.specs.Seen.{names_view};
+ghost use Rattle.bc_scope_faults.specs.Walked.{Walks, WalksOn, Entered, Defined, DeclaredBy};
+ghost use Rattle.bc_scope_faults.specs.Walk.{here};
+ghost use Rattle.bc_scope_faults.specs.Parts.{of_entries, of_definition, of_definitions, of_function, of_routine, of_let, of_declaration, of_declarations};
+
+use crate::blocks::block;
+use crate::expressions::{constant_fault, expression, initials};
+use crate::judging::{
+    Allowed, declare_all_once, declare_once, entry_fault, level_of, names_in, parameters_fault,
+    unless_misplaced,
+};
+use crate::progress::{Extent, Progress, also_fits};
+use bc_parse_tree::{Block, Constant, Declaration, Definition, Exp, Storage};
+use bc_scope_names::{
+    Scope, ScopeError, behind_definition, behind_entry, declare_entry, declare_let,
+    declare_parameters, declare_pending, priors_of_let,
+};
+use indexmap::IndexSet;
+
+/// Declarations of constants.
+#[inline(never)]
+#[cycle(faults)]
+#[tactic(auto, using(crate::proofs::Frames::along, bc_scope_names::proofs::Extends::left, crate::proofs::Kept::keeping))]
+fn entries<'s>(
+    scope: &mut Scope<'s>,
+    progress: &mut Progress,
+    storage: Storage,
+    list: &[Constant<'s>],
+) -> Result<(), ScopeError<'s>>
+    ensures answer { Entered result progress.old progress.new scope.new (of_entries storage (entries_view list.now) (here scope.old progress.old)) }
+    ensures kept { Grows result scope.old scope.new }
+{
+    let mut before = IndexSet::new(scope.alloc());
+    for entry in list {
+        declare_once(&mut before, entry.name)?;
+        constant_fault(scope, *progress, &entry.value)?;
+        entry_fault(scope, storage, entry.name, &entry.value)?;
+        declare_entry(scope, storage, progress.at, entry)?;
+        progress.at = behind_entry(storage, progress.at)?;
+    }
+    Ok(())
+}
+
+/// A definition of a LET, behind the names of those before it.
+#[cycle(faults)]
+#[tactic(auto, using(crate::proofs::Frames::along, crate::proofs::Kept::keeping))]
+fn definition<'s>(
+    scope: &mut Scope<'s>,
+    before: &mut IndexSet<&'s [u8]>,
+    progress: &mut Progress,
+    tree: &Definition<'s>,
+    level: u64,
+) -> Result<u64, ScopeError<'s>>
+    ensures answer { Defined result progress.old progress.new
+        (of_definition (names_view before.old.keys) (definition_view tree.now) level
+        (here scope.old progress.old))
+        (names_view before.new.keys) (names_view before.old.keys ++ names_of (definition_view tree.now)) }
+    ensures kept { Keeps result scope.old scope.new }
+{
+    match tree {
+        Definition::Variables(names, values) => {
+            declare_all_once(before, names)?;
+            let width = initials(scope, progress, values, level)?;
+            unless_misplaced(scope.is_inside())?;
+            Ok(width)
+        }
+        Definition::Vector(name, greatest) => {
+            declare_once(before, name)?;
+            constant_fault(scope, *progress, greatest)?;
+            unless_misplaced(scope.is_inside())?;
+            Ok(0)
+        }
+        Definition::Function(name, parameters, value) => {
+            declare_once(before, name)?;
+            function(scope, progress, parameters, value)?;
+            Ok(0)
+        }
+        Definition::Routine(name, parameters, body) => {
+            declare_once(before, name)?;
+            routine(scope, progress, parameters, body)?;
+            Ok(0)
+        }
+    }
+}
+
+/// A routine that gives a value, behind its name.
+#[inline(never)]
+#[cycle(faults)]
+#[tactic(auto, using(crate::proofs::Frames::frames_last, bc_scope_names::proofs::Extends::left, crate::proofs::Kept::keeping))]
+fn function<'s>(
+    scope: &mut Scope<'s>,
+    progress: &mut Progress,
+    parameters: &[&'s [u8]],
+    value: &Exp<'s>,
+) -> Result<(), ScopeError<'s>>
+    ensures answer { WalksOn result progress.old progress.new (of_function (names_view parameters.now) (exp_view value.now) (here scope.old progress.old)) }
+    ensures kept { Keeps result scope.old scope.new }
+{
+    parameters_fault(scope.alloc(), parameters)?;
+    let mark = scope.mark();
+    declare_parameters(scope, parameters)?;
+    progress.at = progress.at.behind_place()?;
+    let level = level_of(parameters)?;
+    let width = expression(scope, progress, false, value, level)?;
+    scope.leave(mark);
+    progress.fits = also_fits(progress.fits, level.max(width));
+    Ok(())
+}
+
+/// A routine that does commands, behind its name.
+#[cycle(faults)]
+#[tactic(auto, using(crate::proofs::Frames::frames_last, bc_scope_names::proofs::Extends::left, crate::proofs::Kept::keeping))]
+fn routine<'s>(
+    scope: &mut Scope<'s>,
+    progress: &mut Progress,
+    parameters: &[&'s [u8]],
+    body: &Block<'s>,
+) -> Result<(), ScopeError<'s>>
+    ensures answer { WalksOn result progress.old progress.new (of_routine (names_view parameters.now) (block_view body.now) (here scope.old progress.old)) }
+    ensures kept { Keeps result scope.old scope.new }
+{
+    parameters_fault(scope.alloc(), parameters)?;
+    let mark = scope.mark();
+    declare_parameters(scope, parameters)?;
+    progress.at = progress.at.behind_place()?;
+    let level = level_of(parameters)?;
+    let width = block(scope, progress, Allowed::routine(), body, level)?;
+    scope.leave(mark);
+    progress.fits = also_fits(progress.fits, level.max(width));
+    Ok(())
+}
+
+/// The definitions of a LET, all at the level behind its cells.
+#[cycle(faults)]
+#[tactic(auto, using(crate::proofs::Frames::along, crate::proofs::Kept::keeping))]
+fn definitions<'s>(
+    scope: &mut Scope<'s>,
+    progress: &mut Progress,
+    list: &[Definition<'s>],
+    level: u64,
+) -> Result<u64, ScopeError<'s>>
+    ensures answer { Walks result progress.old progress.new (of_definitions (definitions_view list.now) level (here scope.old progress.old)) }
+    ensures kept { Keeps result scope.old scope.new }
+{
+    let mut before = IndexSet::with_capacity(scope.alloc(), names_in(list))?;
+    let mut width = 0u64;
+    for tree in list {
+        width = width.max(definition(scope, &mut before, progress, tree, level)?);
+    }
+    Ok(width)
+}
+
+/// The definitions of a LET, among the names that it makes known: to its constants, too, they are what they will be.
+#[cycle(faults)]
+#[tactic(auto, using(crate::proofs::Anywhere::frames_of_own, bc_scope_names::proofs::Extends::left, crate::proofs::Kept::keeping))]
+fn definitions_of_let<'s>(
+    scope: &mut Scope<'s>,
+    progress: &mut Progress,
+    list: &[Definition<'s>],
+    level: u64,
+) -> Result<Extent, ScopeError<'s>>
+    ensures answer { DeclaredBy result progress.old progress.new scope.new (of_let (definitions_view list.now) level (here scope.old progress.old)) }
+    ensures kept { Grows result scope.old scope.new }
+{
+    let priors = priors_of_let(scope, list)?;
+    let level = declare_let(scope, &priors, progress.at, level, list)?;
+    let width = definitions(scope, progress, list, level)?;
+    Ok(Extent {
+        level,
+        width: level.max(width),
+    })
+}
+
+/// A declaration.
+#[cycle(faults)]
+#[tactic(auto, using(bc_scope_names::proofs::Extends::left, crate::proofs::Kept::keeping))]
+fn declaration<'s>(
+    scope: &mut Scope<'s>,
+    progress: &mut Progress,
+    tree: &Declaration<'s>,
+    level: u64,
+) -> Result<Extent, ScopeError<'s>>
+    ensures answer { DeclaredBy result progress.old progress.new scope.new
+        (of_declaration (declaration_view tree.now) level (here scope.old progress.old)) }
+    ensures kept { Grows result scope.old scope.new }
+{
+    match tree {
+        Declaration::Constants(storage, list) => {
+            declare_pending(scope, *storage, list)?;
+            entries(scope, progress, *storage, list)?;
+            Ok(Extent { level, width: 0 })
+        }
+        Declaration::Let(list) => definitions_of_let(scope, progress, list, level),
+    }
+}
+
+/// Declarations, each behind those before it.
+#[inline(never)]
+#[cycle(faults)]
+#[tactic(auto, using(crate::proofs::Frames::along, bc_scope_names::proofs::Extends::left, crate::proofs::Kept::keeping))]
+pub fn declarations<'s>(
+    scope: &mut Scope<'s>,
+    progress: &mut Progress,
+    list: &[Declaration<'s>],
+    level: u64,
+) -> Result<Extent, ScopeError<'s>>
+    ensures answer { DeclaredBy result progress.old progress.new scope.new
+        (of_declarations (declarations_view list.now) level (here scope.old progress.old)) }
+    ensures kept { Grows result scope.old scope.new }
+{
+    let mut behind = level;
+    let mut width = 0u64;
+    for tree in list {
+        let extent = declaration(scope, progress, tree, behind)?;
+        behind = extent.level;
+        width = width.max(extent.width);
+    }
+    Ok(Extent {
+        level: behind,
+        width,
+    })
+}

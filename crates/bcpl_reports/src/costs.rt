@@ -1,0 +1,99 @@
+use crate::certificate::Entry;
+use crate::least::least_of;
+use crate::report::{Part, Report};
+use bc_cert_lines::NodeLine;
+use bc_cert_node::LeastWords;
+use bc_word::Memory;
+
+/// What the numbers of a node line are of, in their order.
+const NUMBERS: [&str; 4] = [
+    "of the value",
+    "of the value where B becomes what A was",
+    "of a test that jumps on false",
+    "of a test that jumps on true",
+];
+
+/// A number of a node line: which one it is, by its index, the least one, and the one that stands there.
+#[derive(Clone, Copy)]
+struct NodeNumber {
+    index: usize,
+    right: Option<u128>,
+    written: Option<u128>,
+}
+
+/// The number of a node line with this index.
+fn number(index: usize, right: Option<u128>, written: Option<u64>) -> NodeNumber {
+    let written = match written {
+        Some(words) => Some(u128::from(words)),
+        None => None,
+    };
+    NodeNumber {
+        index,
+        right,
+        written,
+    }
+}
+
+/// The first number of a node line that is not the least.
+fn wrong_number(least: &LeastWords, line: &NodeLine) -> Option<NodeNumber> {
+    let costs = line.costs;
+    let numbers = [
+        number(0, least.any, Some(costs.any)),
+        number(1, least.push, costs.push),
+        number(2, least.on_false, Some(costs.on_false)),
+        number(3, least.on_true, Some(costs.on_true)),
+    ];
+    for number in &numbers {
+        if number.right != number.written {
+            return Some(*number);
+        }
+    }
+    None
+}
+
+/// How many words, with a sign where there is no number.
+fn words(number: Option<u128>) -> Part<'static> {
+    match number {
+        Some(number) => Part::Number(number),
+        None => Part::Text("-"),
+    }
+}
+
+/// Adds what is said of a number of a node that is not the least.
+fn add_wrong(
+    report: &mut Report,
+    entry: &Entry<'_>,
+    node: usize,
+    wrong: NodeNumber,
+) -> Result<(), Memory> {
+    let sentence = if wrong.right.is_some() {
+        "the least words {} are {} by the parts, and {} stands here"
+    } else {
+        "no code {} can be made from the parts, so {} is to stand here, and {} stands here"
+    };
+    let what = NUMBERS.get(wrong.index).copied().unwrap_or("");
+    let field = wrong.index.saturating_add(2);
+    report.place(
+        entry.lined.field(entry.line(node), field),
+        sentence,
+        &[Part::Text(what), words(wrong.right), words(wrong.written)],
+    )
+}
+
+/// The first number of a node that is not the least; none where that isn't known.
+fn wrong_at(report: &Report, entry: &Entry<'_>, node: usize) -> Result<Option<NodeNumber>, Memory> {
+    let nodes = entry.nodes.get(..node.saturating_add(1)).unwrap_or(&[]);
+    let least = least_of(report.alloc(), entry.table, nodes)?;
+    Ok(match (least, nodes.last()) {
+        (Some(least), Some(line)) => wrong_number(&least, line),
+        _ => None,
+    })
+}
+
+/// Adds what is said of a number of a node that is not the least. Memory is answered where a growth was refused.
+pub fn wrong_cost(report: &mut Report, entry: &Entry<'_>, node: usize) -> Result<(), Memory> {
+    match wrong_at(report, entry, node)? {
+        Some(wrong) => add_wrong(report, entry, node, wrong),
+        None => Ok(()),
+    }
+}

@@ -1,0 +1,291 @@
+use crate::certificate::Entry;
+use crate::derived::{rooted_of, takes};
+use crate::report::{Part, Report};
+use bc_cert_lines::{NodeLine, RootLine, node_line};
+use bc_cert_trees::Stack;
+use bc_rules_defs::{Rule, Table};
+use bc_word::Memory;
+use std::alloc::Global;
+
+/// The rules of values and tests that are tried where one is wrong.
+const NAMES: [&str; 29] = [
+    "V1", "V2", "V3", "V4", "V6", "V7", "V8", "V9", "V10", "V11", "V12", "V13", "V14", "V15",
+    "V16", "V17", "V18", "V19", "V20", "V21", "V22", "J1", "J2", "J3", "J4", "J5", "J7", "J8",
+    "J9",
+];
+
+/// What may stand in front of a rule of values at its node.
+const FRONTS: [&str; 4] = ["", "V0.", "J6.", "J6.V0."];
+
+/// The most rules that are told.
+const MOST: usize = 4;
+
+/// The most nodes of an entry of which other rules are tried.
+const MOST_NODES: usize = 400;
+
+/// The rules of a node, or a root line, as a certificate has them: two parts of it.
+#[derive(Clone, Copy)]
+struct Name {
+    front: &'static str,
+    behind: Part<'static>,
+}
+
+/// The node line that begins so and has these rules; none where they make none.
+fn with_rules(
+    alloc: Global,
+    front: &[u8],
+    before: &str,
+    name: &str,
+) -> Result<Option<NodeLine>, Memory> {
+    let mut line = Vec::from_slice(alloc, front)?;
+    line.extend_from_slice(before.as_bytes())?;
+    line.extend_from_slice(name.as_bytes())?;
+    Ok(node_line(line.as_slice()))
+}
+
+/// The nodes of an entry behind which rules are tried.
+#[derive(Clone, Copy)]
+struct Trial<'a> {
+    alloc: Global,
+    table: Table,
+    nodes: &'a [NodeLine],
+    /// The bytes of the next node's line in front of its rules.
+    front: &'a [u8],
+}
+
+impl<'a> Trial<'a> {
+    /// Whether the checker takes the next node with these rules.
+    fn takes(&self, trees: &mut Stack, before: &str, name: &str) -> Result<bool, Memory> {
+        match with_rules(self.alloc, self.front, before, name)? {
+            Some(node) => takes(trees, self.alloc, self.table, self.nodes, &node),
+            None => Ok(false),
+        }
+    }
+
+    /// Adds rules, where the checker takes the next node with them.
+    fn add_if_taken(
+        &self,
+        trees: &mut Stack,
+        before: &'static str,
+        name: &'static str,
+        right: &mut Vec<Name>,
+    ) -> Result<(), Memory> {
+        if self.takes(trees, before, name)? {
+            right.push(Name {
+                front: before,
+                behind: Part::Text(name),
+            })?;
+        }
+        Ok(())
+    }
+
+    /// Adds the rules with this in front of them that the checker takes, up to so many as are told.
+    fn add_taken(
+        &self,
+        trees: &mut Stack,
+        before: &'static str,
+        right: &mut Vec<Name>,
+    ) -> Result<(), Memory> {
+        for name in NAMES.iter() {
+            if right.len() < MOST {
+                self.add_if_taken(trees, before, *name, right)?;
+            }
+        }
+        Ok(())
+    }
+
+    /// The rules that the checker takes, as the next node's line would name them.
+    fn right(&self, trees: &mut Stack) -> Result<Vec<Name>, Memory> {
+        let mut right = Vec::new(self.alloc);
+        for before in FRONTS.iter() {
+            self.add_taken(trees, *before, &mut right)?;
+        }
+        Ok(right)
+    }
+}
+
+/// The rules that the checker would take at a node, as its line would name them.
+fn right_rules(
+    trees: &mut Stack,
+    alloc: Global,
+    entry: &Entry<'_>,
+    node: usize,
+) -> Result<Vec<Name>, Memory> {
+    let nodes = entry.nodes.get(..node).unwrap_or(&[]);
+    if nodes.len() > MOST_NODES {
+        return Ok(Vec::new(alloc));
+    }
+    let trial = Trial {
+        alloc,
+        table: entry.table,
+        nodes,
+        front: entry.lined.front(entry.line(node), 6),
+    };
+    trial.right(trees)
+}
+
+/// The root lines of which one may do where another one doesn't.
+fn roots_like(root: RootLine) -> [RootLine; 3] {
+    match root {
+        RootLine::Value | RootLine::Test(_) => [
+            RootLine::Value,
+            RootLine::Test(false),
+            RootLine::Test(true),
+        ],
+        RootLine::Assign(_, level) => [
+            RootLine::Assign(Rule::A1, level),
+            RootLine::Assign(Rule::A2, level),
+            RootLine::Assign(Rule::A3, level),
+        ],
+    }
+}
+
+/// What stands in front of the level in the root line of an assignment.
+fn assignment(rule: Rule) -> &'static str {
+    match rule {
+        Rule::A1 => "R A1 ",
+        Rule::A2 => "R A2 ",
+        _ => "R A3 ",
+    }
+}
+
+/// A root line as a certificate has it.
+fn root_name(root: RootLine) -> Name {
+    let (front, behind) = match root {
+        RootLine::Value => ("R V", Part::Text("")),
+        RootLine::Test(false) => ("R F", Part::Text("")),
+        RootLine::Test(true) => ("R T", Part::Text("")),
+        RootLine::Assign(rule, level) => (assignment(rule), Part::Number(u128::from(level))),
+    };
+    Name { front, behind }
+}
+
+/// What is wrong with a root line that its trees show no rules for.
+fn root_sentence(root: RootLine) -> &'static str {
+    match root {
+        RootLine::Value => "the rules of the tree in front of it are not those of a value",
+        RootLine::Test(false) => {
+            "the rules of the tree in front of it are not those of a test that jumps on false"
+        }
+        RootLine::Test(true) => {
+            "the rules of the tree in front of it are not those of a test that jumps on true"
+        }
+        RootLine::Assign(..) => {
+            "this rule of an assignment doesn't go with the trees in front of it, or has more words than another one"
+        }
+    }
+}
+
+/// Whether the checker takes this root line behind the nodes of an entry.
+fn takes_root(
+    trees: &mut Stack,
+    alloc: Global,
+    entry: &Entry<'_>,
+    root: RootLine,
+) -> Result<bool, Memory> {
+    let rooted = rooted_of(trees, alloc, entry.table, entry.nodes, root)?;
+    Ok(rooted.is_some())
+}
+
+/// The root lines that the checker would take behind the nodes of an entry, in the place of this one.
+fn right_roots(
+    trees: &mut Stack,
+    alloc: Global,
+    entry: &Entry<'_>,
+    root: RootLine,
+) -> Result<Vec<Name>, Memory> {
+    let candidates = roots_like(root);
+    let mut right = Vec::new(alloc);
+    for candidate in &candidates {
+        if takes_root(trees, alloc, entry, *candidate)? {
+            right.push(root_name(*candidate))?;
+        }
+    }
+    Ok(right)
+}
+
+/// What stands in front of the one with this index of so many.
+fn between(index: usize, count: usize) -> &'static str {
+    if index == 0 {
+        ""
+    } else if index.saturating_add(1) == count {
+        " or "
+    } else {
+        ", "
+    }
+}
+
+/// Adds which of these would do, by what the lines in front show.
+fn add_right(report: &mut Report, right: &[Name]) -> Result<(), Memory> {
+    let count = right.len();
+    let does = if count == 1 { "this does" } else { "these do" };
+    report.say(
+        "  help: by what the lines of its parts show, {}: ",
+        &[Part::Text(does)],
+    )?;
+    for (index, name) in right.iter().enumerate() {
+        let between = Part::Text(between(index, count));
+        report.say("{}{}{}", &[between, Part::Text(name.front), name.behind])?;
+    }
+    report.text("\n")
+}
+
+/// Adds which root lines would do, where some would.
+fn add_roots(report: &mut Report, right: &[Name]) -> Result<(), Memory> {
+    if right.is_empty() {
+        return Ok(());
+    }
+    add_right(report, right)
+}
+
+/// Adds which rules would do, or that none would.
+fn add_rules(report: &mut Report, right: &[Name]) -> Result<(), Memory> {
+    if right.is_empty() {
+        return report.help("no rules do, by what the lines of its parts show");
+    }
+    add_right(report, right)
+}
+
+/// Adds what is said of a root that its trees show no rules for.
+fn wrong_root(
+    report: &mut Report,
+    trees: &mut Stack,
+    entry: &Entry<'_>,
+    root: RootLine,
+) -> Result<(), Memory> {
+    let placed = entry.lined.place(entry.root_index());
+    report.place(placed, root_sentence(root), &[])?;
+    let right = right_roots(trees, report.alloc(), entry, root)?;
+    add_roots(report, right.as_slice())
+}
+
+/// Adds what is said of rules of a node that make no derivation.
+fn wrong_node(
+    report: &mut Report,
+    trees: &mut Stack,
+    entry: &Entry<'_>,
+    node: usize,
+) -> Result<(), Memory> {
+    let placed = entry.lined.field(entry.line(node), 6);
+    let sentence = "these rules make no derivation of this node in so many words";
+    report.place(placed, sentence, &[])?;
+    let right = right_rules(trees, report.alloc(), entry, node)?;
+    add_rules(report, right.as_slice())
+}
+
+/// Adds what is said of rules of a node that make no derivation, or of a root that its trees show no rules for. Memory is answered where a
+/// growth was refused.
+pub fn wrong_rule(
+    report: &mut Report,
+    trees: &mut Stack,
+    entry: &Entry<'_>,
+    node: usize,
+) -> Result<(), Memory> {
+    if node < entry.nodes.len() {
+        return wrong_node(report, trees, entry, node);
+    }
+    match entry.root() {
+        Some(root) => wrong_root(report, trees, entry, root),
+        None => Ok(()),
+    }
+}

@@ -1,0 +1,33 @@
+use bc_word::{Memory, Word};
+use std::alloc::Global;
+
+/// The letters of the functions, in the order of a word's three upper bits.
+const FUNCTIONS: [char; 8] = ['L', 'S', 'A', 'J', 'T', 'F', 'K', 'X'];
+
+/// What a word is as an instruction, with the word behind it, which is its number in the long form: as `LIP3`. Memory is answered where
+/// a growth was refused.
+pub fn instruction(alloc: Global, word: Word, following: Word) -> Result<String, Memory> {
+    let code = word.get() / 512;
+    let mut text = String::new(alloc);
+    let function = FUNCTIONS
+        .get(usize::from(code / 16))
+        .copied()
+        .unwrap_or('X');
+    text.push(function)?;
+    if code / 8 % 2 == 1 {
+        text.push('I')?;
+    }
+    if code / 4 % 2 == 1 {
+        text.push('P')?;
+    }
+    if code / 2 % 2 == 1 {
+        text.push('G')?;
+    }
+    let number = if code % 2 == 1 {
+        following.get()
+    } else {
+        word.get() % 512
+    };
+    write!(text, "{number}")?;
+    Ok(text)
+}
