@@ -1,9 +1,12 @@
+use crate::answer::Answer;
 use crate::escapes::expanded;
-use crate::said::said;
+use crate::linking::OfText;
+use crate::rules::OfRoot;
 use crate::tokens::Reading;
+use crate::trees::OfTree;
 use crate::{arithmetic, certificates, linking, machines, rules, streams, sweeps, tokens};
 use bc_word::Memory;
-use std::alloc::Global;
+use std::str;
 
 /// The kinds of cases that read the tokens of a source.
 const READINGS: [(&str, Reading); 8] = [
@@ -12,31 +15,28 @@ const READINGS: [(&str, Reading); 8] = [
     ("counts", Reading::Counts),
     ("rendered", Reading::Rendered),
     ("closed", Reading::Closed),
-    ("spelling", Reading::Spelling),
-    ("read back", Reading::Back),
-    ("resolved", Reading::Resolved),
+    ("spelling", Reading::Tree(OfTree::Spelling)),
+    ("read back", Reading::Tree(OfTree::Back)),
+    ("resolved", Reading::Tree(OfTree::Resolved)),
 ];
 
 /// A kind of cases that speaks of roots and their code, in whose inputs a text may be written once for many times.
 #[derive(Clone, Copy)]
 enum OfRoots {
-    Derivation,
-    Least,
-    LeastWords,
+    Root(OfRoot),
     Operand,
     Free,
-    Copied,
     Certificate,
     AlteredCertificates,
 }
 
 const OF_ROOTS: [(&str, OfRoots); 8] = [
-    ("derivation", OfRoots::Derivation),
-    ("least", OfRoots::Least),
-    ("least words", OfRoots::LeastWords),
+    ("derivation", OfRoots::Root(OfRoot::Derivation)),
+    ("least", OfRoots::Root(OfRoot::Least)),
+    ("least words", OfRoots::Root(OfRoot::LeastWords)),
+    ("copy", OfRoots::Root(OfRoot::Copied)),
     ("operand", OfRoots::Operand),
     ("free", OfRoots::Free),
-    ("copy", OfRoots::Copied),
     ("certificate", OfRoots::Certificate),
     ("altered certificates", OfRoots::AlteredCertificates),
 ];
@@ -53,8 +53,7 @@ enum Other {
     Symbol,
     Text,
     Fronts,
-    WordsOfText,
-    Linked,
+    Whole(OfText),
     Steps,
     Streams,
     AlteredTexts,
@@ -70,8 +69,8 @@ const OTHERS: [(&str, Other); 14] = [
     ("symbol", Other::Symbol),
     ("text", Other::Text),
     ("fronts", Other::Fronts),
-    ("words of a text", Other::WordsOfText),
-    ("linked", Other::Linked),
+    ("words of a text", Other::Whole(OfText::Words)),
+    ("linked", Other::Whole(OfText::Image)),
     ("steps", Other::Steps),
     ("streams", Other::Streams),
     ("altered texts", Other::AlteredTexts),
@@ -87,57 +86,54 @@ fn named<T: Copy>(list: &[(&str, T)], name: &str) -> Option<T> {
     None
 }
 
-fn of_roots(alloc: Global, kind: OfRoots, input: &str) -> Result<String, Memory> {
+fn of_roots(answer: &mut Answer, kind: OfRoots, input: &str) -> Result<(), Memory> {
     match kind {
-        OfRoots::Derivation => rules::judged(alloc, input),
-        OfRoots::Least => rules::least(alloc, input),
-        OfRoots::LeastWords => rules::least_words(alloc, input),
-        OfRoots::Operand => rules::operands(alloc, input),
-        OfRoots::Free => rules::freedom(alloc, input),
-        OfRoots::Copied => rules::copied(alloc, input),
-        OfRoots::Certificate => certificates::written(alloc, input),
-        OfRoots::AlteredCertificates => sweeps::certificates(alloc, input),
+        OfRoots::Root(what) => rules::add_told(answer, what, input),
+        OfRoots::Operand => rules::add_operands(answer, input),
+        OfRoots::Free => rules::add_freedom(answer, input),
+        OfRoots::Certificate => certificates::add_written(answer, input),
+        OfRoots::AlteredCertificates => sweeps::add_certificates(answer, input),
     }
 }
 
-fn of_others(alloc: Global, kind: Other, input: &str) -> Result<String, Memory> {
+fn of_others(answer: &mut Answer, kind: Other, input: &str) -> Result<(), Memory> {
     match kind {
-        Other::Alike => tokens::alike(alloc, input),
-        Other::Library => tokens::library(alloc),
-        Other::AlteredSources => sweeps::sources(alloc, input),
-        Other::Arithmetic => arithmetic::applied(alloc, input),
-        Other::Word => arithmetic::words(alloc, input),
-        Other::Operator => arithmetic::operators(alloc, input),
-        Other::Symbol => arithmetic::symbols(alloc, input),
-        Other::Text => linking::texts(alloc, input),
-        Other::Fronts => linking::fronts(alloc, input),
-        Other::WordsOfText => linking::words_of(alloc, input),
-        Other::Linked => linking::linked(alloc, input),
-        Other::Steps => machines::steps(alloc, input),
-        Other::Streams => streams::streams(alloc, input),
-        Other::AlteredTexts => sweeps::texts(alloc, input),
+        Other::Alike => tokens::add_alike(answer, input),
+        Other::Library => tokens::add_library(answer),
+        Other::AlteredSources => sweeps::add_sources(answer, input),
+        Other::Arithmetic => arithmetic::add_applied(answer, input),
+        Other::Word => arithmetic::add_word(answer, input),
+        Other::Operator => arithmetic::add_operator(answer, input),
+        Other::Symbol => arithmetic::add_symbol(answer, input),
+        Other::Text => linking::add_text(answer, input),
+        Other::Fronts => linking::add_fronts(answer, input),
+        Other::Whole(what) => linking::add_whole(answer, what, input),
+        Other::Steps => machines::add_steps(answer, input),
+        Other::Streams => streams::add_streams(answer, input),
+        Other::AlteredTexts => sweeps::add_texts(answer, input),
     }
 }
 
-/// An input in which what stands once for many times is written out.
-fn whole(alloc: Global, input: &str) -> Result<String, Memory> {
-    match String::from_utf8(expanded(alloc, input)?) {
-        Ok(text) => Ok(text),
-        Err(_) => said(alloc, input),
-    }
+/// What an input answers in which what stands once for many times is written out.
+fn of_expanded(answer: &mut Answer, kind: OfRoots, input: &str) -> Result<(), Memory> {
+    let bytes = expanded(answer.alloc(), input)?;
+    of_roots(
+        answer,
+        kind,
+        str::from_utf8(bytes.as_slice()).unwrap_or(input),
+    )
 }
 
-/// What an input of this kind answers.
-pub fn answer(alloc: Global, kind: &str, input: &str) -> Result<String, Memory> {
+/// Adds what an input of this kind answers.
+pub fn add_answer(answer: &mut Answer, kind: &str, input: &str) -> Result<(), Memory> {
     if let Some(reading) = named(&READINGS, kind) {
-        return tokens::read(alloc, reading, input);
+        return tokens::add_read(answer, reading, input);
     }
     if let Some(kind) = named(&OF_ROOTS, kind) {
-        let input = whole(alloc, input)?;
-        return of_roots(alloc, kind, input.as_str());
+        return of_expanded(answer, kind, input);
     }
     match named(&OTHERS, kind) {
-        Some(kind) => of_others(alloc, kind, input),
-        None => said(alloc, "no such kind"),
+        Some(kind) => of_others(answer, kind, input),
+        None => answer.say("no such kind"),
     }
 }

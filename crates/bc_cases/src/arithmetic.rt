@@ -1,12 +1,11 @@
+use crate::answer::{Answer, Part};
 use crate::number::{next, short, word};
-use crate::said::said;
 use bc_lex_tokens::Symbol;
-use bc_show::{ShownBytes, sign};
+use bc_show::sign;
 use bc_word::{Memory, Op, Rel, Word, apply, complement, mirror};
-use std::alloc::Global;
 
 /// The operator of a sign.
-fn operator(text: &str) -> Option<Op> {
+pub fn operator(text: &str) -> Option<Op> {
     for number in 5..22u16 {
         if let Ok(op) = Op::try_from(Word::new(number)) {
             if sign(op) == text {
@@ -17,40 +16,41 @@ fn operator(text: &str) -> Option<Op> {
     None
 }
 
-/// The value of `B OPERATOR A`, signed.
-pub fn applied(alloc: Global, input: &str) -> Result<String, Memory> {
+/// Adds the value of `B OPERATOR A`, signed.
+pub fn add_applied(answer: &mut Answer, input: &str) -> Result<(), Memory> {
     let mut words = input.split_whitespace();
     let b = word(next(&mut words));
     let op = operator(next(&mut words));
     let a = word(next(&mut words));
     match op {
-        Some(op) => value(alloc, apply(op, b, a)),
-        None => said(alloc, "no operator"),
+        Some(op) => add_value(answer, apply(op, b, a)),
+        None => answer.say("no operator"),
     }
 }
 
-/// The value of an operation, signed.
-fn value(alloc: Global, value: Option<Word>) -> Result<String, Memory> {
+/// Adds the value of an operation, signed.
+fn add_value(answer: &mut Answer, value: Option<Word>) -> Result<(), Memory> {
     match value {
-        Some(value) => {
-            let value = value.signed();
-            Ok(format!(in alloc; "{value}")?)
-        }
-        None => said(alloc, "no value"),
+        Some(value) => answer.show(&value.signed()),
+        None => answer.say("no value"),
     }
 }
 
-/// A word unsigned and signed, its negation and its complement.
-pub fn words(alloc: Global, input: &str) -> Result<String, Memory> {
+/// Adds a word unsigned and signed, its negation and its complement.
+pub fn add_word(answer: &mut Answer, input: &str) -> Result<(), Memory> {
     let word = word(input.lines().next().unwrap_or(""));
     let unsigned = word.get();
-    let signed = word.signed();
-    let negated = word.negated().signed();
-    let complemented = word.complemented().signed();
-    let number = u16::from(Word::from(unsigned));
-    Ok(format!(in alloc;
-        "{unsigned}, signed {signed}, negated {negated}, complemented {complemented}, as a number {number}"
-    )?)
+    answer.all(&[
+        Part::Number(u64::from(unsigned)),
+        Part::Text(", signed "),
+        Part::Signed(word.signed()),
+        Part::Text(", negated "),
+        Part::Signed(word.negated().signed()),
+        Part::Text(", complemented "),
+        Part::Signed(word.complemented().signed()),
+        Part::Text(", as a number "),
+        Part::Number(u64::from(u16::from(Word::from(unsigned)))),
+    ])
 }
 
 /// The relation that an operator is.
@@ -66,43 +66,67 @@ fn relation(op: Op) -> Option<Rel> {
     }
 }
 
-/// The operator with a number, its number, its mirror and its complement.
-pub fn operators(alloc: Global, input: &str) -> Result<String, Memory> {
-    let number = short(input.lines().next().unwrap_or(""));
-    let Ok(op) = Op::try_from(Word::new(number)) else {
-        return said(alloc, "no operator");
-    };
-    let this = sign(op);
-    let number = Word::from(op).get();
-    let mirrored = match mirror(op) {
-        Some(other) => sign(other),
+/// The sign of an operator, if there is one.
+fn sign_of(op: Option<Op>) -> &'static str {
+    match op {
+        Some(op) => sign(op),
         None => "none",
-    };
-    let opposite = match relation(op) {
-        Some(relation) => sign(Op::from(complement(relation))),
-        None => "none",
-    };
-    Ok(format!(in alloc; "{this} {number}, mirror {mirrored}, complement {opposite}")?)
+    }
 }
 
-/// The symbol that is spelled so, with its first spelling and its number, and whether it is the one of a second word.
-pub fn symbols(alloc: Global, input: &str) -> Result<String, Memory> {
+/// The operator that holds where this one doesn't, if it is a relation.
+fn opposite(op: Op) -> Option<Op> {
+    Some(Op::from(complement(relation(op)?)))
+}
+
+/// Adds the operator with a number, its number, its mirror and its complement.
+pub fn add_operator(answer: &mut Answer, input: &str) -> Result<(), Memory> {
+    let number = short(input.lines().next().unwrap_or(""));
+    match Op::try_from(Word::new(number)) {
+        Ok(op) => add_relatives(answer, op),
+        Err(_) => answer.say("no operator"),
+    }
+}
+
+/// Adds an operator, its number, its mirror and its complement.
+fn add_relatives(answer: &mut Answer, op: Op) -> Result<(), Memory> {
+    answer.all(&[
+        Part::Text(sign(op)),
+        Part::Text(" "),
+        Part::Number(u64::from(Word::from(op).get())),
+        Part::Text(", mirror "),
+        Part::Text(sign_of(mirror(op))),
+        Part::Text(", complement "),
+        Part::Text(sign_of(opposite(op))),
+    ])
+}
+
+/// Adds the symbol that is spelled so, with its first spelling and its number, and whether it is the one of a second word.
+pub fn add_symbol(answer: &mut Answer, input: &str) -> Result<(), Memory> {
     let mut words = input.split_whitespace();
     let symbol = Symbol::spelled(next(&mut words).as_bytes());
     let other = Symbol::spelled(next(&mut words).as_bytes());
     match symbol {
-        Some(symbol) => spelled(alloc, symbol, other),
-        None => said(alloc, "no symbol"),
+        Some(symbol) => add_spelled(answer, symbol, other),
+        None => answer.say("no symbol"),
     }
 }
 
-/// A symbol's spelling and number, and whether it is the other one.
-fn spelled(alloc: Global, symbol: Symbol, other: Option<Symbol>) -> Result<String, Memory> {
-    let spelling = ShownBytes(symbol.spelling());
-    let number = symbol.number();
-    let is_other = match other {
+/// Whether a symbol is the other one.
+fn is_other(symbol: Symbol, other: Option<Symbol>) -> bool {
+    match other {
         Some(other) => symbol.is(other),
         None => false,
-    };
-    Ok(format!(in alloc; "{spelling} {number}, the second: {is_other}")?)
+    }
+}
+
+/// Adds a symbol's spelling and number, and whether it is the other one.
+fn add_spelled(answer: &mut Answer, symbol: Symbol, other: Option<Symbol>) -> Result<(), Memory> {
+    answer.bytes(symbol.spelling())?;
+    answer.all(&[
+        Part::Text(" "),
+        Part::Number(u64::from(symbol.number())),
+        Part::Text(", the second: "),
+        Part::Truth(is_other(symbol, other)),
+    ])
 }

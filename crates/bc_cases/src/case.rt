@@ -7,16 +7,37 @@ pub struct Case {
     pub name: String,
     pub input: String,
     answer: String,
+    /// Whether there is one.
+    pub is_begun: bool,
+}
+
+/// A text with another one in its place.
+pub fn replace(text: &mut String, new: &str) -> Result<(), AllocError> {
+    text.clear();
+    text.push_str(new)
+}
+
+fn add_line(lines: &mut String, line: &str) -> Result<(), AllocError> {
+    lines.push_str(line)?;
+    lines.push('\n')
+}
+
+/// What a line of the answer says.
+fn said(line: &str) -> &str {
+    let text = line.strip_prefix('=').unwrap_or(line);
+    text.strip_prefix(' ').unwrap_or(text)
 }
 
 impl Case {
-    fn new(alloc: Global, kind: &str, name: &str) -> Result<Case, AllocError> {
-        Ok(Case {
-            kind: String::from_str(alloc, kind)?,
-            name: String::from_str(alloc, name)?,
+    /// No case, and no kind of them.
+    pub fn new(alloc: Global) -> Case {
+        Case {
+            kind: String::new(alloc),
+            name: String::new(alloc),
             input: String::new(alloc),
             answer: String::new(alloc),
-        })
+            is_begun: false,
+        }
     }
 
     /// The answer that is wanted, without a line feed at its end.
@@ -25,50 +46,48 @@ impl Case {
         answer.strip_suffix('\n').unwrap_or(answer)
     }
 
+    /// The cases that follow are of this kind.
+    fn begin_kind(&mut self, kind: &str) -> Result<(), AllocError> {
+        self.is_begun = false;
+        replace(&mut self.kind, kind)
+    }
+
+    /// A case with this name begins.
+    fn begin_case(&mut self, name: &str) -> Result<(), AllocError> {
+        self.is_begun = true;
+        self.input.clear();
+        self.answer.clear();
+        replace(&mut self.name, name)
+    }
+
+    /// A line that belongs to no case begins a kind of them or one of them.
+    pub fn begin(&mut self, line: &str) -> Result<(), AllocError> {
+        match kind_of(line) {
+            Some(kind) => self.begin_kind(kind),
+            None => self.begin_case(line),
+        }
+    }
+
     /// Adds a line of input or answer.
-    fn add(&mut self, line: &str) -> Result<(), AllocError> {
-        if let Some(text) = line.strip_prefix("  ") {
-            self.input.push_str(text)?;
-            self.input.push('\n')
-        } else {
-            let text = line.strip_prefix('=').unwrap_or(line);
-            self.answer
-                .push_str(text.strip_prefix(' ').unwrap_or(text))?;
-            self.answer.push('\n')
+    pub fn add(&mut self, line: &str) -> Result<(), AllocError> {
+        match line.strip_prefix("  ") {
+            Some(text) => add_line(&mut self.input, text),
+            None => add_line(&mut self.answer, said(line)),
         }
     }
 }
 
 /// Whether a line belongs to the case before it.
-fn belongs(line: &str) -> bool {
+pub fn belongs(line: &str) -> bool {
     line.starts_with("  ") || line.starts_with('=')
 }
 
 /// Whether a line says nothing.
-fn is_silent(line: &str) -> bool {
+pub fn is_silent(line: &str) -> bool {
     line.is_empty() || line.starts_with('#')
 }
 
 /// The kind that a line begins, if it does.
 fn kind_of(line: &str) -> Option<&str> {
     line.strip_prefix('[')?.strip_suffix(']')
-}
-
-/// The cases of a file, in their order.
-pub fn cases_of(alloc: Global, text: &str) -> Result<Vec<Case>, AllocError> {
-    let mut cases: Vec<Case> = Vec::new(alloc);
-    let mut kind = String::new(alloc);
-    for line in text.lines() {
-        if is_silent(line) {
-            continue;
-        }
-        if let Some(begun) = kind_of(line) {
-            kind = String::from_str(alloc, begun)?;
-        } else if !belongs(line) {
-            cases.push(Case::new(alloc, kind.as_str(), line)?)?;
-        } else if let Some(case) = cases.last_mut() {
-            case.add(line)?;
-        }
-    }
-    Ok(cases)
 }

@@ -1,73 +1,97 @@
-use crate::derivations::derivation_of;
-use crate::expressions::root_of;
+use crate::answer::Answer;
+use crate::derivations::{last_derivation, read_derivations};
+use crate::expressions::{read_root, root_with};
+use crate::growth::pushed;
 use crate::number::{next, number, short};
 use bc_cert::write_cert;
-use bc_rules_defs::Entry;
-use bc_show::ShownBytes;
+use bc_core::Root;
+use bc_rules_defs::{Derivation, Entry};
 use bc_word::Memory;
 use std::alloc::Global;
-use std::str::SplitWhitespace;
 
-/// The entry of three lines: its segment, item, target, first label and the numbers of its bodies' items; its root; its derivation.
-fn entry_of(alloc: Global, head: &str, root: &str, derivation: &str) -> Result<Entry, Memory> {
+/// An entry with what the first words of a line say: its segment, item, target and first label.
+fn entry_with(alloc: Global, head: &str, root: Root, derivation: Derivation) -> Entry {
     let mut fields = head.split_whitespace();
-    Ok(Entry {
+    Entry {
         segment: number(next(&mut fields)),
         item: number(next(&mut fields)),
         target: short(next(&mut fields)),
         first: short(next(&mut fields)),
-        root: root_of(alloc, root)?,
-        derivation: derivation_of(alloc, derivation)?,
-        bodies: numbers(alloc, fields)?,
-    })
-}
-
-/// The numbers that these words are.
-fn numbers(alloc: Global, words: SplitWhitespace<'_>) -> Result<Vec<u64>, Memory> {
-    let mut numbers = Vec::new(alloc);
-    for word in words {
-        numbers.push(number(word))?;
+        root,
+        derivation,
+        bodies: Vec::new(alloc),
     }
-    Ok(numbers)
 }
 
-/// The entries of an input, of three lines each.
-fn entries_of(alloc: Global, input: &str) -> Result<Vec<Entry>, Memory> {
+/// Adds the numbers that the words of a line are behind the first four.
+fn add_numbers(numbers: &mut Vec<u64>, line: &str) -> Result<(), Memory> {
+    for word in line.split_whitespace().skip(4) {
+        pushed(numbers, number(word))?;
+    }
+    Ok(())
+}
+
+/// Adds the numbers of its bodies' items to the last entry.
+fn add_bodies(entries: &mut Vec<Entry>, head: &str) -> Result<(), Memory> {
+    match entries.last_mut() {
+        Some(entry) => add_numbers(&mut entry.bodies, head),
+        None => Ok(()),
+    }
+}
+
+/// Adds the entry of three lines, but for the numbers of its bodies' items.
+fn add_entry(
+    alloc: Global,
+    entries: &mut Vec<Entry>,
+    head: &str,
+    root: &str,
+    derivation: &str,
+) -> Result<(), Memory> {
+    let mut trees = Vec::new(alloc);
+    read_root(alloc, &mut trees, root)?;
+    let mut derivations = Vec::new(alloc);
+    read_derivations(alloc, &mut derivations, derivation)?;
+    let root = root_with(&mut trees, root);
+    let derivation = last_derivation(alloc, &mut derivations);
+    pushed(entries, entry_with(alloc, head, root, derivation))
+}
+
+/// Adds the entries of an input, of three lines each: the segment, item, target, first label and the numbers of the bodies' items; the
+/// root; the derivation.
+fn add_entries(alloc: Global, entries: &mut Vec<Entry>, input: &str) -> Result<(), Memory> {
     let lines: Vec<&str> = input.lines().collect(alloc)?;
-    let mut entries = Vec::new(alloc);
     for entry in lines.chunks(3) {
         if let [head, root, derivation] = entry {
-            entries.push(entry_of(alloc, head, root, derivation)?)?;
+            add_entry(alloc, entries, head, root, derivation)?;
+            add_bodies(entries, head)?;
         }
     }
-    Ok(entries)
+    Ok(())
 }
 
-/// Adds a line of a certificate, none of which is empty.
-fn add_line(lines: &mut String, line: &[u8]) -> Result<(), Memory> {
-    if !lines.is_empty() {
-        lines.push('\n')?;
+/// Adds the lines of a text, each but the last one with a line feed, whether the text ends by one or not.
+fn add_lines(answer: &mut Answer, text: &[u8]) -> Result<(), Memory> {
+    for byte in text.strip_suffix(b"\n").unwrap_or(text) {
+        match *byte {
+            b'\n' => answer.say("\n"),
+            other => answer.bytes(&[other]),
+        }?;
     }
-    let line = ShownBytes(line);
-    Ok(write!(lines, "{line}")?)
+    Ok(())
 }
 
-/// The lines of a text whose lines all end by a line feed.
-fn lines(alloc: Global, text: &[u8]) -> Result<String, Memory> {
-    let mut lines = String::new(alloc);
-    let text = text.strip_suffix(b"\n").unwrap_or(text);
-    for line in text.split(|byte| *byte == b'\n') {
-        add_line(&mut lines, line)?;
+/// Adds the certificate of these entries.
+fn add_certificate(answer: &mut Answer, entries: &[Entry]) -> Result<(), Memory> {
+    let mut text = Vec::new(answer.alloc());
+    match write_cert(answer.alloc(), entries, &mut text) {
+        Ok(()) => add_lines(answer, text.as_slice()),
+        Err(fault) => answer.name(&fault),
     }
-    Ok(lines)
 }
 
-/// The certificate of entries.
-pub fn written(alloc: Global, input: &str) -> Result<String, Memory> {
-    let entries = entries_of(alloc, input)?;
-    let mut text = Vec::new(alloc);
-    match write_cert(alloc, entries.as_slice(), &mut text) {
-        Ok(()) => lines(alloc, text.as_slice()),
-        Err(fault) => Ok(format!(in alloc; "{fault:?}")?),
-    }
+/// Adds the certificate of the entries of an input.
+pub fn add_written(answer: &mut Answer, input: &str) -> Result<(), Memory> {
+    let mut entries = Vec::new(answer.alloc());
+    add_entries(answer.alloc(), &mut entries, input)?;
+    add_certificate(answer, entries.as_slice())
 }

@@ -1,29 +1,41 @@
 //! Expressions and roots, read as `bc_show` writes them.
 
+use crate::arithmetic::operator;
+use crate::growth::{behind, boxed, pushed};
 use crate::number::{short, word};
 use bc_core::{CoreExp, Root};
-use bc_show::sign;
 use bc_word::{Memory, Op, Word};
 use std::alloc::Global;
 
-/// A bracket that is open: its first word, how often the content of its value is taken, and its parts so far.
-#[derive(Drop)]
-struct Open {
-    head: String,
-    loads: usize,
-    parts: Vec<CoreExp>,
+/// What a bracket makes of the expressions in it.
+#[derive(Clone, Copy)]
+enum Head {
+    Call,
+    Neg,
+    Not,
+    Dyadic(Op),
+    Condition,
 }
 
-/// The operator of a sign.
-fn operator(head: &str) -> Option<Op> {
-    for number in 5..22u16 {
-        if let Ok(op) = Op::try_from(Word::new(number)) {
-            if sign(op) == head {
-                return Some(op);
-            }
-        }
+/// A bracket that is open: what it makes, how often the content of that is taken, and how many expressions were finished before it.
+#[derive(Clone, Copy)]
+struct Open {
+    head: Head,
+    loads: usize,
+    first: usize,
+}
+
+/// What a bracket makes that begins with this word.
+fn head_of(word: &str) -> Head {
+    match word {
+        "CALL" => Head::Call,
+        "NEG" => Head::Neg,
+        "NOT" => Head::Not,
+        _ => match operator(word) {
+            Some(op) => Head::Dyadic(op),
+            None => Head::Condition,
+        },
     }
-    None
 }
 
 /// The number behind the letter of what stands without brackets.
@@ -48,160 +60,212 @@ fn leaf(text: &str) -> CoreExp {
     }
 }
 
-/// The content of an expression, so many times.
-fn loaded(alloc: Global, e: CoreExp, loads: usize) -> Result<CoreExp, Memory> {
-    let mut e = e;
-    for _ in 0..loads {
-        e = CoreExp::Load(Box::new(alloc, e)?);
+/// Takes the last of the expressions that were finished behind so many, or 0 where there is none.
+fn taken(done: &mut Vec<CoreExp>, first: usize) -> CoreExp {
+    let zero = CoreExp::Num(Word::new(0));
+    if done.len() > first {
+        done.pop().unwrap_or(zero)
+    } else {
+        zero
     }
-    Ok(e)
 }
 
-/// The last part, or 0.
-fn last(alloc: Global, parts: &mut Vec<CoreExp>) -> Result<Box<CoreExp>, Memory> {
-    let e = parts.pop().unwrap_or(CoreExp::Num(Word::new(0)));
-    Ok(Box::new(alloc, e)?)
+/// The same in a box.
+fn part(alloc: Global, done: &mut Vec<CoreExp>, first: usize) -> Result<Box<CoreExp>, Memory> {
+    boxed(alloc, taken(done, first))
+}
+
+/// Puts an expression in place of those that were finished behind so many.
+fn put(done: &mut Vec<CoreExp>, first: usize, e: CoreExp) -> Result<(), Memory> {
+    done.truncate(first);
+    pushed(done, e)
+}
+
+/// The content of the last expression.
+fn load_once(alloc: Global, done: &mut Vec<CoreExp>) -> Result<(), Memory> {
+    let e = part(alloc, done, 0)?;
+    pushed(done, CoreExp::Load(e))
+}
+
+/// The content of the last expression, so many times.
+fn load(alloc: Global, done: &mut Vec<CoreExp>, loads: usize) -> Result<(), Memory> {
+    for _ in 0..loads {
+        load_once(alloc, done)?;
+    }
+    Ok(())
 }
 
 /// A call of the first part with the others.
-fn call(alloc: Global, parts: Vec<CoreExp>) -> Result<CoreExp, Memory> {
-    let mut backwards = parts;
-    backwards.reverse();
-    let routine = last(alloc, &mut backwards)?;
-    backwards.reverse();
-    Ok(CoreExp::Call(backwards, routine))
+fn call(alloc: Global, done: &mut Vec<CoreExp>, first: usize) -> Result<(), Memory> {
+    let arguments = behind(done, first.saturating_add(1))?;
+    let routine = part(alloc, done, first)?;
+    put(done, first, CoreExp::Call(arguments, routine))
 }
 
-/// The expression of a bracket.
-fn made(alloc: Global, head: &str, parts: Vec<CoreExp>) -> Result<CoreExp, Memory> {
-    let mut parts = parts;
-    match head {
-        "CALL" => call(alloc, parts),
-        "NEG" => Ok(CoreExp::Neg(last(alloc, &mut parts)?)),
-        "NOT" => Ok(CoreExp::Not(last(alloc, &mut parts)?)),
-        _ => match operator(head) {
-            Some(op) => dyadic(alloc, op, &mut parts),
-            None => condition(alloc, &mut parts),
-        },
-    }
+/// The negation of the last part.
+fn negation(alloc: Global, done: &mut Vec<CoreExp>, first: usize) -> Result<(), Memory> {
+    let e = part(alloc, done, first)?;
+    put(done, first, CoreExp::Neg(e))
+}
+
+/// NOT of the last part.
+fn opposite(alloc: Global, done: &mut Vec<CoreExp>, first: usize) -> Result<(), Memory> {
+    let e = part(alloc, done, first)?;
+    put(done, first, CoreExp::Not(e))
 }
 
 /// An operator with the last two parts.
-fn dyadic(alloc: Global, op: Op, parts: &mut Vec<CoreExp>) -> Result<CoreExp, Memory> {
-    let second = last(alloc, parts)?;
-    let first = last(alloc, parts)?;
-    Ok(CoreExp::Bin(op, first, second))
+fn dyadic(alloc: Global, done: &mut Vec<CoreExp>, first: usize, op: Op) -> Result<(), Memory> {
+    let right = part(alloc, done, first)?;
+    let left = part(alloc, done, first)?;
+    put(done, first, CoreExp::Bin(op, left, right))
 }
 
 /// A condition of the last three parts.
-fn condition(alloc: Global, parts: &mut Vec<CoreExp>) -> Result<CoreExp, Memory> {
-    let third = last(alloc, parts)?;
-    let second = last(alloc, parts)?;
-    let first = last(alloc, parts)?;
-    Ok(CoreExp::Cond(first, second, third))
+fn condition(alloc: Global, done: &mut Vec<CoreExp>, first: usize) -> Result<(), Memory> {
+    let that = part(alloc, done, first)?;
+    let this = part(alloc, done, first)?;
+    let condition = part(alloc, done, first)?;
+    put(done, first, CoreExp::Cond(condition, this, that))
 }
 
-/// One part more for the innermost open bracket.
-fn add(open: &mut Vec<Open>, e: CoreExp) -> Result<(), Memory> {
-    if let Some(innermost) = open.last_mut() {
-        innermost.parts.push(e)?;
+/// Puts what a bracket makes in place of what was finished in it.
+fn make(alloc: Global, done: &mut Vec<CoreExp>, open: Open) -> Result<(), Memory> {
+    match open.head {
+        Head::Call => call(alloc, done, open.first),
+        Head::Neg => negation(alloc, done, open.first),
+        Head::Not => opposite(alloc, done, open.first),
+        Head::Dyadic(op) => dyadic(alloc, done, open.first, op),
+        Head::Condition => condition(alloc, done, open.first),
     }
-    Ok(())
+}
+
+/// Closes this bracket.
+fn finish(alloc: Global, done: &mut Vec<CoreExp>, open: Open) -> Result<(), Memory> {
+    make(alloc, done, open)?;
+    load(alloc, done, open.loads)
 }
 
 /// Closes the innermost bracket.
-fn close(alloc: Global, open: &mut Vec<Open>) -> Result<(), Memory> {
-    if let Some(Open { head, loads, parts }) = open.pop() {
-        let e = made(alloc, head.as_str(), parts)?;
-        add(open, loaded(alloc, e, loads)?)?;
+fn close(alloc: Global, done: &mut Vec<CoreExp>, open: &mut Vec<Open>) -> Result<(), Memory> {
+    match open.pop() {
+        Some(open) => finish(alloc, done, open),
+        None => Ok(()),
     }
-    Ok(())
 }
 
-/// A bracket that opens with this word.
-fn begun(alloc: Global, head: &str, loads: usize) -> Result<Open, Memory> {
-    Ok(Open {
-        head: String::from_str(alloc, head)?,
-        loads,
-        parts: Vec::new(alloc),
-    })
+/// Adds what stands without brackets, its content taken so many times.
+fn add_leaf(
+    alloc: Global,
+    done: &mut Vec<CoreExp>,
+    text: &str,
+    loads: usize,
+) -> Result<(), Memory> {
+    pushed(done, leaf(text))?;
+    load(alloc, done, loads)
+}
+
+/// Opens a bracket, or adds what stands without brackets.
+fn begin(
+    alloc: Global,
+    done: &mut Vec<CoreExp>,
+    open: &mut Vec<Open>,
+    body: &str,
+) -> Result<(), Memory> {
+    let inner = body.trim_start_matches('!');
+    let loads = body.len().saturating_sub(inner.len());
+    let first = done.len();
+    match inner.strip_prefix('(') {
+        Some(head) => pushed(
+            open,
+            Open {
+                head: head_of(head),
+                loads,
+                first,
+            },
+        ),
+        None => add_leaf(alloc, done, inner, loads),
+    }
 }
 
 /// A word, with the brackets that it opens and closes.
-fn add_word(alloc: Global, open: &mut Vec<Open>, word: &str) -> Result<(), Memory> {
+fn add_word(
+    alloc: Global,
+    done: &mut Vec<CoreExp>,
+    open: &mut Vec<Open>,
+    word: &str,
+) -> Result<(), Memory> {
     let body = word.trim_end_matches(')');
-    let inner = body.trim_start_matches('!');
-    let loads = body.len().saturating_sub(inner.len());
-    match inner.strip_prefix('(') {
-        Some(head) => open.push(begun(alloc, head, loads)?)?,
-        None => add(open, loaded(alloc, leaf(inner), loads)?)?,
-    }
+    begin(alloc, done, open, body)?;
     for _ in body.len()..word.len() {
-        close(alloc, open)?;
+        close(alloc, done, open)?;
     }
     Ok(())
 }
 
-/// The expressions of a text, with blanks between them.
-pub fn expressions_of(alloc: Global, text: &str) -> Result<Vec<CoreExp>, Memory> {
+/// Adds the expressions of a text, with blanks between them.
+pub fn read_expressions(alloc: Global, done: &mut Vec<CoreExp>, text: &str) -> Result<(), Memory> {
     let mut open = Vec::new(alloc);
-    open.push(begun(alloc, "", 0)?)?;
     for word in text.split_whitespace() {
-        add_word(alloc, &mut open, word)?;
+        add_word(alloc, done, &mut open, word)?;
     }
-    match open.pop() {
-        Some(
-            Open {
-                head: _,
-                loads: _,
-                parts,
-            },
-        ) => Ok(parts),
-        None => Ok(Vec::new(alloc)),
-    }
+    Ok(())
 }
 
-/// The expression of a text, or 0.
-pub fn expression_of(alloc: Global, text: &str) -> Result<CoreExp, Memory> {
-    let mut parts = expressions_of(alloc, text)?;
-    Ok(parts.pop().unwrap_or(CoreExp::Num(Word::new(0))))
+/// What stands before the first blank of a text, and what stands behind it.
+fn front(text: &str) -> (&str, &str) {
+    text.split_once(' ').unwrap_or((text, ""))
 }
 
-/// The root of a line, as `(VALUE 3 !P2)`.
-pub fn root_of(alloc: Global, line: &str) -> Result<Root, Memory> {
-    let line = line.strip_prefix('(').unwrap_or(line);
-    let (form, rest) = line.split_once(' ').unwrap_or((line, ""));
-    let (level, text) = rest.split_once(' ').unwrap_or((rest, ""));
-    let level = short(level);
-    let text = text.strip_suffix(')').unwrap_or(text);
-    match form {
-        "ASSIGN" => assignment(alloc, level, text),
-        "TRUE" => test(alloc, level, true, text),
-        "FALSE" => test(alloc, level, false, text),
-        _ => Ok(Root::Value {
-            level,
-            expression: expression_of(alloc, text)?,
-        }),
-    }
+/// Adds the expressions of a root's line.
+pub fn read_root(alloc: Global, done: &mut Vec<CoreExp>, line: &str) -> Result<(), Memory> {
+    let (_, behind_form) = front(line);
+    let (_, text) = front(behind_form);
+    read_expressions(alloc, done, text.strip_suffix(')').unwrap_or(text))
 }
 
-/// An assignment of an address and a value.
-fn assignment(alloc: Global, level: u16, text: &str) -> Result<Root, Memory> {
-    let mut sides = expressions_of(alloc, text)?;
-    let value = sides.pop().unwrap_or(CoreExp::Num(Word::new(0)));
-    let address = sides.pop().unwrap_or(CoreExp::Num(Word::new(0)));
-    Ok(Root::Assign {
+/// The value of the last expression.
+fn value(level: u16, done: &mut Vec<CoreExp>) -> Root {
+    Root::Value {
         level,
-        value,
-        address,
-    })
+        expression: taken(done, 0),
+    }
 }
 
-/// A test, to jump where it is as this sense says.
-fn test(alloc: Global, level: u16, sense: bool, text: &str) -> Result<Root, Memory> {
-    Ok(Root::Test {
+/// A test of the last expression, to jump where it is as this sense says.
+fn test(level: u16, sense: bool, done: &mut Vec<CoreExp>) -> Root {
+    Root::Test {
         level,
         sense,
-        expression: expression_of(alloc, text)?,
-    })
+        expression: taken(done, 0),
+    }
+}
+
+/// An assignment of the last expression but one and the last one, an address and a value.
+fn assignment(level: u16, done: &mut Vec<CoreExp>) -> Root {
+    let value = taken(done, 0);
+    Root::Assign {
+        level,
+        value,
+        address: taken(done, 0),
+    }
+}
+
+/// The root of a line, as `(VALUE 3 !P2)`, with the last of these expressions.
+pub fn root_with(done: &mut Vec<CoreExp>, line: &str) -> Root {
+    let (form, behind_form) = front(line.strip_prefix('(').unwrap_or(line));
+    let level = short(front(behind_form).0);
+    match form {
+        "ASSIGN" => assignment(level, done),
+        "TRUE" => test(level, true, done),
+        "FALSE" => test(level, false, done),
+        _ => value(level, done),
+    }
+}
+
+/// The root of a line in a box.
+pub fn root_of(alloc: Global, line: &str) -> Result<Box<Root>, Memory> {
+    let mut done = Vec::new(alloc);
+    read_root(alloc, &mut done, line)?;
+    boxed(alloc, root_with(&mut done, line))
 }

@@ -23,3 +23,8 @@ pub fn word(text: &str) -> Word {
 pub fn next<'t>(words: &mut SplitWhitespace<'t>) -> &'t str {
     words.next().unwrap_or("")
 }
+
+/// One more.
+pub fn count(number: &mut u64) {
+    *number = number.wrapping_add(1);
+}

@@ -1,16 +1,28 @@
-use crate::derivations::derivation_of;
-use crate::expressions::{expression_of, expressions_of, root_of};
+use crate::answer::{Answer, Part};
+use crate::derivations::{last_derivation, read_derivations};
+use crate::expressions::{read_expressions, root_of};
+use crate::growth::boxed;
 use crate::number::{next, short};
-use crate::row::ShownRow;
-use crate::said::said;
-use bc_core::{CoreExp, Root, constant, copy, copy_expression, operand};
+use bc_core::{CoreExp, Operand, Root, constant, copy, copy_expression, operand};
 use bc_rules::{code_of, free, is_derivation, is_derivation_by, next_label, words};
-use bc_rules_defs::{Derivation, Piece, Table};
-use bc_select::{Row, is_selectable, rows, select};
+use bc_rules_defs::{Derivation, Piece, Rule, Table};
+use bc_select::{Row, Selected, is_selectable, rows, select};
 use bc_show::{ShownDerivation, ShownExpression, ShownPiece, ShownRoot};
 use bc_text_items::Base;
 use bc_word::{Memory, Word};
-use std::alloc::Global;
+
+/// What is answered of a root.
+#[derive(Clone, Copy)]
+pub enum OfRoot {
+    /// Whether a derivation is one of it by each table, and what its code is.
+    Derivation,
+    /// The derivation that is chosen for it, its words, and the row of each node.
+    Least,
+    /// Its least words.
+    LeastWords,
+    /// Its copy and that of its expression, where they are equal to them.
+    Copied,
+}
 
 fn yes_or_no(yes: bool) -> &'static str {
     if yes { "yes" } else { "no" }
@@ -29,98 +41,177 @@ fn behind(line: &str, word: &str) -> u16 {
     }
 }
 
-/// Whether a derivation is one of a root by each table, and what its code is.
-pub fn judged(alloc: Global, input: &str) -> Result<String, Memory> {
-    let root = root_of(alloc, line(input, 0))?;
-    let derivation = derivation_of(alloc, line(input, 1))?;
-    told(alloc, &root, &derivation, line(input, 2))
+/// Adds what is answered of the root that an input has in its first line.
+pub fn add_told(answer: &mut Answer, what: OfRoot, input: &str) -> Result<(), Memory> {
+    let root = root_of(answer.alloc(), line(input, 0))?;
+    add_of_root(answer, what, &root, input)
 }
 
-/// Whether this is a derivation of a root by each table, and what its code is from these labels on.
-fn told(
-    alloc: Global,
+fn add_of_root(answer: &mut Answer, what: OfRoot, root: &Root, input: &str) -> Result<(), Memory> {
+    match what {
+        OfRoot::Derivation => add_judged(answer, root, input),
+        OfRoot::Least => add_least(answer, root),
+        OfRoot::LeastWords => add_least_words(answer, root),
+        OfRoot::Copied => add_copies(answer, root, line(input, 1)),
+    }
+}
+
+/// Adds whether the derivation of the second line is one of a root by each table, and what its code is.
+fn add_judged(answer: &mut Answer, root: &Root, input: &str) -> Result<(), Memory> {
+    let alloc = answer.alloc();
+    let mut done = Vec::new(alloc);
+    read_derivations(alloc, &mut done, line(input, 1))?;
+    let derivation = boxed(alloc, last_derivation(alloc, &mut done))?;
+    add_judgement(answer, root, &derivation, line(input, 2))
+}
+
+/// Adds whether this is a derivation of a root by each table, and what its code is from these labels on.
+fn add_judgement(
+    answer: &mut Answer,
     root: &Root,
     derivation: &Derivation,
     labels: &str,
-) -> Result<String, Memory> {
-    let first = yes_or_no(is_derivation_by(Table::One, root, derivation));
-    let second = yes_or_no(is_derivation_by(Table::Two, root, derivation));
-    let mut text = format!(in alloc; "by table 1 {first}, by table 2 {second}")?;
+) -> Result<(), Memory> {
+    answer.all(&[
+        Part::Text("by table 1 "),
+        Part::Text(yes_or_no(is_derivation_by(Table::One, root, derivation))),
+        Part::Text(", by table 2 "),
+        Part::Text(yes_or_no(is_derivation_by(Table::Two, root, derivation))),
+    ])?;
     if is_derivation(root, derivation) {
-        let first = behind(labels, "first ");
-        let code = code_of(alloc, root, derivation, behind(labels, "target "), first);
-        add_code(&mut text, code)?;
-        add_label(&mut text, next_label(root, derivation, first))?;
+        add_code(answer, root, derivation, labels)
+    } else {
+        Ok(())
     }
-    Ok(text)
 }
 
-fn add_code(text: &mut String, code: Result<Vec<Piece>, Memory>) -> Result<(), Memory> {
-    let Ok(code) = code else {
-        return Ok(text.push_str("\nno code")?);
-    };
-    text.push_str("\ncode")?;
-    add_pieces(text, code.as_slice())?;
-    add_words(text, code.as_slice())
+/// Adds the code of a derivation from these labels on, and the label behind its own.
+fn add_code(
+    answer: &mut Answer,
+    root: &Root,
+    derivation: &Derivation,
+    labels: &str,
+) -> Result<(), Memory> {
+    let first = behind(labels, "first ");
+    let target = behind(labels, "target ");
+    let code = code_of(answer.alloc(), root, derivation, target, first);
+    add_made(answer, code)?;
+    add_label(answer, next_label(root, derivation, first))
 }
 
-fn add_label(text: &mut String, label: Option<u32>) -> Result<(), Memory> {
+/// Adds code, if it was made.
+fn add_made(answer: &mut Answer, code: Result<Vec<Piece>, Memory>) -> Result<(), Memory> {
+    match code {
+        Ok(code) => add_pieces(answer, code.as_slice()),
+        Err(_) => answer.say("\nno code"),
+    }
+}
+
+fn add_label(answer: &mut Answer, label: Option<u32>) -> Result<(), Memory> {
     match label {
-        Some(label) => Ok(write!(text, "\nnext label {label}")?),
-        None => Ok(text.push_str("\nno next label")?),
+        Some(label) => answer.all(&[Part::Text("\nnext label "), Part::Number(u64::from(label))]),
+        None => answer.say("\nno next label"),
     }
 }
 
-fn add_pieces(text: &mut String, code: &[Piece]) -> Result<(), Memory> {
+fn add_piece(answer: &mut Answer, piece: &Piece) -> Result<(), Memory> {
+    let piece = ShownPiece(piece);
+    answer.say(" ")?;
+    answer.show(&piece)
+}
+
+/// Adds code and its words.
+fn add_pieces(answer: &mut Answer, code: &[Piece]) -> Result<(), Memory> {
+    answer.say("\ncode")?;
     for piece in code {
-        let piece = ShownPiece(piece);
-        write!(text, " {piece}")?;
+        add_piece(answer, piece)?;
     }
-    Ok(())
+    add_words(answer, code)
 }
 
-fn add_words(text: &mut String, code: &[Piece]) -> Result<(), Memory> {
+fn add_words(answer: &mut Answer, code: &[Piece]) -> Result<(), Memory> {
     if code.len() < 1 << 32 {
-        let count = words(code);
-        write!(text, "\n{count} words")?;
+        answer.all(&[
+            Part::Text("\n"),
+            Part::Number(words(code)),
+            Part::Text(" words"),
+        ])
+    } else {
+        Ok(())
     }
-    Ok(())
 }
 
-/// The derivation that is chosen for a root, its words, and the row of each node.
-pub fn least(alloc: Global, input: &str) -> Result<String, Memory> {
-    let root = root_of(alloc, line(input, 0))?;
-    if !is_selectable(&root) {
-        return said(alloc, "not selectable");
+/// Adds the derivation that is chosen for a root, its words, and the row of each node.
+fn add_least(answer: &mut Answer, root: &Root) -> Result<(), Memory> {
+    if !is_selectable(root) {
+        return answer.say("not selectable");
     }
-    let selected = select(alloc, &root)?;
-    let table = rows(alloc, &root)?;
-    let words = selected.words;
+    let table = rows(answer.alloc(), root)?;
+    let selected = select(answer.alloc(), root)?;
+    add_selected(answer, &selected, &table)
+}
+
+fn add_selected(answer: &mut Answer, selected: &Selected, table: &Vec<Row>) -> Result<(), Memory> {
+    add_derivation(answer, selected)?;
+    add_rows(answer, table)?;
+    if *table == selected.table {
+        Ok(())
+    } else {
+        answer.say("\nother rows")
+    }
+}
+
+/// Adds the words and the derivation that are chosen for a root.
+fn add_derivation(answer: &mut Answer, selected: &Selected) -> Result<(), Memory> {
     let derivation = ShownDerivation(&selected.derivation);
-    let mut text = format!(in alloc; "{words} words by {derivation}")?;
-    add_rows(&mut text, table.as_slice())?;
-    if table != selected.table {
-        text.push_str("\nother rows")?;
-    }
-    Ok(text)
+    answer.all(&[Part::Number(selected.words), Part::Text(" words by ")])?;
+    answer.show(&derivation)
 }
 
-fn add_rows(text: &mut String, table: &[Row]) -> Result<(), Memory> {
+fn add_rows(answer: &mut Answer, table: &[Row]) -> Result<(), Memory> {
     for row in table {
-        let row = ShownRow(row);
-        write!(text, "\n{row}")?;
+        add_row(answer, row)?;
     }
     Ok(())
 }
 
-/// The least words of a root.
-pub fn least_words(alloc: Global, input: &str) -> Result<String, Memory> {
-    let root = root_of(alloc, line(input, 0))?;
-    if !is_selectable(&root) {
-        return said(alloc, "not selectable");
+/// Adds the least words of a node, as a value, as a value that is pushed, as a jump on false and as a jump on true, each with the
+/// rule that gives them; `-` where there is no derivation: `6 V12, -, 8 J6, 8 J6`.
+fn add_row(answer: &mut Answer, row: &Row) -> Result<(), Memory> {
+    for aim in 0..4 {
+        answer.say(if aim > 0 { ", " } else { "\n" })?;
+        add_choice(answer, row.costs[aim], row.rules[aim])?;
     }
-    let words = select(alloc, &root)?.words;
-    Ok(format!(in alloc; "{words}")?)
+    Ok(())
+}
+
+fn add_choice(answer: &mut Answer, words: Option<u64>, rule: Option<Rule>) -> Result<(), Memory> {
+    match words {
+        Some(words) => add_cost(answer, words, rule),
+        None => answer.say("-"),
+    }
+}
+
+fn add_cost(answer: &mut Answer, words: u64, rule: Option<Rule>) -> Result<(), Memory> {
+    answer.number(words)?;
+    match rule {
+        Some(rule) => add_rule(answer, rule),
+        None => Ok(()),
+    }
+}
+
+fn add_rule(answer: &mut Answer, rule: Rule) -> Result<(), Memory> {
+    answer.say(" ")?;
+    answer.name(&rule)
+}
+
+/// Adds the least words of a root.
+fn add_least_words(answer: &mut Answer, root: &Root) -> Result<(), Memory> {
+    if !is_selectable(root) {
+        return answer.say("not selectable");
+    }
+    let selected = select(answer.alloc(), root)?;
+    answer.number(selected.words)
 }
 
 fn base_letter(base: Base) -> &'static str {
@@ -132,70 +223,95 @@ fn base_letter(base: Base) -> &'static str {
     }
 }
 
-/// The operand of one instruction that an expression is, and the number that it is.
-pub fn operands(alloc: Global, input: &str) -> Result<String, Memory> {
-    let e = expression_of(alloc, line(input, 0))?;
-    let mut text = operand_of(alloc, &e)?;
-    add_constant(&mut text, constant(&e))?;
-    Ok(text)
+/// Adds the operand of one instruction that an expression is, and the number that it is.
+pub fn add_operands(answer: &mut Answer, input: &str) -> Result<(), Memory> {
+    let mut done = Vec::new(answer.alloc());
+    read_expressions(answer.alloc(), &mut done, line(input, 0))?;
+    match done.last() {
+        Some(e) => add_operand(answer, e),
+        None => add_operand(answer, &CoreExp::Num(Word::new(0))),
+    }
 }
 
-/// The operand of one instruction that an expression is.
-fn operand_of(alloc: Global, e: &CoreExp) -> Result<String, Memory> {
-    let Some(found) = operand(e) else {
-        return said(alloc, "no operand");
-    };
-    let indirection = if found.direct { "" } else { "I" };
-    let base = base_letter(found.base);
-    let n = found.n.get();
-    Ok(format!(in alloc; "operand {indirection}{base}{n}")?)
+fn add_operand(answer: &mut Answer, e: &CoreExp) -> Result<(), Memory> {
+    add_found(answer, operand(e))?;
+    add_constant(answer, constant(e))
 }
 
-fn add_constant(text: &mut String, constant: Option<Word>) -> Result<(), Memory> {
-    let Some(word) = constant else {
-        return Ok(text.push_str(", no constant")?);
-    };
-    let word = word.get();
-    Ok(write!(text, ", constant {word}")?)
+/// Adds the operand of one instruction that was found.
+fn add_found(answer: &mut Answer, found: Option<Operand>) -> Result<(), Memory> {
+    match found {
+        Some(found) => answer.all(&[
+            Part::Text("operand "),
+            Part::Text(if found.direct { "" } else { "I" }),
+            Part::Text(base_letter(found.base)),
+            Part::Number(u64::from(found.n.get())),
+        ]),
+        None => answer.say("no operand"),
+    }
 }
 
-/// Whether two expressions may change places.
-pub fn freedom(alloc: Global, input: &str) -> Result<String, Memory> {
-    let pair = expressions_of(alloc, line(input, 0))?;
+fn add_constant(answer: &mut Answer, constant: Option<Word>) -> Result<(), Memory> {
+    match constant {
+        Some(word) => answer.all(&[
+            Part::Text(", constant "),
+            Part::Number(u64::from(word.get())),
+        ]),
+        None => answer.say(", no constant"),
+    }
+}
+
+/// Adds whether two expressions may change places.
+pub fn add_freedom(answer: &mut Answer, input: &str) -> Result<(), Memory> {
+    let mut pair = Vec::new(answer.alloc());
+    read_expressions(answer.alloc(), &mut pair, line(input, 0))?;
     match pair.as_slice() {
-        [first, second] => said(alloc, yes_or_no(free(first, second))),
-        _ => said(alloc, "not two expressions"),
+        [first, second] => answer.say(yes_or_no(free(first, second))),
+        _ => answer.say("not two expressions"),
     }
 }
 
-/// A root's copy and that of its expression, where they are equal to them.
-pub fn copied(alloc: Global, input: &str) -> Result<String, Memory> {
-    let root = root_of(alloc, line(input, 0))?;
-    let other = root_of(alloc, line(input, 1))?;
-    let new = copy(alloc, &root)?;
-    compared(alloc, &root, &other, &new)
+/// Adds a root's copy and that of its expression, where they are equal to them, and whether the copy is the root of another line.
+fn add_copies(answer: &mut Answer, root: &Root, other: &str) -> Result<(), Memory> {
+    let other = root_of(answer.alloc(), other)?;
+    add_copy(answer, root, &other)?;
+    add_inner_copy(answer, root)
 }
 
-/// A root's copy, and whether it is equal to it and to another one.
-fn compared(alloc: Global, root: &Root, other: &Root, new: &Root) -> Result<String, Memory> {
-    let is_same = new == root;
-    let is_other = new == other;
-    let whole = ShownRoot(new);
-    let mut text = format!(in alloc; "{whole}, the same: {is_same}, the other: {is_other}")?;
-    if let Root::Value {
-        level: _,
-        expression,
-    } = root
-    {
-        add_copy(alloc, &mut text, expression)?;
+fn add_copy(answer: &mut Answer, root: &Root, other: &Root) -> Result<(), Memory> {
+    let new = copy(answer.alloc(), root)?;
+    add_compared(answer, root, other, &new)
+}
+
+/// Adds the copy of a root's expression, where it is that of a value.
+fn add_inner_copy(answer: &mut Answer, root: &Root) -> Result<(), Memory> {
+    match root {
+        Root::Value { expression, .. } => add_copy_of(answer, expression),
+        Root::Test { .. } | Root::Assign { .. } => Ok(()),
     }
-    Ok(text)
 }
 
-fn add_copy(alloc: Global, text: &mut String, e: &CoreExp) -> Result<(), Memory> {
-    let new = copy_expression(alloc, e)?;
-    let is_same = new == *e;
-    let shown = ShownExpression(&new);
-    write!(text, "\n{shown}, the same: {is_same}")?;
-    Ok(())
+/// Adds a root's copy, and whether it is equal to it and to another one.
+fn add_compared(answer: &mut Answer, root: &Root, other: &Root, new: &Root) -> Result<(), Memory> {
+    let shown = ShownRoot(new);
+    answer.show(&shown)?;
+    answer.all(&[
+        Part::Text(", the same: "),
+        Part::Truth(new == root),
+        Part::Text(", the other: "),
+        Part::Truth(new == other),
+    ])
+}
+
+/// Adds an expression's copy, and whether it is equal to it.
+fn add_copy_of(answer: &mut Answer, e: &CoreExp) -> Result<(), Memory> {
+    let new = copy_expression(answer.alloc(), e)?;
+    add_same(answer, e, &new)
+}
+
+fn add_same(answer: &mut Answer, e: &CoreExp, new: &CoreExp) -> Result<(), Memory> {
+    let shown = ShownExpression(new);
+    answer.say("\n")?;
+    answer.show(&shown)?;
+    answer.all(&[Part::Text(", the same: "), Part::Truth(new == e)])
 }

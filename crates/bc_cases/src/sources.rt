@@ -1,4 +1,5 @@
-use crate::escapes::expanded;
+use crate::escapes::{add_expanded, expanded};
+use crate::growth::pushed;
 use bc_lex::Source;
 use bc_library::{BLIB, LIBHDR};
 use bc_word::Memory;
@@ -12,6 +13,24 @@ struct Given {
     has_lines: bool,
 }
 
+impl Given {
+    /// A line more.
+    fn add(&mut self, line: &str) -> Result<(), Memory> {
+        if self.has_lines {
+            pushed(&mut self.text, b'\n')?;
+        }
+        self.has_lines = true;
+        add_expanded(&mut self.text, line)
+    }
+
+    fn source(&self) -> Source<'_> {
+        Source {
+            name: self.name.as_slice(),
+            text: self.text.as_slice(),
+        }
+    }
+}
+
 /// The sources of a case, and the index of the one that is read first.
 #[derive(Drop)]
 pub struct Sources {
@@ -19,21 +38,22 @@ pub struct Sources {
     pub main: usize,
 }
 
-fn begun(alloc: Global, name: &str) -> Result<Given, Memory> {
-    Ok(Given {
-        name: expanded(alloc, name)?,
-        text: Vec::new(alloc),
-        has_lines: false,
-    })
-}
-
-fn add_line(alloc: Global, given: &mut Given, line: &str) -> Result<(), Memory> {
-    if given.has_lines {
-        given.text.push(b'\n')?;
-    }
-    given.has_lines = true;
-    let line = expanded(alloc, line)?;
-    Ok(given.text.extend_from_slice(line.as_slice())?)
+/// Adds LIBHDR and BLIB.
+fn add_library(sources: &mut Vec<Source<'_>>) -> Result<(), Memory> {
+    pushed(
+        sources,
+        Source {
+            name: b"LIBHDR",
+            text: LIBHDR.as_bytes(),
+        },
+    )?;
+    pushed(
+        sources,
+        Source {
+            name: b"BLIB",
+            text: BLIB.as_bytes(),
+        },
+    )
 }
 
 /// The sources of a case. A line `-- NAME` begins one, a line `== NAME` the one that is read first; without such lines all is the
@@ -53,7 +73,15 @@ pub fn sources_of(alloc: Global, input: &str) -> Result<Sources, Memory> {
 impl Sources {
     /// A source with this name begins.
     fn begin(&mut self, alloc: Global, name: &str) -> Result<(), Memory> {
-        Ok(self.given.push(begun(alloc, name)?)?)
+        let name = expanded(alloc, name)?;
+        pushed(
+            &mut self.given,
+            Given {
+                name,
+                text: Vec::new(alloc),
+                has_lines: false,
+            },
+        )
     }
 
     /// The source A begins, where none has begun.
@@ -69,7 +97,7 @@ impl Sources {
     fn add(&mut self, alloc: Global, line: &str) -> Result<(), Memory> {
         self.begin_first(alloc)?;
         match self.given.last_mut() {
-            Some(last) => add_line(alloc, last, line),
+            Some(last) => last.add(line),
             None => Ok(()),
         }
     }
@@ -90,19 +118,9 @@ impl Sources {
     pub fn all(&self, alloc: Global) -> Result<Vec<Source<'_>>, Memory> {
         let mut sources = Vec::new(alloc);
         for given in &self.given {
-            sources.push(Source {
-                name: given.name.as_slice(),
-                text: given.text.as_slice(),
-            })?;
+            pushed(&mut sources, given.source())?;
         }
-        sources.push(Source {
-            name: b"LIBHDR",
-            text: LIBHDR.as_bytes(),
-        })?;
-        sources.push(Source {
-            name: b"BLIB",
-            text: BLIB.as_bytes(),
-        })?;
+        add_library(&mut sources)?;
         Ok(sources)
     }
 }

@@ -1,19 +1,27 @@
+use crate::answer::{Answer, Part};
 use crate::escapes::expanded;
+use crate::growth::pushed;
 use crate::machines::add_written;
 use crate::number::word;
 use bc_machine::{MemoryStreams, Named, Side, Streams};
-use bc_show::ShownBytes;
 use bc_word::Memory;
 use std::alloc::Global;
+
+/// The input of `NAME=CONTENT`.
+fn input_of(alloc: Global, binding: &str) -> Result<Named<Vec<u8>>, Memory> {
+    let (name, content) = binding.split_once('=').unwrap_or((binding, ""));
+    let device = expanded(alloc, content)?;
+    Ok(Named {
+        name: expanded(alloc, name)?,
+        device,
+    })
+}
 
 /// The inputs of a line of `NAME=CONTENT`.
 fn inputs(alloc: Global, line: &str) -> Result<Vec<Named<Vec<u8>>>, Memory> {
     let mut inputs = Vec::new(alloc);
     for binding in line.split_whitespace() {
-        let (name, content) = binding.split_once('=').unwrap_or((binding, ""));
-        let device = expanded(alloc, content)?;
-        let name = expanded(alloc, name)?;
-        inputs.push(Named { name, device })?;
+        pushed(&mut inputs, input_of(alloc, binding)?)?;
     }
     Ok(inputs)
 }
@@ -22,7 +30,7 @@ fn inputs(alloc: Global, line: &str) -> Result<Vec<Named<Vec<u8>>>, Memory> {
 fn outputs(alloc: Global, line: &str) -> Result<Vec<Vec<u8>>, Memory> {
     let mut outputs = Vec::new(alloc);
     for name in line.split_whitespace() {
-        outputs.push(expanded(alloc, name)?)?;
+        pushed(&mut outputs, expanded(alloc, name)?)?;
     }
     Ok(outputs)
 }
@@ -35,56 +43,65 @@ fn side_of(word: &str) -> Side {
     }
 }
 
-fn add_read(text: &mut String, streams: &mut MemoryStreams) -> Result<(), Memory> {
-    let answer = match streams.read() {
-        Ok(Some(byte)) => {
-            let bytes = [byte];
-            let byte = ShownBytes(&bytes);
-            return Ok(write!(text, "read {byte}")?);
-        }
-        Ok(None) => "read nothing",
-        Err(_) => "the device failed",
-    };
-    Ok(text.push_str(answer)?)
+fn add_byte(answer: &mut Answer, byte: u8) -> Result<(), Memory> {
+    answer.say("read ")?;
+    answer.bytes(&[byte])
 }
 
-fn add_done(text: &mut String, done: bool) -> Result<(), Memory> {
-    Ok(text.push_str(if done { "done" } else { "the device failed" })?)
-}
-
-/// Does what a line says, and adds what it answers.
-fn act(text: &mut String, streams: &mut MemoryStreams, line: &str) -> Result<(), Memory> {
-    let (action, rest) = line.split_once(' ').unwrap_or((line, ""));
-    let (side, value) = rest.split_once(' ').unwrap_or((rest, ""));
-    let side = side_of(side);
-    match action {
-        "find" => add_found(text, streams, side, value),
-        "select" => {
-            streams.select(side, word(value));
-            add_done(text, true)
-        }
-        "write" => add_sent(text, streams, rest.as_bytes()),
-        "end" => add_done(text, streams.end(side).is_ok()),
-        _ => add_read(text, streams),
+/// Reads a byte, and adds what that answers.
+fn add_read(answer: &mut Answer, streams: &mut MemoryStreams) -> Result<(), Memory> {
+    match streams.read() {
+        Ok(Some(byte)) => add_byte(answer, byte),
+        Ok(None) => answer.say("read nothing"),
+        Err(_) => add_done(answer, false),
     }
+}
+
+fn add_done(answer: &mut Answer, done: bool) -> Result<(), Memory> {
+    answer.say(if done { "done" } else { "the device failed" })
+}
+
+/// Selects the stream with this number.
+fn add_selected(
+    answer: &mut Answer,
+    streams: &mut MemoryStreams,
+    side: Side,
+    number: &str,
+) -> Result<(), Memory> {
+    streams.select(side, word(number));
+    add_done(answer, true)
 }
 
 /// Adds the number of the stream with a name.
 fn add_found(
-    text: &mut String,
-    streams: &mut MemoryStreams,
+    answer: &mut Answer,
+    streams: &MemoryStreams,
     side: Side,
     name: &str,
 ) -> Result<(), Memory> {
     let number = streams.find(side, name.as_bytes()).get();
-    Ok(write!(text, "number {number}")?)
+    answer.all(&[Part::Text("number "), Part::Number(u64::from(number))])
 }
 
 /// Writes the first of these bytes, if there is one, and adds whether that was done.
-fn add_sent(text: &mut String, streams: &mut MemoryStreams, bytes: &[u8]) -> Result<(), Memory> {
+fn add_sent(answer: &mut Answer, streams: &mut MemoryStreams, bytes: &[u8]) -> Result<(), Memory> {
     match bytes.first() {
-        Some(byte) => add_done(text, streams.write(*byte).is_ok()),
+        Some(byte) => add_done(answer, streams.write(*byte).is_ok()),
         None => Ok(()),
+    }
+}
+
+/// Does what a line says, and adds what it answers.
+fn act(answer: &mut Answer, streams: &mut MemoryStreams, line: &str) -> Result<(), Memory> {
+    let (action, rest) = line.split_once(' ').unwrap_or((line, ""));
+    let (side, value) = rest.split_once(' ').unwrap_or((rest, ""));
+    let side = side_of(side);
+    match action {
+        "find" => add_found(answer, streams, side, value),
+        "select" => add_selected(answer, streams, side, value),
+        "write" => add_sent(answer, streams, rest.as_bytes()),
+        "end" => add_done(answer, streams.end(side).is_ok()),
+        _ => add_read(answer, streams),
     }
 }
 
@@ -93,29 +110,34 @@ fn front(text: &str) -> (&str, &str) {
     text.split_once('\n').unwrap_or((text, ""))
 }
 
-/// What streams over memory answer to each line: the first has the inputs, the second the outputs, the third how many bytes may be
+/// Adds what streams over memory answer to each line: the first has the inputs, the second the outputs, the third how many bytes may be
 /// written.
-pub fn streams(alloc: Global, input: &str) -> Result<String, Memory> {
+pub fn add_streams(answer: &mut Answer, input: &str) -> Result<(), Memory> {
     let (first, input) = front(input);
     let (second, input) = front(input);
     let (third, lines) = front(input);
-    let inputs = inputs(alloc, first)?;
-    let outputs = outputs(alloc, second)?;
+    let inputs = inputs(answer.alloc(), first)?;
+    let outputs = outputs(answer.alloc(), second)?;
     let room = usize::from(word(third).get());
-    match MemoryStreams::new(alloc, inputs, outputs, room) {
-        Ok(mut streams) => acted(alloc, &mut streams, lines),
-        Err(fault) => Ok(format!(in alloc; "{fault:?}")?),
+    match MemoryStreams::new(answer.alloc(), inputs, outputs, room) {
+        Ok(mut streams) => add_acts(answer, &mut streams, lines),
+        Err(fault) => answer.name(&fault),
     }
 }
 
-/// What streams answer to each of these lines, and what is written then.
-fn acted(alloc: Global, streams: &mut MemoryStreams, lines: &str) -> Result<String, Memory> {
-    let mut text = String::from_str(alloc, "made")?;
+/// Does what each of these lines says, and adds what they answer.
+fn act_all(answer: &mut Answer, streams: &mut MemoryStreams, lines: &str) -> Result<(), Memory> {
     for line in lines.lines() {
-        text.push('\n')?;
-        act(&mut text, streams, line)?;
+        answer.say("\n")?;
+        act(answer, streams, line)?;
     }
-    text.push_str("\nwritten")?;
-    add_written(&mut text, streams)?;
-    Ok(text)
+    Ok(())
+}
+
+/// Adds what streams answer to each of these lines, and what is written then.
+fn add_acts(answer: &mut Answer, streams: &mut MemoryStreams, lines: &str) -> Result<(), Memory> {
+    answer.say("made")?;
+    act_all(answer, streams, lines)?;
+    answer.say("\nwritten")?;
+    add_written(answer, streams)
 }

@@ -1,10 +1,10 @@
 //! Inputs with each byte replaced by each other one in turn.
 
+use crate::answer::{Answer, Part};
 use crate::escapes::expanded;
 use crate::linking::text_of;
-use crate::number::{next, short};
-use crate::said::said;
-use bc_cert::check;
+use crate::number::{count, next, short};
+use bc_cert::{Judged, check};
 use bc_lex::{Source, lex};
 use bc_library::{BLIB, LIBHDR};
 use bc_text::{TextError, read_all};
@@ -13,7 +13,7 @@ use bc_word::Memory;
 use std::alloc::Global;
 
 /// How often each answer comes, and the sum of its places, or of segments and items.
-#[derive(Clone, Copy)]
+#[derive(Drop)]
 struct Tally {
     lawful: u64,
     segments: u64,
@@ -23,11 +23,6 @@ struct Tally {
     labels: u64,
     unended: u64,
     places: u64,
-}
-
-/// One more.
-fn count(number: &mut u64) {
-    *number = number.wrapping_add(1);
 }
 
 impl Tally {
@@ -79,9 +74,20 @@ fn put(bytes: &mut Vec<u8>, at: usize, byte: u8) -> u8 {
     }
 }
 
-/// How the texts are answered that differ from this one in a byte.
-pub fn texts(alloc: Global, input: &str) -> Result<String, Memory> {
-    let mut bytes = text_of(alloc, input)?;
+/// Adds to a tally how the texts are answered that differ from this one in the byte at a place.
+fn try_texts_at(alloc: Global, tally: &mut Tally, bytes: &mut Vec<u8>, at: usize) {
+    for byte in 0..=u8::MAX {
+        let old = put(bytes, at, byte);
+        if byte != old {
+            tally.add(read_all(alloc, &[bytes.as_slice()]));
+        }
+        put(bytes, at, old);
+    }
+}
+
+/// Adds how the texts are answered that differ from this one in a byte.
+pub fn add_texts(answer: &mut Answer, input: &str) -> Result<(), Memory> {
+    let mut bytes = text_of(answer.alloc(), input)?;
     let mut tally = Tally {
         lawful: 0,
         segments: 0,
@@ -93,32 +99,30 @@ pub fn texts(alloc: Global, input: &str) -> Result<String, Memory> {
         places: 0,
     };
     for at in 0..bytes.len() {
-        for byte in 0..=u8::MAX {
-            let old = put(&mut bytes, at, byte);
-            if byte != old {
-                tally.add(read_all(alloc, &[bytes.as_slice()]));
-            }
-            put(&mut bytes, at, old);
-        }
+        try_texts_at(answer.alloc(), &mut tally, &mut bytes, at);
     }
-    told(alloc, &tally)
+    add_tally(answer, &tally)
 }
 
-fn told(alloc: Global, tally: &Tally) -> Result<String, Memory> {
-    let mut text = String::new(alloc);
-    for (number, what) in [
-        (tally.lawful, " lawful, with "),
-        (tally.segments, " segments and "),
-        (tally.items, " items\n"),
-        (tally.characters, " BadCharacter, "),
-        (tally.numbers, " BadNumber, "),
-        (tally.labels, " MissingLabel, the sum of their places "),
-        (tally.places, "\n"),
-        (tally.unended, " Unended"),
-    ] {
-        write!(text, "{number}{what}")?;
-    }
-    Ok(text)
+fn add_tally(answer: &mut Answer, tally: &Tally) -> Result<(), Memory> {
+    answer.all(&[
+        Part::Number(tally.lawful),
+        Part::Text(" lawful, with "),
+        Part::Number(tally.segments),
+        Part::Text(" segments and "),
+        Part::Number(tally.items),
+        Part::Text(" items\n"),
+        Part::Number(tally.characters),
+        Part::Text(" BadCharacter, "),
+        Part::Number(tally.numbers),
+        Part::Text(" BadNumber, "),
+        Part::Number(tally.labels),
+        Part::Text(" MissingLabel, the sum of their places "),
+        Part::Number(tally.places),
+        Part::Text("\n"),
+        Part::Number(tally.unended),
+        Part::Text(" Unended"),
+    ])
 }
 
 /// The number of entries and the sum of their words.
@@ -128,17 +132,24 @@ struct Sum {
     words: u64,
 }
 
-/// What a certificate that is accepted comes to.
-fn verdict(alloc: Global, bytes: &[u8]) -> Option<Sum> {
-    let verdict = check(alloc, bytes).ok()?;
+/// What these entries come to.
+fn sum_of(entries: &[Judged]) -> Sum {
     let mut words: u64 = 0;
-    for entry in &verdict.entries {
+    for entry in entries {
         words = words.wrapping_add(entry.words);
     }
-    Some(Sum {
-        entries: verdict.entries.len(),
+    Sum {
+        entries: entries.len(),
         words,
-    })
+    }
+}
+
+/// What a certificate that is accepted comes to.
+fn verdict(alloc: Global, bytes: &[u8]) -> Option<Sum> {
+    match check(alloc, bytes) {
+        Ok(verdict) => Some(sum_of(verdict.entries.as_slice())),
+        Err(_) => None,
+    }
 }
 
 /// Whether a certificate is accepted and comes to this.
@@ -149,23 +160,35 @@ fn has_verdict(alloc: Global, bytes: &[u8], wanted: Sum) -> bool {
     }
 }
 
-/// How many of the certificates that differ from this one in a byte are accepted with as many entries and words.
-pub fn certificates(alloc: Global, input: &str) -> Result<String, Memory> {
-    let mut bytes = expanded(alloc, input)?;
-    let Some(wanted) = verdict(alloc, bytes.as_slice()) else {
-        return said(alloc, "refused");
-    };
+/// How many of the certificates that differ from this one in the byte at a place are accepted with as many entries and words.
+fn count_accepted_at(alloc: Global, bytes: &mut Vec<u8>, at: usize, wanted: Sum) -> u64 {
+    let mut accepted: u64 = 0;
+    for byte in 0..=u8::MAX {
+        let old = put(bytes, at, byte);
+        if byte != old && has_verdict(alloc, bytes.as_slice(), wanted) {
+            count(&mut accepted);
+        }
+        put(bytes, at, old);
+    }
+    accepted
+}
+
+/// Adds how many of the certificates that differ from this one in a byte are accepted with as many entries and words.
+fn add_accepted(answer: &mut Answer, bytes: &mut Vec<u8>, wanted: Sum) -> Result<(), Memory> {
     let mut accepted: u64 = 0;
     for at in 0..bytes.len() {
-        for byte in 0..=u8::MAX {
-            let old = put(&mut bytes, at, byte);
-            if byte != old && has_verdict(alloc, bytes.as_slice(), wanted) {
-                accepted = accepted.wrapping_add(1);
-            }
-            put(&mut bytes, at, old);
-        }
+        accepted = accepted.wrapping_add(count_accepted_at(answer.alloc(), bytes, at, wanted));
     }
-    Ok(format!(in alloc; "{accepted} accepted")?)
+    answer.all(&[Part::Number(accepted), Part::Text(" accepted")])
+}
+
+/// The same, for the certificate that an input is.
+pub fn add_certificates(answer: &mut Answer, input: &str) -> Result<(), Memory> {
+    let mut bytes = expanded(answer.alloc(), input)?;
+    match verdict(answer.alloc(), bytes.as_slice()) {
+        Some(wanted) => add_accepted(answer, &mut bytes, wanted),
+        None => answer.say("refused"),
+    }
 }
 
 /// Whether the library with these bytes as BLIB has tokens.
@@ -183,31 +206,38 @@ fn has_tokens(alloc: Global, text: &[u8]) -> bool {
     lex(alloc, &sources, 0).is_ok()
 }
 
-/// How many of the texts have tokens that differ from BLIB in one byte from a place to another.
-fn accepted_changes(alloc: Global, from: usize, to: usize) -> Result<u64, Memory> {
+/// How many of the texts have tokens that are BLIB with any byte at a place.
+fn count_texts_at(alloc: Global, bytes: &mut Vec<u8>, at: usize) -> u64 {
+    let mut accepted: u64 = 0;
+    for byte in 0..=u8::MAX {
+        let old = put(bytes, at, byte);
+        if has_tokens(alloc, bytes.as_slice()) {
+            count(&mut accepted);
+        }
+        put(bytes, at, old);
+    }
+    accepted
+}
+
+/// How many of the texts have tokens that are BLIB with any byte at a place from one to another.
+fn count_texts(alloc: Global, from: usize, to: usize) -> Result<u64, Memory> {
     let mut bytes = Vec::from_slice(alloc, BLIB.as_bytes())?;
     let mut accepted: u64 = 0;
     for at in from..to {
-        for byte in 0..=u8::MAX {
-            let old = put(&mut bytes, at, byte);
-            if has_tokens(alloc, bytes.as_slice()) {
-                accepted = accepted.wrapping_add(1);
-            }
-            put(&mut bytes, at, old);
-        }
+        accepted = accepted.wrapping_add(count_texts_at(alloc, &mut bytes, at));
     }
     Ok(accepted)
 }
 
-/// Whether over 10,000 of the texts have tokens that differ from BLIB in one byte from a place to another.
-pub fn sources(alloc: Global, input: &str) -> Result<String, Memory> {
+/// Adds whether over 10,000 of the texts have tokens that are BLIB with any byte at a place from one to another.
+pub fn add_sources(answer: &mut Answer, input: &str) -> Result<(), Memory> {
     let mut places = input.split_whitespace();
     let from = usize::from(short(next(&mut places)));
     let to = usize::from(short(next(&mut places)));
-    let accepted = accepted_changes(alloc, from, to)?;
+    let accepted = count_texts(answer.alloc(), from, to)?;
     if accepted > 10_000 {
-        said(alloc, "over 10000 have tokens")
+        answer.say("over 10000 have tokens")
     } else {
-        Ok(format!(in alloc; "{accepted} have tokens")?)
+        answer.all(&[Part::Number(accepted), Part::Text(" have tokens")])
     }
 }

@@ -1,11 +1,13 @@
-use crate::said::said;
+use crate::answer::{Answer, Part};
+use crate::growth::pushed;
+use crate::number::count;
 use crate::sources::sources_of;
-use crate::trees::{closed, read_back, resolved, spelled};
+use crate::trees::{OfTree, add_closed, add_of_tree};
 use bc_lex::{LexError, Source, lex};
 use bc_lex_tokens::{Token, TokenKind};
 use bc_library::{BLIB, LIBHDR};
 use bc_parse_spell::render;
-use bc_show::{ShownBytes, ShownKind, ShownToken};
+use bc_show::{ShownKind, ShownToken};
 use bc_word::Memory;
 use std::alloc::Global;
 
@@ -22,12 +24,8 @@ pub enum Reading {
     Rendered,
     /// Their indexes once tags are closed and line breaks stand for semicolons.
     Closed,
-    /// The canonical spelling of the section, where it is read back from itself.
-    Spelling,
-    /// Whether the section is read back from its canonical spelling, and whether that is longer than BLIB.
-    Back,
-    /// The section with its names resolved.
-    Resolved,
+    /// What is answered of the section that they are.
+    Tree(OfTree),
 }
 
 /// The tokens of the source with this index.
@@ -43,101 +41,141 @@ fn tokens_of<'s>(
     }
 }
 
-/// A fault of a source.
-fn fault(alloc: Global, fault: LexError) -> Result<String, Memory> {
-    Ok(format!(in alloc; "{fault:?}")?)
-}
-
-fn told(alloc: Global, reading: Reading, tokens: &[Token<'_>]) -> Result<String, Memory> {
+fn add_told(answer: &mut Answer, reading: Reading, tokens: &[Token<'_>]) -> Result<(), Memory> {
     match reading {
-        Reading::All => lines(alloc, tokens),
-        Reading::Kinds => in_a_row(alloc, tokens),
-        Reading::Counts => counted(alloc, tokens),
-        Reading::Rendered => rendered_back(alloc, tokens),
-        Reading::Closed => closed(alloc, tokens),
-        Reading::Spelling => spelled(alloc, tokens),
-        Reading::Back => read_back(alloc, tokens),
-        Reading::Resolved => resolved(alloc, tokens),
+        Reading::All => add_lines(answer, tokens),
+        Reading::Kinds => add_kinds(answer, tokens),
+        Reading::Counts => add_counts(answer, tokens),
+        Reading::Rendered => add_rendered(answer, tokens),
+        Reading::Closed => add_closed(answer, tokens),
+        Reading::Tree(what) => add_of_tree(answer, what, tokens),
     }
 }
 
-/// What is answered of the tokens of the sources of a case, or their fault.
-pub fn read(alloc: Global, reading: Reading, input: &str) -> Result<String, Memory> {
-    let given = sources_of(alloc, input)?;
-    let sources = given.all(alloc)?;
-    match tokens_of(alloc, sources.as_slice(), given.main) {
-        Ok(tokens) => told(alloc, reading, tokens.as_slice()),
-        Err(error) => fault(alloc, error),
+/// Adds what is answered of the tokens of a source, or their fault.
+fn add_of_source(
+    answer: &mut Answer,
+    reading: Reading,
+    sources: &[Source<'_>],
+    main: usize,
+) -> Result<(), Memory> {
+    match tokens_of(answer.alloc(), sources, main) {
+        Ok(tokens) => add_told(answer, reading, tokens.as_slice()),
+        Err(fault) => answer.name(&fault),
     }
 }
 
-fn lines(alloc: Global, tokens: &[Token<'_>]) -> Result<String, Memory> {
-    let mut text = String::new(alloc);
-    let mut between = "";
+/// Adds what is answered of the tokens of the sources of a case, or their fault.
+pub fn add_read(answer: &mut Answer, reading: Reading, input: &str) -> Result<(), Memory> {
+    let given = sources_of(answer.alloc(), input)?;
+    let sources = given.all(answer.alloc())?;
+    add_of_source(answer, reading, sources.as_slice(), given.main)
+}
+
+fn add_line(answer: &mut Answer, token: &Token<'_>) -> Result<(), Memory> {
+    let token = ShownToken(token);
+    answer.go_on("\n")?;
+    answer.show(&token)
+}
+
+fn add_lines(answer: &mut Answer, tokens: &[Token<'_>]) -> Result<(), Memory> {
     for token in tokens {
-        let token = ShownToken(token);
-        write!(text, "{between}{token}")?;
-        between = "\n";
+        add_line(answer, token)?;
     }
-    Ok(text)
+    Ok(())
 }
 
-fn in_a_row(alloc: Global, tokens: &[Token<'_>]) -> Result<String, Memory> {
-    let mut text = String::new(alloc);
-    let mut between = "";
-    for token in tokens {
-        let kind = ShownKind(&token.kind);
-        write!(text, "{between}{kind}")?;
-        between = " ";
-    }
-    Ok(text)
+fn add_kind(answer: &mut Answer, kind: &TokenKind<'_>) -> Result<(), Memory> {
+    let kind = ShownKind(kind);
+    answer.go_on(" ")?;
+    answer.show(&kind)
 }
 
-fn counted(alloc: Global, tokens: &[Token<'_>]) -> Result<String, Memory> {
-    let mut names: u64 = 0;
-    let mut numbers: u64 = 0;
-    let mut characters: u64 = 0;
-    let mut strings: u64 = 0;
+fn add_kinds(answer: &mut Answer, tokens: &[Token<'_>]) -> Result<(), Memory> {
     for token in tokens {
-        match token.kind {
+        add_kind(answer, &token.kind)?;
+    }
+    Ok(())
+}
+
+/// How many tokens there are of each kind.
+#[derive(Drop)]
+struct Counts {
+    names: u64,
+    numbers: u64,
+    characters: u64,
+    strings: u64,
+}
+
+impl Counts {
+    /// A token more.
+    fn add(&mut self, kind: &TokenKind<'_>) {
+        match kind {
             TokenKind::Symbol(_) => {}
-            TokenKind::Name(_) => names = names.saturating_add(1),
-            TokenKind::Number(_) => numbers = numbers.saturating_add(1),
-            TokenKind::Character(_) => characters = characters.saturating_add(1),
-            TokenKind::String(_) => strings = strings.saturating_add(1),
+            TokenKind::Name(_) => count(&mut self.names),
+            TokenKind::Number(_) => count(&mut self.numbers),
+            TokenKind::Character(_) => count(&mut self.characters),
+            TokenKind::String(_) => count(&mut self.strings),
         }
     }
-    let count = tokens.len();
-    Ok(format!(in alloc;
-        "{count} tokens: {names} names, {numbers} numbers, {characters} characters, {strings} strings"
-    )?)
 }
 
-/// How many bytes the library has.
-pub fn library(alloc: Global) -> Result<String, Memory> {
-    let declarations = LIBHDR.len();
-    let routines = BLIB.len();
-    Ok(format!(in alloc; "LIBHDR {declarations} bytes, BLIB {routines} bytes")?)
-}
-
-/// Whether the first tokens of two sources are of one kind.
-pub fn alike(alloc: Global, input: &str) -> Result<String, Memory> {
-    let given = sources_of(alloc, input)?;
-    let sources = given.all(alloc)?;
-    let Ok(first) = tokens_of(alloc, sources.as_slice(), 0) else {
-        return said(alloc, "no tokens");
+fn add_counts(answer: &mut Answer, tokens: &[Token<'_>]) -> Result<(), Memory> {
+    let mut counts = Counts {
+        names: 0,
+        numbers: 0,
+        characters: 0,
+        strings: 0,
     };
-    let Ok(second) = tokens_of(alloc, sources.as_slice(), 1) else {
-        return said(alloc, "no tokens");
-    };
-    let answer = compared(first.first(), second.first());
-    said(alloc, answer)
+    for token in tokens {
+        counts.add(&token.kind);
+    }
+    add_all_counts(answer, &counts, tokens.len())
 }
 
-fn compared(first: Option<&Token<'_>>, second: Option<&Token<'_>>) -> &'static str {
+fn add_all_counts(answer: &mut Answer, counts: &Counts, all: usize) -> Result<(), Memory> {
+    answer.all(&[
+        Part::Number(all as u64),
+        Part::Text(" tokens: "),
+        Part::Number(counts.names),
+        Part::Text(" names, "),
+        Part::Number(counts.numbers),
+        Part::Text(" numbers, "),
+        Part::Number(counts.characters),
+        Part::Text(" characters, "),
+        Part::Number(counts.strings),
+        Part::Text(" strings"),
+    ])
+}
+
+/// Adds how many bytes the library has.
+pub fn add_library(answer: &mut Answer) -> Result<(), Memory> {
+    answer.all(&[
+        Part::Text("LIBHDR "),
+        Part::Number(LIBHDR.len() as u64),
+        Part::Text(" bytes, BLIB "),
+        Part::Number(BLIB.len() as u64),
+        Part::Text(" bytes"),
+    ])
+}
+
+/// The kind of the first of these tokens.
+fn first_of<'s>(tokens: &[Token<'s>]) -> Option<TokenKind<'s>> {
+    Some(tokens.first()?.kind)
+}
+
+/// The kind of the first token of the source with this index.
+fn first_kind<'s>(alloc: Global, sources: &[Source<'s>], main: usize) -> Option<TokenKind<'s>> {
+    match tokens_of(alloc, sources, main) {
+        Ok(tokens) => first_of(tokens.as_slice()),
+        Err(_) => None,
+    }
+}
+
+fn compared(first: Option<TokenKind<'_>>, second: Option<TokenKind<'_>>) -> &'static str {
     match (first, second) {
         (Some(first), Some(second)) => {
-            if first.kind == second.kind {
+            if first == second {
                 "alike"
             } else {
                 "different"
@@ -147,31 +185,24 @@ fn compared(first: Option<&Token<'_>>, second: Option<&Token<'_>>) -> &'static s
     }
 }
 
-fn rendered_back(alloc: Global, tokens: &[Token<'_>]) -> Result<String, Memory> {
-    let kinds = kinds_of(alloc, tokens)?;
-    let text = render(alloc, kinds.as_slice())?;
-    let source = Source {
-        name: b"A",
-        text: text.as_slice(),
-    };
-    match lex(alloc, &[source], 0) {
-        Ok(again) if has_kinds(again.as_slice(), kinds.as_slice()) => {
-            let text = ShownBytes(text.as_slice());
-            Ok(format!(in alloc; "{text}")?)
-        }
-        Ok(_) => said(alloc, "other tokens"),
-        Err(error) => fault(alloc, error),
-    }
+/// Adds whether the first tokens of two sources are of one kind.
+pub fn add_alike(answer: &mut Answer, input: &str) -> Result<(), Memory> {
+    let given = sources_of(answer.alloc(), input)?;
+    let sources = given.all(answer.alloc())?;
+    let first = first_kind(answer.alloc(), sources.as_slice(), 0);
+    let second = first_kind(answer.alloc(), sources.as_slice(), 1);
+    answer.say(compared(first, second))
 }
 
 fn kinds_of<'s>(alloc: Global, tokens: &[Token<'s>]) -> Result<Vec<TokenKind<'s>>, Memory> {
     let mut kinds = Vec::new(alloc);
     for token in tokens {
-        kinds.push(token.kind)?;
+        pushed(&mut kinds, token.kind)?;
     }
     Ok(kinds)
 }
 
+/// Whether tokens are of these kinds, with no line break.
 fn has_kinds(tokens: &[Token<'_>], kinds: &[TokenKind<'_>]) -> bool {
     if tokens.len() != kinds.len() {
         return false;
@@ -182,4 +213,33 @@ fn has_kinds(tokens: &[Token<'_>], kinds: &[TokenKind<'_>]) -> bool {
         }
     }
     true
+}
+
+/// Adds a text, where it has these tokens.
+fn add_same(
+    answer: &mut Answer,
+    text: &[u8],
+    tokens: &[Token<'_>],
+    kinds: &[TokenKind<'_>],
+) -> Result<(), Memory> {
+    if has_kinds(tokens, kinds) {
+        answer.bytes(text)
+    } else {
+        answer.say("other tokens")
+    }
+}
+
+/// Adds a text, where it is read as tokens of these kinds.
+fn add_read_again(answer: &mut Answer, text: &[u8], kinds: &[TokenKind<'_>]) -> Result<(), Memory> {
+    let source = Source { name: b"A", text };
+    match lex(answer.alloc(), &[source], 0) {
+        Ok(tokens) => add_same(answer, text, tokens.as_slice(), kinds),
+        Err(fault) => answer.name(&fault),
+    }
+}
+
+fn add_rendered(answer: &mut Answer, tokens: &[Token<'_>]) -> Result<(), Memory> {
+    let kinds = kinds_of(answer.alloc(), tokens)?;
+    let text = render(answer.alloc(), kinds.as_slice())?;
+    add_read_again(answer, text.as_slice(), kinds.as_slice())
 }
