@@ -23,6 +23,7 @@ use Rattle.bc_build.specs.Runs.{addresses, meant, started, RunsAsMeant}
 use Rattle.bc_interpret.specs.declared.run.Outcome.{Outcome}
 use Rattle.bc_interpret.specs.declared.run.Outcome.TheVariants as outs
 use Rattle.bc_interpret.specs.Results.{IsResult}
+use Rattle.bc_interpret.specs.Interpreted.{NamesFrom}
 use Rattle.bc_interpret.proofs.Meanings.{result_from}
 use Rattle.bc_interpret_sources.specs.Programs.{IsImageOf, RunsTo}
 use Rattle.bc_interpret_sources.specs.Resolving.{IsResolved, AreResolved}
@@ -70,6 +71,11 @@ pub means : SectionsKeepTheirMeaning → (sections : List Declarations) (cores :
 means law sections cores image before after turns o e h =
     result_from (meant sections image before turns) (meaning cores (addresses image) before turns) o after
     (law sections (addresses image) before turns ∙ ap (λ cs. meaning cs (addresses image) before turns) e) h
+
+-- the wild access that is met over the translations is met over what the sections are translated to
+pub names : (cores translated : List Core) (image : Image) (before : Content) (turns : ℕ) (o : Outcome) → translated ≡ cores
+    → NamesFrom cores (addresses image) before turns o → NamesFrom translated (addresses image) before turns o
+names cores translated image before turns o e h = subst (λ cs. NamesFrom cs (addresses image) before turns o) (sym e) h
 
 -- and the image comes to the same
 pub runs_to : (sections : List Declarations) (image : Image) (before after : Content) (turns : ℕ) (o : Outcome) → RunsAsMeant sections image → HoldBytes before.inputs

@@ -1,5 +1,5 @@
 -- What a program that was built means, and what its image does.
-use Rattle.std.specs.Prelude.{ℕ, ◌≤◌, List}
+use Rattle.std.specs.Prelude.{ℕ, ◌≤◌, List, map}
 use Rattle.bc_machine_defs.specs.Streams.{Content}
 use Rattle.bc_machine_defs.specs.StreamCalls.{output_of}
 use Rattle.bc_machine_defs.specs.declared.state.End.TheVariants as ends
@@ -8,11 +8,13 @@ use Rattle.bc_lex.specs.Files.{File, files_of}
 use Rattle.bc_parse_tree.specs.Tree.{Declarations}
 use Rattle.bc_core.specs.Same.{IsAt, end_of}
 use Rattle.bc_build.specs.Compiled.{AreAccepted}
-use Rattle.bc_build.specs.Runs.{meant, started, RunsAsMeant}
+use Rattle.bc_scope_defs.specs.Translation.{core_of}
+use Rattle.bc_build.specs.Runs.{addresses, meant, started, RunsAsMeant}
 use Rattle.bc_interpret_steps.specs.Endings.{ending}
 use Rattle.bc_interpret.specs.declared.run.Outcome.{Outcome}
 use Rattle.bc_interpret.specs.declared.run.Outcome.TheVariants as outcomes
 use Rattle.bc_interpret.specs.Results.{IsResult}
+use Rattle.bc_interpret.specs.Interpreted.{NamesFrom}
 use Rattle.bc_interpret_sources.specs.declared.sources.Program.{Program}
 
 -- the mains are sections, and the image does what they mean: so it is with the image that `build` gives
@@ -35,6 +37,13 @@ abbrev pub MeansOn : {T : Type 0} → (T → Type 0) → (T → Content) → Pro
 MeansOn known content program turns streams streams_new outcome =
     (sections : List Declarations) → AreAccepted (files_of program.sources.now) program.mains.now sections → known streams
     → IsResult (meant sections program.image.now (content streams) turns) outcome (content streams_new)
+
+-- Where the run met a wild access: the machine of bc_interpret_defs comes from the start of the sections' run, with the names resolved, to
+-- a step that is wild, and meets the access that is named.
+abbrev pub NamesOn : {T : Type 0} → (T → Type 0) → (T → Content) → Program → (turns : ℕ) → T → Outcome → Type 0
+NamesOn known content program turns streams outcome =
+    (sections : List Declarations) → AreAccepted (files_of program.sources.now) program.mains.now sections → known streams
+    → NamesFrom (map core_of sections) (addresses program.image.now) (content streams) turns outcome
 
 -- and the machine comes from the image to the same
 abbrev pub RunsOn : {T : Type 0} → (T → Type 0) → (T → Content) → Program → (turns : ℕ) → T → T → Outcome → Type 0

@@ -7,7 +7,7 @@ ghost use Rattle.bc_build.specs.Built.{IsBuilt};
 ghost use Rattle.bc_build.specs.Compiled.{AreAccepted};
 ghost use Rattle.bc_build.specs.Runs.{RunsAsMeant};
 ghost use Rattle.bc_interpret.specs.declared.run.Outcome.TheVariants as outcomes;
-ghost use Rattle.bc_interpret_sources.specs.Programs.{IsImageOf, MeansOn, RunsOn};
+ghost use Rattle.bc_interpret_sources.specs.Programs.{IsImageOf, MeansOn, NamesOn, RunsOn};
 ghost use Rattle.bc_interpret_sources.specs.Resolving.{AreTranslated, IsResolved};
 
 use bc_build::{Built, Image, Source};
@@ -96,6 +96,9 @@ pub fn interpret<S: Streams>(
 
     // Where the content of the streams is known: the run came to what the sections mean, with the same output, or a device failed.
     ensures means { IfOk result (λ i. MeansOn S.known S.content program.now turns streams.old streams.new i.outcome) }
+
+    // Where the run met a wild access, it is the one that is named, and the cells or the program stand so at the step that met it.
+    ensures names { IfOk result (λ i. NamesOn S.known S.content program.now turns streams.old i.outcome) }
 
     // The image's run comes to the same ending with the same output, or is as far; nothing is said of a wild run.
     ensures runs { IfOk result (λ i. RunsOn S.known S.content program.now turns streams.old streams.new i.outcome) }

@@ -1,12 +1,18 @@
 use Rattle.std.proofs.Common.{◌≡◌, map, sym, ap, ◌∙◌}
 use Rattle.bc_core.specs.View.{section}
-use Rattle.bc_interpret_sources.proofs.Resolved.{means, runs_to}
+use Rattle.bc_scope_defs.specs.Translation.{core_of}
+use Rattle.bc_interpret_sources.proofs.Resolved.{means, names, runs_to}
 use Rattle.bc_interpret_sources.proofs.sources.interpret.Goals as goal
 
 pub returns-clause-means : goal.returns-clause-means
 returns-clause-means g c = λ sections accepted known.
     means c.sections_keep_their_meaning.ensures sections (map section c.as_slice.result.now) c.args.program.now.image.now (g.S.Streams.content c.args.streams.now) (g.S.Streams.content c.interpret.new.streams) c.args.turns c.in_ok-interpreted.interpreted.outcome
     (c.in_ok-cores.ensures sections accepted ∙ ap (map section) (sym c.as_slice.ensures.value)) (c.in_ok-interpreted.ensures.means known)
+
+pub returns-clause-names : goal.returns-clause-names
+returns-clause-names g c = λ sections accepted known.
+    names (map section c.as_slice.result.now) (map core_of sections) c.args.program.now.image.now (g.S.Streams.content c.args.streams.now) c.args.turns c.in_ok-interpreted.interpreted.outcome
+    (c.in_ok-cores.ensures sections accepted ∙ ap (map section) (sym c.as_slice.ensures.value)) (c.in_ok-interpreted.ensures.names known)
 
 pub returns-clause-runs : goal.returns-clause-runs
 returns-clause-runs g c = λ known.
