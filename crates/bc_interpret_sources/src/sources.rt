@@ -97,7 +97,7 @@ pub fn interpret<S: Streams>(
     // Where the content of the streams is known: the run came to what the sections mean, with the same output, or a device failed.
     ensures means { IfOk result (λ i. MeansOn S.known S.content program.now turns streams.old streams.new i.outcome) }
 
-    // Where the run met a wild access, it is the one that is named, and the cells or the program stand so at the step that met it.
+    // Where the run is wild, its step that is wild meets the access that is named: the cells or the program stand so there.
     ensures names { IfOk result (λ i. NamesOn S.known S.content program.now turns streams.old i.outcome) }
 
     // The image's run comes to the same ending with the same output, or is as far; nothing is said of a wild run.
