@@ -15,7 +15,7 @@ import tempfile
 from concurrent.futures import ThreadPoolExecutor
 
 HERE = os.path.dirname(os.path.abspath(__file__))
-EXAMPLES = os.path.join(HERE, "../../examples")
+EXAMPLES = os.path.join(HERE, "../../examples/intcode")
 OPERATIONS = [*range(1, 30), 33, 34]
 
 
