@@ -146,6 +146,7 @@ fn reported<F: Access>(
             let files = Files {
                 sources: sources.as_slice(),
                 paths: paths.as_slice(),
+                library,
             };
             let behind = library.saturating_add(given.gets.len());
             report_on(alloc, files, mains.as_slice(), &built, behind)

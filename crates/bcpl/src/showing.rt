@@ -234,7 +234,11 @@ fn listed(
     asked: Asked,
 ) -> Result<Vec<u8>, Failure> {
     let shown = Shown {
-        files: Files { sources, paths },
+        files: Files {
+            sources,
+            paths,
+            library: asked.library,
+        },
         main: sources.len().saturating_sub(1),
         library: asked.library,
         gets: asked.gets,

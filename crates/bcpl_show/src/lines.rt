@@ -9,6 +9,8 @@ pub struct Files<'a, 's> {
     pub sources: &'a [Source<'s>],
     /// The path of each source, in their order.
     pub paths: &'a [&'a str],
+    /// How many of the first sources are those of the library.
+    pub library: usize,
 }
 
 impl<'a, 's> Files<'a, 's> {
@@ -18,6 +20,11 @@ impl<'a, 's> Files<'a, 's> {
             Some(source) => source.text,
             None => b"",
         }
+    }
+
+    /// Whether a source is the library's.
+    pub fn is_of_library(&self, file: usize) -> bool {
+        file < self.library
     }
 
     /// The path of a source.

@@ -17,6 +17,10 @@ struct Layout<'p, 's> {
     met: usize,
     /// The file of the declaration at work.
     file: usize,
+    /// Whether that is a file of the library, for which a GET stands.
+    is_got: bool,
+    /// The file that was told last; at first the source's own.
+    told: usize,
     /// For each section bracket that is open whether it is that of a list of globals.
     opened: Vec<bool>,
     /// Whether the next token begins a line.
@@ -140,19 +144,36 @@ fn glued(kinds: &[TokenKind<'_>], place: usize) -> usize {
 }
 
 impl Layout<'_, '_> {
-    /// Tells the file of a declaration, where it is another than that of the one before.
+    /// Tells the file of a declaration, where it is another than that of the one before: by a GET, which stands for all that the
+    /// library's file has, or by a comment, where it isn't the one that was told last.
     fn tell_file(&mut self) -> Result<(), Memory> {
         let file = match self.leaves.get(self.met) {
             Some(leaf) => leaf.file,
             None => self.file,
         };
-        if file != self.file {
-            self.file = file;
-            let path = self.files.path(file);
-            self.page
-                .add_line(&[Field::Text("// "), Field::Text(path)])?;
+        if file == self.file {
+            return Ok(());
         }
-        Ok(())
+        if self.is_got {
+            self.page.end_line()?;
+        }
+        self.file = file;
+        self.is_got = self.files.is_of_library(file);
+        let path = self.files.path(file);
+        self.tell_path(path)
+    }
+
+    /// Tells the path of the file at work.
+    fn tell_path(&mut self, path: &str) -> Result<(), Memory> {
+        if self.is_got {
+            let fields = [Field::Text("GET \""), Field::Text(path), Field::Text("\"")];
+            return self.page.add_line(&fields);
+        }
+        if self.file == self.told {
+            return Ok(());
+        }
+        self.told = self.file;
+        self.page.add_line(&[Field::Text("// "), Field::Text(path)])
     }
 
     fn depth(&self) -> usize {
@@ -185,6 +206,9 @@ impl Layout<'_, '_> {
         if self.opened.is_empty() && is_declaration(at(kinds, place)) {
             self.tell_file()?;
         }
+        if self.is_got {
+            return Ok(());
+        }
         self.page.fill_to(depth.saturating_mul(2))
     }
 
@@ -197,6 +221,9 @@ impl Layout<'_, '_> {
     ) -> Result<(), Memory> {
         if place == 0 || self.breaks {
             return self.begin_line(kinds, place);
+        }
+        if self.is_got {
+            return Ok(());
         }
         let last = before(kinds, place, 1);
         if is_close_before(last, at(kinds, place)) || self.is_colon_of_label(kinds, place) {
@@ -250,7 +277,7 @@ impl Layout<'_, '_> {
 
     /// Behind a declaration outside of all brackets stands an empty line.
     fn end_declaration(&mut self) -> Result<(), Memory> {
-        if !self.opened.is_empty() {
+        if self.is_got || !self.opened.is_empty() {
             return Ok(());
         }
         self.page.end_line()?;
@@ -261,14 +288,17 @@ impl Layout<'_, '_> {
     fn add(&mut self, kinds: &[TokenKind<'_>], place: usize, text: &[u8]) -> Result<(), Memory> {
         self.close(kinds, place);
         self.part(kinds, place, width(text))?;
-        self.page.add(text)?;
+        if !self.is_got {
+            self.page.add(text)?;
+        }
         self.open(kinds, place)
     }
 }
 
 /// The tokens of the canonical spelling of the source `main`, laid out: a construct a line, what belongs to a bracket of a
 /// section two columns further in. A comment stands in front of declarations that stand in another file than those before
-/// them. Its tokens are these. Memory is answered where a growth was refused.
+/// them, and a GET in the place of those of a file of the library. Its tokens are these. Memory is answered where a growth
+/// was refused.
 pub fn tree_listing<'s>(
     alloc: Global,
     files: Files<'_, 's>,
@@ -283,6 +313,8 @@ pub fn tree_listing<'s>(
         leaves,
         met: 0,
         file: main,
+        is_got: false,
+        told: main,
         opened: Vec::new(alloc),
         breaks: false,
     };
@@ -293,7 +325,7 @@ pub fn tree_listing<'s>(
             layout.met = layout.met.saturating_add(1);
         }
     }
-    if !kinds.is_empty() {
+    if !kinds.is_empty() && !layout.is_got {
         layout.page.end_line()?;
     }
     let Layout { page, .. } = layout;
