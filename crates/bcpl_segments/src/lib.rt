@@ -7,6 +7,6 @@ mod items;
 mod sizes;
 
 pub use bc_library::library_name;
-pub use decoded::instruction;
+pub use decoded::{FUNCTIONS, instruction};
 pub use items::{addresses, is_long};
 pub use sizes::{SegmentSize, segment_words, too_large};
