@@ -1,135 +1,119 @@
+use crate::devices::{Source, memory};
 use bc_link::LinkError;
-use bc_machine::{MemoryStreams, Named, StreamsError};
+use bc_machine::MemoryStreams;
 use bc_machine_defs::End;
 use bc_run::{RunFault, primitives, run_text};
 use bc_text::TextError;
-use bc_word::{Memory, Word};
 use std::alloc::Global;
-use std::io;
-use std::io::Read;
-use std::test::Fail;
+use std::io::ErrorKind;
 
 /// Writes A.
 const HELLO: &[u8] = b"1 L65 SP4 LIG14 K2 X4 G1L1 Z";
 
-/// These bytes as a vector.
-fn owned(alloc: Global, bytes: &[u8]) -> Result<Vec<u8>, Memory> {
-    Ok(Vec::from_slice(alloc, bytes)?)
+/// Whether these bytes were written.
+fn has_written(streams: &MemoryStreams, bytes: &[u8]) -> bool {
+    let written = streams.written();
+    written.len() == bytes.len() && written.iter().zip(bytes).all(|(one, byte)| one.1 == *byte)
 }
 
-/// Streams with this input, and an output of 1,000 bytes.
-fn streams(alloc: Global, input: &[u8]) -> Result<MemoryStreams, StreamsError> {
-    let mut inputs = Vec::new(alloc);
-    let named = Named {
-        name: owned(alloc, b"SYSIN")?,
-        device: owned(alloc, input)?,
+/// What is wanted of a text that is read.
+#[derive(Clone, Copy)]
+struct Wanted {
+    answer: Result<End, RunFault>,
+    output: &'static [u8],
+}
+
+/// Whether running a text that is read a byte a call answers what is wanted, where the reader fails behind so many calls.
+fn is_answered(alloc: Global, bytes: &[u8], left: usize, wanted: &Wanted) -> Option<bool> {
+    let mut streams = memory(alloc, b"", 1000).ok()?;
+    let text = Source {
+        bytes,
+        left,
+        failure: ErrorKind::Interrupted,
     };
-    inputs.push(named).map_err(Memory::from)?;
-    let mut outputs = Vec::new(alloc);
-    outputs
-        .push(owned(alloc, b"SYSPRINT")?)
-        .map_err(Memory::from)?;
-    MemoryStreams::new(alloc, inputs, outputs, 1000)
+    let answer = run_text(alloc, text, &mut streams, 1000);
+    Some(answer == wanted.answer && has_written(&streams, wanted.output))
 }
 
-/// What running the text answers, and what it writes.
-fn ran<R: Read + Drop>(
-    alloc: Global,
-    text: R,
-    input: &[u8],
-    steps: u64,
-) -> Result<(Result<End, RunFault>, Vec<u8>), Fail> {
-    let mut streams = streams(alloc, input)?;
-    let answer = run_text(alloc, text, &mut streams, steps);
-    let mut output = Vec::new(alloc);
-    for (_, byte) in streams.written() {
-        output.push(*byte)?;
-    }
-    Ok((answer, output))
+/// The first call at which a reader of `HELLO` fails and the answer isn't Read, with nothing written.
+fn other_answer(alloc: Global) -> Option<usize> {
+    let wanted = Wanted {
+        answer: Err(RunFault::Read),
+        output: b"",
+    };
+    (0..=HELLO.len()).find(|left| is_answered(alloc, HELLO, *left, &wanted) != Some(true))
 }
 
-/// A reader that gives a byte a call, and fails where `left` calls are over.
-#[derive(Drop)]
-struct Failing<'a> {
-    bytes: &'a [u8],
-    left: usize,
-}
-
-impl Read for Failing<'_> {
-    fn read(&mut self, buf: &mut [u8]) -> io::Result<usize> {
-        if self.left == 0 {
-            return Err(io::Error::from(io::ErrorKind::Interrupted));
-        }
-        self.left -= 1;
-        match self.bytes {
-            [first, rest @ ..] if !buf.is_empty() => {
-                buf[0] = *first;
-                self.bytes = rest;
-                Ok(1)
-            }
-            _ => Ok(0),
-        }
-    }
-}
-
-/// A reader that fails at each call in turn answers Read, and one that gives a byte a call changes nothing. A refusal of the
-/// text stands in front of a failure behind it.
+/// A reader that fails at each call in turn answers Read.
 #[test]
-fn readers_fail(rt: HostRuntime) -> Result<(), Fail> {
-    for left in 0..=HELLO.len() {
-        let text = Failing { bytes: HELLO, left };
-        let (answer, output) = ran(rt.alloc(), text, b"", 1000)?;
-        assert_eq!(rt; answer, Err(RunFault::Read));
-        assert_eq!(rt; output.len(), 0);
-    }
-    let text = Failing {
-        bytes: HELLO,
-        left: 1000,
-    };
-    let (answer, output) = ran(rt.alloc(), text, b"", 1000)?;
-    assert_eq!(rt; answer, Ok(End::Finished));
-    assert_eq!(rt; output.as_slice(), b"A".as_slice());
-    let text = Failing {
-        bytes: b"Q",
-        left: 1,
-    };
-    let (answer, _) = ran(rt.alloc(), text, b"", 1000)?;
-    assert_eq!(rt; answer, Err(RunFault::Text(TextError::BadCharacter(0))));
-    Ok(())
+fn readers_fail(rt: HostRuntime) {
+    assert_eq!(rt; other_answer(rt.alloc()), None);
 }
 
-/// The calls that take memory: whether each gave its answer, or else only a fault for want of memory.
-fn grown(alloc: Global) -> (bool, bool) {
-    let mut given = primitives(alloc).is_ok();
-    let mut lawful = true;
-    let texts: [(&[u8], End); 2] = [(HELLO, End::Finished), (b"1 LL1 Z", End::BudgetSpent)];
-    for (text, end) in texts {
-        let Ok(mut streams) = streams(alloc, b"") else {
-            return (false, lawful);
-        };
-        let answer = run_text(alloc, text, &mut streams, 12);
-        let is_given = answer == Ok(end);
-        given = given && is_given;
-        lawful = lawful
-            && (is_given
-                || matches!(
-                    &answer,
-                    Err(RunFault::Memory)
-                        | Err(RunFault::Text(TextError::Memory))
-                        | Err(RunFault::Link(LinkError::Memory))
-                ));
+/// One that gives a byte a call changes nothing.
+#[test]
+fn slow_readers_change_nothing(rt: HostRuntime) {
+    let wanted = Wanted {
+        answer: Ok(End::Finished),
+        output: b"A",
+    };
+    assert_eq!(rt; is_answered(rt.alloc(), HELLO, 1000, &wanted), Some(true));
+}
+
+/// A refusal of the text stands in front of a failure behind it.
+#[test]
+fn refusals_come_before_failures(rt: HostRuntime) {
+    let wanted = Wanted {
+        answer: Err(RunFault::Text(TextError::BadCharacter(0))),
+        output: b"",
+    };
+    assert_eq!(rt; is_answered(rt.alloc(), b"Q", 1, &wanted), Some(true));
+}
+
+/// What the calls that take memory come to.
+#[derive(Clone, Copy, Debug, PartialEq)]
+enum Growth {
+    Given,
+    Refused,
+    Other,
+}
+
+/// Whether an answer is the end that is wanted, or want of memory.
+fn came_to(answer: Result<End, RunFault>, end: End) -> Growth {
+    match answer {
+        Ok(found) if found == end => Growth::Given,
+        Err(RunFault::Memory)
+        | Err(RunFault::Text(TextError::Memory))
+        | Err(RunFault::Link(LinkError::Memory)) => Growth::Refused,
+        _ => Growth::Other,
     }
-    (given, lawful)
+}
+
+/// What running a text comes to.
+fn grown_by(alloc: Global, text: &[u8], end: End) -> Growth {
+    match memory(alloc, b"", 1000) {
+        Ok(mut streams) => came_to(run_text(alloc, text, &mut streams, 12), end),
+        Err(_) => Growth::Refused,
+    }
+}
+
+/// What the calls that take memory come to: the first answer that isn't given.
+fn grown(alloc: Global) -> Growth {
+    if primitives(alloc).is_err() {
+        return Growth::Refused;
+    }
+    match grown_by(alloc, HELLO, End::Finished) {
+        Growth::Given => grown_by(alloc, b"1 LL1 Z", End::BudgetSpent),
+        other => other,
+    }
 }
 
 #[test]
 fn growth_is_given(rt: HostRuntime) {
-    let (given, _) = grown(rt.alloc());
-    assert!(rt; given);
+    assert_eq!(rt; grown(rt.alloc()), Growth::Given);
 }
 
 #[test]
 fn refused_growth_is_memory(rt: HostRuntime) {
-    let (_, lawful) = grown(rt.alloc());
-    assert!(rt; lawful);
+    assert!(rt; grown(rt.alloc()) != Growth::Other);
 }
