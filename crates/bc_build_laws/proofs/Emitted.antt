@@ -9,7 +9,7 @@ use Rattle.bc_core.specs.Commands.{Variable, Initial, Vector, Command, Block, bl
 use Rattle.bc_core.specs.Commands as commands
 use Rattle.bc_core.specs.Level.{cells_of, cells_of_all, cells_declared, level_in_for, level_behind_parameters}
 use Rattle.bc_core.specs.Command.{step_of_for}
-use Rattle.bc_gen_defs.specs.Emit.{Code, Roots, Exits, labelled, labels_in, cased, defaulted, entries_in, table_of, emit_variable, emit_variables, emit_declarations, end_of_for, emit, emit_block, emit_items, zero_item}
+use Rattle.bc_gen_defs.specs.Emit.{Code, Roots, Exits, labelled, labels_in, entries_in, table_of, emit_variable, emit_variables, emit_declarations, end_of_for, emit, emit_block, emit_items, zero_item}
 use Rattle.bc_gen_defs.specs.Bodies.{BodiesCode, Coding, fill, label_ahead, body_exits, emit_valof, emit_body, bodies_from, level_of}
 use Rattle.bc_gen_defs.specs.Section.{emit_routines}
 use Rattle.bc_gen_defs.specs.Entries.{Marked, Plain, marked_over, marked_code, section_entries, section_roots}
@@ -106,9 +106,9 @@ module _ {P : Root → Type 0} {L : Exp → Type 0} (suits : Suits P L) (roots :
         (plain _ _ (joined _ _ (sides_marks (step_of_for by s) (Frame s) (suits.step by s) (suits.frame s) s1 0 x.1) (plain _ _ (item _))))))))
     command_marks (commands.SwitchOn e is) h s E f =
         let v = roots (Value s e) 0 (f + 1 + entries_in is) in
-        let E1 = record E { cases = f; labels = labelled is v.1 E.labels; case_of = cased is (f + 1) (defaulted is (f + 1) f); default_of = defaulted is (f + 1) f } in
-        joined _ _ (value_marks e h.0 s 0 (f + 1 + entries_in is)) (plain _ _ (plain _ _ (plain _ _ (joined (table_of Plain is E1.case_of) _ (record { each = table_marks (λ m. P m.root) is E1.case_of })
-        (joined _ _ (items_marks is h.1 s E1 (v.1 + labels_in is)) (item _))))))
+        let E1 = record E { cases = f; labels = labelled is v.1 E.labels } in
+        joined _ _ (value_marks e h.0 s 0 (f + 1 + entries_in is)) (plain _ _ (plain _ _ (plain _ _ (joined (table_of Plain is (f + 1)) _ (record { each = table_marks (λ m. P m.root) is (f + 1) })
+        (joined _ _ (items_marks is h.1 s E1 (f + 1) (v.1 + labels_in is)) (item _))))))
     command_marks commands.Break h s E f = item _
     command_marks commands.Loop h s E f = item _
     command_marks commands.EndCase h s E f = item _
@@ -121,16 +121,16 @@ module _ {P : Root → Type 0} {L : Exp → Type 0} (suits : Suits P L) (roots :
     block_marks : (b : Block) → OfBlock L b → (s : ℕ) (E : Exits) (f : ℕ) → Marks P (emit_block Plain roots b s E f).0
     block_marks (block ds is) h s E f =
         let d = emit_declarations roots ds s (f + labels_in is) in
-        joined _ _ (declarations_marks ds h.0 s (f + labels_in is)) (items_marks is h.1 (s + cells_declared ds) (record E { labels = labelled is f E.labels }) d.1)
+        joined _ _ (declarations_marks ds h.0 s (f + labels_in is)) (items_marks is h.1 (s + cells_declared ds) (record E { labels = labelled is f E.labels }) 0 d.1)
 
-    items_marks : (is : Items) → OfItems L is → (s : ℕ) (E : Exits) (f : ℕ) → Marks P (emit_items Plain roots is s E f).0
-    items_marks no_item h s E f = nothing
-    items_marks (command c is) h s E f =
+    items_marks : (is : Items) → OfItems L is → (s : ℕ) (E : Exits) (first f : ℕ) → Marks P (emit_items Plain roots is s E first f).0
+    items_marks no_item h s E first f = nothing
+    items_marks (command c is) h s E first f =
         let x = emit Plain roots c s E f in
-        joined _ _ (command_marks c h.0 s E f) (items_marks is h.1 s E x.1)
-    items_marks (case v is) h s E f = plain _ _ (items_marks is h s E f)
-    items_marks (default is) h s E f = plain _ _ (items_marks is h s E f)
-    items_marks (label l is) h s E f = plain _ _ (items_marks is h s E f)
+        joined _ _ (command_marks c h.0 s E f) (items_marks is h.1 s E first x.1)
+    items_marks (case v is) h s E first f = plain _ _ (items_marks is h s E (first + 1) f)
+    items_marks (default is) h s E first f = plain _ _ (items_marks is h s E (first + 1) f)
+    items_marks (label l is) h s E first f = plain _ _ (items_marks is h s E first f)
 
   body_marks : (b : Body) → OfBody L b → (s f : ℕ) → Marks P (emit_body Plain roots b s f).0
   body_marks (Gives e) h s f = joined _ _ (value_marks e h s 0 f) (item _)

@@ -6,7 +6,7 @@ use Rattle.bc_core.specs.Commands as commands
 use Rattle.bc_core.specs.Level.{cells_of, cells_of_all, cells_declared, level_in_for}
 use Rattle.bc_core.specs.Layout.{Bodies, cells_of_exp, cells_of_initial, cells_of_initials, cells_of_declarations, cells_of_command, cells_of_block, cells_of_items, cells_of_body}
 use Rattle.bc_core.specs.Command.{step_of_for}
-use Rattle.bc_gen_defs.specs.Emit.{Roots, Exits, labelled, labels_in, cased, defaulted, entries_in, table_of, emit_variable, emit_variables, emit_declarations, end_of_for, emit, emit_block, emit_items}
+use Rattle.bc_gen_defs.specs.Emit.{Roots, Exits, labelled, labels_in, entries_in, table_of, emit_variable, emit_variables, emit_declarations, end_of_for, emit, emit_block, emit_items}
 use Rattle.bc_gen_defs.specs.Bodies.{body_exits, emit_body}
 use Rattle.bc_gen_defs.specs.Entries.{Mark, Marked, Plain}
 use Rattle.bc_build_laws.proofs.Marks.{AllMarks, marks_both, table_marks}
@@ -114,13 +114,13 @@ module _ (V : Bodies) (P : Mark → Type 0) (roots : Roots Marked) (r : (x : Roo
         (marks_both P u.0 _ (r (Assign s1 (step_of_for by s) (Frame s)) 0 x.1 ((h1, (up, up), up), h1)) tt))))
     command_framed (commands.SwitchOn e is) s E f h c =
         let v = roots (Value s e) 0 (f + 1 + entries_in is) in
-        let E1 = record E { cases = f; labels = labelled is v.1 E.labels; case_of = cased is (f + 1) (defaulted is (f + 1) f); default_of = defaulted is (f + 1) f } in
-        let x = emit_items Plain roots is s E1 (v.1 + labels_in is) in
+        let E1 = record E { cases = f; labels = labelled is v.1 E.labels } in
+        let x = emit_items Plain roots is s E1 (f + 1) (v.1 + labels_in is) in
         let ce = cells_of_exp V e s in
         let ci = cells_of_items V is s in
         marks_both P v.0 _ (root_framed e s 0 (f + 1 + entries_in is) h (left_most ce ci c))
-        (marks_both P (table_of Plain is E1.case_of) _ (table_marks P is E1.case_of)
-        (marks_both P x.0 _ (items_framed is s E1 (v.1 + labels_in is) h (right_most ce ci c)) tt))
+        (marks_both P (table_of Plain is (f + 1)) _ (table_marks P is (f + 1))
+        (marks_both P x.0 _ (items_framed is s E1 (f + 1) (v.1 + labels_in is) h (right_most ce ci c)) tt))
     command_framed commands.Break s E f h c = tt
     command_framed commands.Loop s E f h c = tt
     command_framed commands.EndCase s E f h c = tt
@@ -135,24 +135,24 @@ module _ (V : Bodies) (P : Mark → Type 0) (roots : Roots Marked) (r : (x : Roo
         let d = emit_declarations roots ds s (f + labels_in is) in
         let s1 = s + cells_declared ds in
         let E1 = record E { labels = labelled is f E.labels } in
-        let x = emit_items Plain roots is s1 E1 d.1 in
+        let x = emit_items Plain roots is s1 E1 0 d.1 in
         let cd = cells_of_declarations V ds s in
         let ci = cells_of_items V is s1 in
         let of_declarations = left_most cd ci c in
         marks_both P d.0 x.0 (declarations_framed ds s (f + labels_in is) h of_declarations)
-        (items_framed is s1 E1 d.1 (behind_most V ds s h of_declarations) (right_most cd ci c))
+        (items_framed is s1 E1 0 d.1 (behind_most V ds s h of_declarations) (right_most cd ci c))
 
-    items_framed : (is : Items) (s : ℕ) (E : Exits) (f : ℕ) → s ≤ most → cells_of_items V is s ≤ most → AllMarks P (emit_items Plain roots is s E f).0
-    items_framed no_item s E f h c = tt
-    items_framed (command d is) s E f h c =
+    items_framed : (is : Items) (s : ℕ) (E : Exits) (first f : ℕ) → s ≤ most → cells_of_items V is s ≤ most → AllMarks P (emit_items Plain roots is s E first f).0
+    items_framed no_item s E first f h c = tt
+    items_framed (command d is) s E first f h c =
         let x = emit Plain roots d s E f in
-        let y = emit_items Plain roots is s E x.1 in
+        let y = emit_items Plain roots is s E first x.1 in
         let cd = cells_of_command V d s in
         let ci = cells_of_items V is s in
-        marks_both P x.0 y.0 (command_framed d s E f h (left_most cd ci c)) (items_framed is s E x.1 h (right_most cd ci c))
-    items_framed (case v is) s E f h c = items_framed is s E f h c
-    items_framed (default is) s E f h c = items_framed is s E f h c
-    items_framed (label l is) s E f h c = items_framed is s E f h c
+        marks_both P x.0 y.0 (command_framed d s E f h (left_most cd ci c)) (items_framed is s E first x.1 h (right_most cd ci c))
+    items_framed (case v is) s E first f h c = items_framed is s E (first + 1) f h c
+    items_framed (default is) s E first f h c = items_framed is s E (first + 1) f h c
+    items_framed (label l is) s E first f h c = items_framed is s E first f h c
 
   pub body_framed : (b : Body) (s f : ℕ) → s ≤ most → cells_of_body V b s ≤ most → AllMarks P (emit_body Plain roots b s f).0
   body_framed (Gives e) s f h c = marks_both P (roots (Value s e) 0 f).0 _ (root_framed e s 0 f h c) tt

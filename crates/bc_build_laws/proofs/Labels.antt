@@ -7,7 +7,7 @@ use Rattle.bc_core.specs.Level.{cells_of, cells_of_all, cells_declared, level_in
 use Rattle.bc_core.specs.Command.{step_of_for}
 use Rattle.bc_rules_defs.specs.declared.piece.Piece.{Piece}
 use Rattle.bc_rules_defs.specs.declared.piece.Piece.TheVariants as pieces
-use Rattle.bc_gen_defs.specs.Emit.{Code, Roots, Exits, labelled, labels_in, cased, defaulted, entries_in, table_of, emit_variable, emit_variables, emit_declarations, end_of_for, emit, emit_block, emit_items}
+use Rattle.bc_gen_defs.specs.Emit.{Code, Roots, Exits, labelled, labels_in, entries_in, table_of, emit_variable, emit_variables, emit_declarations, end_of_for, emit, emit_block, emit_items}
 use Rattle.bc_gen_defs.specs.Bodies.{BodiesCode, Coding, fill, label_ahead, body_exits, emit_valof, bodies_from, emit_body, level_of}
 use Rattle.bc_gen_defs.specs.Section.{emit_routines}
 use Rattle.bc_gen_defs.specs.Entries.{Mark, Marked, Plain, marked_over, marked_code}
@@ -86,11 +86,11 @@ module _ (P : Mark → Type 0) (n : ℕ) (roots : Roots Marked) (up : Rising roo
     command_ends (commands.SwitchOn e is) s E f h =
         let g = f + 1 + entries_in is in
         let v = roots (Value s e) 0 g in
-        let E1 = record E { cases = f; labels = labelled is v.1 E.labels; case_of = cased is (f + 1) (defaulted is (f + 1) f); default_of = defaulted is (f + 1) f } in
-        let x = emit_items Plain roots is s E1 (v.1 + labels_in is) in
-        let hv = upto v.1 x.1 n (less v.1 (labels_in is) x.1 (items_up roots up is s E1 (v.1 + labels_in is))) h in
-        marks_both P v.0 _ (r (Value s e) 0 g hv) (marks_both P (table_of Plain is E1.case_of) _ (table_marks P is E1.case_of)
-        (marks_both P x.0 _ (items_end is s E1 (v.1 + labels_in is) h) tt))
+        let E1 = record E { cases = f; labels = labelled is v.1 E.labels } in
+        let x = emit_items Plain roots is s E1 (f + 1) (v.1 + labels_in is) in
+        let hv = upto v.1 x.1 n (less v.1 (labels_in is) x.1 (items_up roots up is s E1 (f + 1) (v.1 + labels_in is))) h in
+        marks_both P v.0 _ (r (Value s e) 0 g hv) (marks_both P (table_of Plain is (f + 1)) _ (table_marks P is (f + 1))
+        (marks_both P x.0 _ (items_end is s E1 (f + 1) (v.1 + labels_in is) h) tt))
     command_ends commands.Break s E f h = tt
     command_ends commands.Loop s E f h = tt
     command_ends commands.EndCase s E f h = tt
@@ -105,18 +105,18 @@ module _ (P : Mark → Type 0) (n : ℕ) (roots : Roots Marked) (up : Rising roo
         let d = emit_declarations roots ds s (f + labels_in is) in
         let E1 = record E { labels = labelled is f E.labels } in
         let s1 = s + cells_declared ds in
-        let x = emit_items Plain roots is s1 E1 d.1 in
-        marks_both P d.0 x.0 (declarations_end ds s (f + labels_in is) (upto d.1 x.1 n (items_up roots up is s1 E1 d.1) h)) (items_end is s1 E1 d.1 h)
+        let x = emit_items Plain roots is s1 E1 0 d.1 in
+        marks_both P d.0 x.0 (declarations_end ds s (f + labels_in is) (upto d.1 x.1 n (items_up roots up is s1 E1 0 d.1) h)) (items_end is s1 E1 0 d.1 h)
 
-    items_end : (is : Items) (s : ℕ) (E : Exits) (f : ℕ) → (emit_items Plain roots is s E f).1 ≤ n → AllMarks P (emit_items Plain roots is s E f).0
-    items_end no_item s E f h = tt
-    items_end (command c is) s E f h =
+    items_end : (is : Items) (s : ℕ) (E : Exits) (first f : ℕ) → (emit_items Plain roots is s E first f).1 ≤ n → AllMarks P (emit_items Plain roots is s E first f).0
+    items_end no_item s E first f h = tt
+    items_end (command c is) s E first f h =
         let x = emit Plain roots c s E f in
-        let y = emit_items Plain roots is s E x.1 in
-        marks_both P x.0 y.0 (command_ends c s E f (upto x.1 y.1 n (items_up roots up is s E x.1) h)) (items_end is s E x.1 h)
-    items_end (case v is) s E f h = items_end is s E f h
-    items_end (default is) s E f h = items_end is s E f h
-    items_end (label l is) s E f h = items_end is s E f h
+        let y = emit_items Plain roots is s E first x.1 in
+        marks_both P x.0 y.0 (command_ends c s E f (upto x.1 y.1 n (items_up roots up is s E first x.1) h)) (items_end is s E first x.1 h)
+    items_end (case v is) s E first f h = items_end is s E (first + 1) f h
+    items_end (default is) s E first f h = items_end is s E (first + 1) f h
+    items_end (label l is) s E first f h = items_end is s E first f h
 
   body_ends : (b : Body) (s f : ℕ) → (emit_body Plain roots b s f).1 ≤ n → AllMarks P (emit_body Plain roots b s f).0
   body_ends (Gives e) s f h = marks_both P (roots (Value s e) 0 f).0 _ (r (Value s e) 0 f h) tt

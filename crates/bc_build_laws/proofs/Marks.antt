@@ -18,12 +18,12 @@ marks_both P (Plain i ∷ xs) ys h k = marks_both P xs ys h k
 marks_both P (Begins m ∷ xs) ys h k = (h.0, marks_both P xs ys h.1 k)
 
 -- a table has none
-pub table_marks : (P : Mark → Type 0) (is : Items) (at : ℕ → ℕ) → AllMarks P (table_of Plain is at)
-table_marks P no_item at = tt
-table_marks P (command c is) at = table_marks P is at
-table_marks P (case v is) at = table_marks P is at
-table_marks P (default is) at = table_marks P is at
-table_marks P (label l is) at = table_marks P is at
+pub table_marks : (P : Mark → Type 0) (is : Items) (first : ℕ) → AllMarks P (table_of Plain is first)
+table_marks P no_item first = tt
+table_marks P (command c is) first = table_marks P is first
+table_marks P (case v is) first = table_marks P is (first + 1)
+table_marks P (default is) first = table_marks P is (first + 1)
+table_marks P (label l is) first = table_marks P is first
 
 pub entries_of_marks : (P : Mark → Type 0) (Q : Entry → Type 0) → ((k : ℕ) (m : Mark) → P m → Q (entry_at k m)) → (k : ℕ) (ps : List Marked) → AllMarks P ps → AllByRecursion Q (entries_from k ps)
 entries_of_marks P Q f k [] h = tt

@@ -17,10 +17,10 @@ use Rattle.bc_gen.specs.declared.gen_error.GenError.{GenError}
 use Rattle.bc_gen.specs.declared.writer.Writer.{Writer}
 use Rattle.bc_gen.specs.declared.parts.Part.{Part}
 use Rattle.bc_gen.specs.Parts.{part, parts}
-use Rattle.bc_gen.specs.Surroundings.{label_in, label_pairs, case_pairs, exits_of, roots_in}
+use Rattle.bc_gen.specs.Surroundings.{label_in, label_pairs, exits_of, roots_in}
 use Rattle.bc_gen.specs.Writing.{Writes, Puts}
 use Rattle.bc_gen.proofs.Rises.{out_of_memory}
-use Rattle.bc_gen.proofs.Labels.{labelled_is, cased_is}
+use Rattle.bc_gen.proofs.Labels.{labelled_is}
 
 -- what stands there
 abbrev pub there : Writer → List Marked
@@ -109,24 +109,23 @@ for_writes (Ok x) roots roots1 E E1 start limit start1 limit1 end step by b s s1
     let n3 = three_taken w0.next w1.next w2.next w3.next t1.1 t2.1 t3.1 in
     rw (h12.0, h12.1, h11.0, h11.1, h10.0, h10.1, h9.0, h9.1, h8.0, h8.1, lr, le, h7.0, h7.1, h6.0, h6.1, h5.0, h5.1, h4.0, h4.1, p3, p2, p1, n3, t3.0, n2, t2.0, t1.1, t1.0, es, eo, e1, e2, e3, e4) (simp append_assoc, refl)
 
-pub switchon_writes : {X : Type 0} (r : Result X GenError) (roots : Roots Marked) (E : Exits) (outer : List Numbered) (e : Exp) (is : Items) (s past d count : ℕ) (ls cs : List Numbered) (w0 w1 w2 w3 w4 w5 w6 w7 w8 w9 w10 : Writer)
+pub switchon_writes : {X : Type 0} (r : Result X GenError) (roots : Roots Marked) (E : Exits) (outer : List Numbered) (e : Exp) (is : Items) (s past first d count : ℕ) (ls : List Numbered) (w0 w1 w2 w3 w4 w5 w6 w7 w8 w9 w10 : Writer)
     → E.labels ≡ (λ n. label_in outer n 0) → Took w0 w1 past 1 → Same w0 w1
-    → d ≡ defaulted is w1.next past → cs ≡ case_pairs is w1.next → count ≡ cases_in is → w2.next ≡ w1.next + entries_in is → Same w1 w2
+    → first ≡ w1.next → d ≡ defaulted is w1.next past → count ≡ cases_in is → w2.next ≡ w1.next + entries_in is → Same w1 w2
     → Wrote w2 w3 (roots (Value s e) 0 w2.next) → ls ≡ label_pairs is w3.next ++ outer → w4.next ≡ w3.next + labels_in is → Same w3 w4
     → Set w4 w5 (Plain (execute 23) ∷ []) → Set w5 w6 (Plain (Data count) ∷ []) → Set w6 w7 (Plain (DataLabel d) ∷ [])
-    → Set w7 w8 (table_of Plain is (λ v. label_in cs v d))
-    → Wrote w8 w9 (emit_items Plain roots is s (record E { cases = past; labels = λ n. label_in ls n 0; case_of = λ v. label_in cs v d; default_of = d }) w8.next)
+    → Set w7 w8 (table_of Plain is first)
+    → Wrote w8 w9 (emit_items Plain roots is s (record E { cases = past; labels = λ n. label_in ls n 0 }) first w8.next)
     → Puts r w9 w10 (Plain (Label past) ∷ []) → Writes r w0 w10 (emit Plain roots (commands.SwitchOn e is) s E w0.next)
-switchon_writes (Err x) roots E outer e is s past d count ls cs w0 w1 w2 w3 w4 w5 w6 w7 w8 w9 w10 eo t1 p1 ed ec en n2 p2 h3 el n4 p4 h5 h6 h7 h8 h9 h10 = out_of_memory x _ h10
-switchon_writes (Ok x) roots E outer e is s past d count ls cs w0 w1 w2 w3 w4 w5 w6 w7 w8 w9 w10 eo t1 p1 ed ec en n2 p2 h3 el n4 p4 h5 h6 h7 h8 h9 h10 =
+switchon_writes (Err x) roots E outer e is s past first d count ls w0 w1 w2 w3 w4 w5 w6 w7 w8 w9 w10 eo t1 p1 ef ed en n2 p2 h3 el n4 p4 h5 h6 h7 h8 h9 h10 = out_of_memory x _ h10
+switchon_writes (Ok x) roots E outer e is s past first d count ls w0 w1 w2 w3 w4 w5 w6 w7 w8 w9 w10 eo t1 p1 ef ed en n2 p2 h3 el n4 p4 h5 h6 h7 h8 h9 h10 =
     let hl = ap (λ (xs : List Numbered). λ (n : ℕ). label_in xs n 0) el ∙ labelled_is is w3.next outer ∙ ap (λ (g : ℕ → ℕ). labelled is w3.next g) (sym eo) in
-    let hc = ap (λ (xs : List Numbered). λ (v : ℕ). label_in xs v d) ec ∙ cased_is is w1.next d in
-    rw (h10.0, h10.1, h9.0, h9.1, h8.0, h8.1, h7.0, h7.1, h6.0, h6.1, h5.0, h5.1, hl, hc, p4, n4, h3.0, h3.1, p2, p1, ed, en, n2, t1.1, t1.0) (simp append_assoc, refl)
+    rw (h10.0, h10.1, h9.0, h9.1, h8.0, h8.1, h7.0, h7.1, h6.0, h6.1, h5.0, h5.1, hl, p4, n4, h3.0, h3.1, p2, p1, ed, ef, en, n2, t1.1, t1.0) (simp append_assoc, refl)
 
 pub block_writes : {X : Type 0} (r : Result X GenError) (roots : Roots Marked) (E : Exits) (outer : List Numbered) (ds : List (List Variable)) (is : Items) (s inner : ℕ) (ls : List Numbered) (w0 w1 w2 w3 : Writer)
     → E.labels ≡ (λ n. label_in outer n 0) → ls ≡ label_pairs is w0.next ++ outer → w1.next ≡ w0.next + labels_in is → Same w0 w1
     → Wrote w1 w2 (emit_declarations roots ds s w1.next) → inner ≡ s + cells_declared ds
-    → Writes r w2 w3 (emit_items Plain roots is inner (record E { labels = λ n. label_in ls n 0 }) w2.next)
+    → Writes r w2 w3 (emit_items Plain roots is inner (record E { labels = λ n. label_in ls n 0 }) 0 w2.next)
     → Writes r w0 w3 (emit_block Plain roots (block ds is) s E w0.next)
 block_writes (Err x) roots E outer ds is s inner ls w0 w1 w2 w3 eo el n1 p1 h2 ei h3 =
     let hl = ap (λ (xs : List Numbered). λ (n : ℕ). label_in xs n 0) el ∙ labelled_is is w0.next outer ∙ ap (λ (g : ℕ → ℕ). labelled is w0.next g) (sym eo) in

@@ -15,7 +15,7 @@ use Rattle.bc_core.specs.Commands.{Block, block, Items, no_item}
 use Rattle.bc_core.specs.Level.{cells_of, cells_of_all, cells_declared, level_behind_parameters}
 use Rattle.bc_core.specs.Command.{step_of_for}
 use Rattle.bc_rules_defs.specs.declared.piece.Piece.{Piece}
-use Rattle.bc_gen_defs.specs.Emit.{Code, Roots, Exits, labelled, labels_in, cased, defaulted, entries_in, emit_variable, emit_variables, emit_declarations, end_of_for, emit, emit_block, emit_items}
+use Rattle.bc_gen_defs.specs.Emit.{Code, Roots, Exits, labelled, labels_in, entries_in, emit_variable, emit_variables, emit_declarations, end_of_for, emit, emit_block, emit_items}
 use Rattle.bc_gen_defs.specs.Bodies.{BodiesCode, body_exits, emit_body, fill, label_ahead, level_of}
 use Rattle.bc_gen_defs.specs.Section.{emit_routines}
 use Rattle.bc_gen_defs.specs.Entries.{Marked, Plain}
@@ -26,9 +26,9 @@ use Rattle.bc_gen.specs.declared.writer.Writer.{Writer}
 use Rattle.bc_gen.specs.declared.around.Numbered.{Numbered}
 use Rattle.bc_gen.specs.declared.around.Around.{Around}
 use Rattle.bc_gen.specs.Chosen.{coding}
-use Rattle.bc_gen.specs.Surroundings.{label_in, label_pairs, case_pairs, exits_of, roots_in, roots_of, bodies_of, initial_of, one_piece, valofs_in}
+use Rattle.bc_gen.specs.Surroundings.{label_in, label_pairs, next_entry, exits_of, roots_in, roots_of, bodies_of, initial_of, one_piece, valofs_in}
 use Rattle.bc_gen.specs.Writing.{RunsOut, Writes}
-use Rattle.bc_gen.proofs.Labels.{labelled_is, cased_is}
+use Rattle.bc_gen.proofs.Labels.{labelled_is}
 use Rattle.bc_gen.proofs.Bodies.{body_is}
 use Rattle.bc_gen.proofs.Turns.{Filled, item_first, variable_emitted, piece_first}
 use Rattle.bc_gen.proofs.Rises.{Rising, Growing, upto, less, out, variables_up, declarations_up, block_up, items_up, fill_up, marked_up, bodies_up, routines_up}
@@ -157,7 +157,7 @@ for_taken roots r E start limit by b s f =
 pub switchon_valued : (roots : Roots Marked) → Rising roots → (E : Exits) (e : Exp) (is : Items) (s f m : ℕ) → m ≡ (roots (Value s e) 0 (f + 1 + entries_in is)).1 → m + labels_in is ≤ (emit Plain roots (commands.SwitchOn e is) s E f).1
 switchon_valued roots r E e is s f m h =
     rw h (items_up roots r is s
-    (record E { cases = f; labels = labelled is (roots (Value s e) 0 (f + 1 + entries_in is)).1 E.labels; case_of = cased is (f + 1) (defaulted is (f + 1) f); default_of = defaulted is (f + 1) f })
+    (record E { cases = f; labels = labelled is (roots (Value s e) 0 (f + 1 + entries_in is)).1 E.labels }) (f + 1)
     ((roots (Value s e) 0 (f + 1 + entries_in is)).1 + labels_in is))
 
 pub switchon_taken : (roots : Roots Marked) → Rising roots → (E : Exits) (e : Exp) (is : Items) (s f : ℕ) → f + 1 + entries_in is ≤ (emit Plain roots (commands.SwitchOn e is) s E f).1
@@ -166,36 +166,34 @@ switchon_taken roots r E e is s f =
     let v = roots (Value s e) 0 g in
     upto g v.1 _ (r.up (Value s e) 0 g) (less v.1 (labels_in is) _ (switchon_valued roots r E e is s f v.1 refl))
 
-pub switchon_done : (roots : Roots Marked) (E : Exits) (outer : List Numbered) (e : Exp) (is : Items) (s past d : ℕ) (ls cs : List Numbered) (f n1 n2 n3 n4 : ℕ)
-    → E.labels ≡ (λ n. label_in outer n 0) → past ≡ f → n1 ≡ f + 1
-    → d ≡ defaulted is n1 past → cs ≡ case_pairs is n1 → n2 ≡ n1 + entries_in is
+pub switchon_done : (roots : Roots Marked) (E : Exits) (outer : List Numbered) (e : Exp) (is : Items) (s past first : ℕ) (ls : List Numbered) (f n1 n2 n3 n4 : ℕ)
+    → E.labels ≡ (λ n. label_in outer n 0) → past ≡ f → n1 ≡ f + 1 → first ≡ n1 → n2 ≡ n1 + entries_in is
     → n3 ≡ (roots (Value s e) 0 n2).1 → ls ≡ label_pairs is n3 ++ outer → n4 ≡ n3 + labels_in is
-    → (emit_items Plain roots is s (record E { cases = past; labels = λ n. label_in ls n 0; case_of = λ v. label_in cs v d; default_of = d }) n4).1 ≤ (emit Plain roots (commands.SwitchOn e is) s E f).1
-switchon_done roots E outer e is s past d ls cs f n1 n2 n3 n4 eo ep e1 ed ec e2 e3 el e4 =
+    → (emit_items Plain roots is s (record E { cases = past; labels = λ n. label_in ls n 0 }) first n4).1 ≤ (emit Plain roots (commands.SwitchOn e is) s E f).1
+switchon_done roots E outer e is s past first ls f n1 n2 n3 n4 eo ep e1 ef e2 e3 el e4 =
     let hl = ap (λ (xs : List Numbered). λ (n : ℕ). label_in xs n 0) el ∙ labelled_is is n3 outer ∙ ap (λ (g : ℕ → ℕ). labelled is n3 g) (sym eo) in
-    let hc = ap (λ (xs : List Numbered). λ (v : ℕ). label_in xs v d) ec ∙ cased_is is n1 d in
-    rw (hl, hc, e4, e3, ed, e2, e1, ep) (same _)
+    rw (hl, e4, e3, e2, ef, e1, ep) (same _)
 
 -- a block
 pub block_labelled : (roots : Roots Marked) → Rising roots → (ds : List (List commands.Variable)) (is : Items) (s : ℕ) (E : Exits) (f : ℕ) → f + labels_in is ≤ (emit_block Plain roots (block ds is) s E f).1
 block_labelled roots r ds is s E f =
     let d = emit_declarations roots ds s (f + labels_in is) in
-    upto (f + labels_in is) d.1 _ (declarations_up roots r ds s (f + labels_in is)) (items_up roots r is (s + cells_declared ds) (record E { labels = labelled is f E.labels }) d.1)
+    upto (f + labels_in is) d.1 _ (declarations_up roots r ds s (f + labels_in is)) (items_up roots r is (s + cells_declared ds) (record E { labels = labelled is f E.labels }) 0 d.1)
 
 pub block_declared : (roots : Roots Marked) → Rising roots → (ds : List (List commands.Variable)) (is : Items) (s : ℕ) (E : Exits) (f n : ℕ) → n ≡ f + labels_in is
     → (emit_declarations roots ds s n).1 ≤ (emit_block Plain roots (block ds is) s E f).1
-block_declared roots r ds is s E f n h = rw h (items_up roots r is (s + cells_declared ds) (record E { labels = labelled is f E.labels }) (emit_declarations roots ds s (f + labels_in is)).1)
+block_declared roots r ds is s E f n h = rw h (items_up roots r is (s + cells_declared ds) (record E { labels = labelled is f E.labels }) 0 (emit_declarations roots ds s (f + labels_in is)).1)
 
 -- loops
-pub list_out : (roots : Roots Marked) → Rising roots → (s : ℕ) (E : Exits) (xs : List ListItem) (i : ℕ) (x : ListItem) (n whole : ℕ)
-    → i < length xs → x ≡ get_or xs i x → (emit_items Plain roots (items (drop i xs)) s E n).1 ≡ whole → (emit_items Plain roots (items_before x no_item) s E n).1 ≤ whole
-list_out roots r s E xs i x n whole h g inv =
-    let y = emit_items Plain roots (items_before x no_item) s E n in
-    let z = emit_items Plain roots (items (drop (i + 1) xs)) s E y.1 in
+pub list_out : (roots : Roots Marked) → Rising roots → (s : ℕ) (E : Exits) (xs : List ListItem) (i : ℕ) (x : ListItem) (first n whole : ℕ)
+    → i < length xs → x ≡ get_or xs i x → (emit_items Plain roots (items (drop i xs)) s E first n).1 ≡ whole → (emit_items Plain roots (items_before x no_item) s E first n).1 ≤ whole
+list_out roots r s E xs i x first n whole h g inv =
+    let y = emit_items Plain roots (items_before x no_item) s E first n in
+    let z = emit_items Plain roots (items (drop (i + 1) xs)) s E (next_entry x first) y.1 in
     let d : drop i xs ≡ x ∷ drop (i + 1) xs = drop_more xs i x h ∙ ap (λ (v : ListItem). v ∷ drop (i + 1) xs) (sym g) in
-    let e = ap (λ (ys : List ListItem). emit_items Plain roots (items ys) s E n) d ∙ item_first roots x (items (drop (i + 1) xs)) s E n in
+    let e = ap (λ (ys : List ListItem). emit_items Plain roots (items ys) s E first n) d ∙ item_first roots x (items (drop (i + 1) xs)) s E first n in
     let k : whole ≡ z.1 = sym inv ∙ ap (λ (c : Code Marked). c.1) e in
-    rw k (items_up roots r (items (drop (i + 1) xs)) s E y.1)
+    rw k (items_up roots r (items (drop (i + 1) xs)) s E (next_entry x first) y.1)
 
 pub declarations_out : (roots : Roots Marked) → Rising roots → (xs : List Declaration) (i : ℕ) (x : Declaration) (l l1 cells n whole : ℕ)
     → i < length xs → x ≡ get_or xs i x → cells ≡ cells_of_all (map variable x.variables.items) → l1 ≡ l + cells

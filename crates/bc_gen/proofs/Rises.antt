@@ -7,7 +7,7 @@ use Rattle.bc_core.specs.Level.{cells_of, cells_of_all, cells_declared, level_in
 use Rattle.bc_core.specs.Command.{step_of_for}
 use Rattle.bc_rules_defs.specs.declared.piece.Piece.{Piece}
 use Rattle.bc_rules_defs.specs.declared.piece.Piece.TheVariants as pieces
-use Rattle.bc_gen_defs.specs.Emit.{Code, Roots, Exits, labelled, labels_in, cased, defaulted, entries_in, emit_variable, emit_variables, emit_declarations, end_of_for, emit, emit_block, emit_items}
+use Rattle.bc_gen_defs.specs.Emit.{Code, Roots, Exits, labelled, labels_in, entries_in, emit_variable, emit_variables, emit_declarations, end_of_for, emit, emit_block, emit_items}
 use Rattle.bc_gen_defs.specs.Bodies.{BodiesCode, Coding, body_exits, fill, label_ahead, emit_valof, bodies_from, emit_body}
 use Rattle.bc_gen_defs.specs.Section.{emit_routines}
 use Rattle.bc_gen_defs.specs.Entries.{Marked, Plain, marked_over}
@@ -82,8 +82,8 @@ mutual
   command_up roots r (commands.SwitchOn e is) s E f =
       let g = f + 1 + entries_in is in
       let v = roots (Value s e) 0 g in
-      let E1 = record E { cases = f; labels = labelled is v.1 E.labels; case_of = cased is (f + 1) (defaulted is (f + 1) f); default_of = defaulted is (f + 1) f } in
-      less f 1 _ (less (f + 1) (entries_in is) _ (upto g v.1 _ (r.up (Value s e) 0 g) (less v.1 (labels_in is) _ (items_up roots r is s E1 (v.1 + labels_in is)))))
+      let E1 = record E { cases = f; labels = labelled is v.1 E.labels } in
+      less f 1 _ (less (f + 1) (entries_in is) _ (upto g v.1 _ (r.up (Value s e) 0 g) (less v.1 (labels_in is) _ (items_up roots r is s E1 (f + 1) (v.1 + labels_in is)))))
   command_up roots r commands.Break s E f = omega arith
   command_up roots r commands.Loop s E f = omega arith
   command_up roots r commands.EndCase s E f = omega arith
@@ -97,16 +97,16 @@ mutual
   block_up roots r (block ds is) s E f =
       let d = emit_declarations roots ds s (f + labels_in is) in
       less f (labels_in is) _ (upto (f + labels_in is) d.1 _ (declarations_up roots r ds s (f + labels_in is))
-      (items_up roots r is (s + cells_declared ds) (record E { labels = labelled is f E.labels }) d.1))
+      (items_up roots r is (s + cells_declared ds) (record E { labels = labelled is f E.labels }) 0 d.1))
 
-  pub items_up : (roots : Roots Marked) → Rising roots → (is : Items) (s : ℕ) (E : Exits) (f : ℕ) → f ≤ (emit_items Plain roots is s E f).1
-  items_up roots r no_item s E f = omega arith
-  items_up roots r (command c is) s E f =
+  pub items_up : (roots : Roots Marked) → Rising roots → (is : Items) (s : ℕ) (E : Exits) (first f : ℕ) → f ≤ (emit_items Plain roots is s E first f).1
+  items_up roots r no_item s E first f = omega arith
+  items_up roots r (command c is) s E first f =
       let x = emit Plain roots c s E f in
-      upto f x.1 _ (command_up roots r c s E f) (items_up roots r is s E x.1)
-  items_up roots r (case v is) s E f = items_up roots r is s E f
-  items_up roots r (default is) s E f = items_up roots r is s E f
-  items_up roots r (label l is) s E f = items_up roots r is s E f
+      upto f x.1 _ (command_up roots r c s E f) (items_up roots r is s E first x.1)
+  items_up roots r (case v is) s E first f = items_up roots r is s E (first + 1) f
+  items_up roots r (default is) s E first f = items_up roots r is s E (first + 1) f
+  items_up roots r (label l is) s E first f = items_up roots r is s E first f
 
 pub fill_up : (levels : ℕ → ℕ) (bodies : BodiesCode Marked) → Growing bodies → (ps : List Piece) (f : ℕ) → f ≤ (fill Plain levels bodies ps f).1
 fill_up levels bodies b [] f = omega arith

@@ -15,7 +15,7 @@ use Rattle.bc_rules_defs.specs.declared.piece.Piece.TheVariants as pieces
 use Rattle.bc_gen_defs.specs.Emit.{Code, Roots, Exits, emit, emit_items, emit_variable, emit_variables, emit_declarations}
 use Rattle.bc_gen_defs.specs.Bodies.{BodiesCode, fill, label_ahead}
 use Rattle.bc_gen_defs.specs.Entries.{Marked, Plain, count_items}
-use Rattle.bc_gen.specs.Surroundings.{initial_of, one_piece}
+use Rattle.bc_gen.specs.Surroundings.{initial_of, next_entry, one_piece}
 use Rattle.bc_gen.specs.declared.writer.Writer.{Writer}
 use Rattle.bc_gen.proofs.Forms.{there, Wrote}
 
@@ -24,26 +24,26 @@ append_nothing [] = refl
 append_nothing (x ∷ xs) = ap (λ (ys : List Marked). x ∷ ys) (append_nothing xs)
 
 -- the first item, and then the others
-pub item_first : (roots : Roots Marked) (x : ListItem) (is : Items) (s : ℕ) (E : Exits) (f : ℕ)
-    → emit_items Plain roots (items_before x is) s E f
-    ≡ (let y = emit_items Plain roots (items_before x no_item) s E f in let z = emit_items Plain roots is s E y.1 in let whole : Code Marked = (y.0 ++ z.0, z.1) in whole)
-item_first roots (entries.Command c) is s E f =
+pub item_first : (roots : Roots Marked) (x : ListItem) (is : Items) (s : ℕ) (E : Exits) (first f : ℕ)
+    → emit_items Plain roots (items_before x is) s E first f
+    ≡ (let y = emit_items Plain roots (items_before x no_item) s E first f in let z = emit_items Plain roots is s E (next_entry x first) y.1 in let whole : Code Marked = (y.0 ++ z.0, z.1) in whole)
+item_first roots (entries.Command c) is s E first f =
     let y = emit Plain roots (command c) s E f in
-    ap (λ (ys : List Marked). let whole : Code Marked = (ys ++ (emit_items Plain roots is s E y.1).0, (emit_items Plain roots is s E y.1).1) in whole) (sym (append_nothing y.0))
-item_first roots (entries.Case k) is s E f = refl
-item_first roots entries.Default is s E f = refl
-item_first roots (entries.Label l) is s E f = refl
+    ap (λ (ys : List Marked). let whole : Code Marked = (ys ++ (emit_items Plain roots is s E first y.1).0, (emit_items Plain roots is s E first y.1).1) in whole) (sym (append_nothing y.0))
+item_first roots (entries.Case k) is s E first f = refl
+item_first roots entries.Default is s E first f = refl
+item_first roots (entries.Label l) is s E first f = refl
 
-pub list_turn : (roots : Roots Marked) (s : ℕ) (E : Exits) (xs : List ListItem) (i : ℕ) (x : ListItem) (w0 w w1 : Writer) (whole : Code Marked)
-    → i < length xs → x ≡ get_or xs i x → Wrote w w1 (emit_items Plain roots (items_before x no_item) s E w.next)
-    → (there w ++ (emit_items Plain roots (items (drop i xs)) s E w.next).0 ≡ there w0 ++ whole.0) × ((emit_items Plain roots (items (drop i xs)) s E w.next).1 ≡ whole.1)
-    → (there w1 ++ (emit_items Plain roots (items (drop (i + 1) xs)) s E w1.next).0 ≡ there w0 ++ whole.0) × ((emit_items Plain roots (items (drop (i + 1) xs)) s E w1.next).1 ≡ whole.1)
-list_turn roots s E xs i x w0 w w1 whole h g wrote inv =
-    let y = emit_items Plain roots (items_before x no_item) s E w.next in
-    let z = emit_items Plain roots (items (drop (i + 1) xs)) s E y.1 in
+pub list_turn : (roots : Roots Marked) (s : ℕ) (E : Exits) (xs : List ListItem) (i : ℕ) (x : ListItem) (first first1 : ℕ) (w0 w w1 : Writer) (whole : Code Marked)
+    → i < length xs → x ≡ get_or xs i x → first1 ≡ next_entry x first → Wrote w w1 (emit_items Plain roots (items_before x no_item) s E first w.next)
+    → (there w ++ (emit_items Plain roots (items (drop i xs)) s E first w.next).0 ≡ there w0 ++ whole.0) × ((emit_items Plain roots (items (drop i xs)) s E first w.next).1 ≡ whole.1)
+    → (there w1 ++ (emit_items Plain roots (items (drop (i + 1) xs)) s E first1 w1.next).0 ≡ there w0 ++ whole.0) × ((emit_items Plain roots (items (drop (i + 1) xs)) s E first1 w1.next).1 ≡ whole.1)
+list_turn roots s E xs i x first first1 w0 w w1 whole h g en wrote inv =
+    let y = emit_items Plain roots (items_before x no_item) s E first w.next in
+    let z = emit_items Plain roots (items (drop (i + 1) xs)) s E (next_entry x first) y.1 in
     let d : drop i xs ≡ x ∷ drop (i + 1) xs = drop_more xs i x h ∙ ap (λ (v : ListItem). v ∷ drop (i + 1) xs) (sym g) in
-    let e = ap (λ (ys : List ListItem). emit_items Plain roots (items ys) s E w.next) d ∙ item_first roots x (items (drop (i + 1) xs)) s E w.next in
-    rw (wrote.0, wrote.1) (
+    let e = ap (λ (ys : List ListItem). emit_items Plain roots (items ys) s E first w.next) d ∙ item_first roots x (items (drop (i + 1) xs)) s E first w.next in
+    rw (wrote.0, wrote.1, en) (
       append_assoc (there w) y.0 z.0 ∙ sym (ap (λ (c : Code Marked). there w ++ c.0) e) ∙ inv.0,
       sym (ap (λ (c : Code Marked). c.1) e) ∙ inv.1,
     )

@@ -1,6 +1,8 @@
 -- For proofs: what the program's surroundings of a command stand for.
 use Rattle.std.specs.Prelude.{ℕ, ◌+◌, ◌==◌, cond, List, [], ◌∷◌, map, drop}
 use Rattle.bc_core.specs.declared.command.Valof.{Valof}
+use Rattle.bc_core.specs.declared.command.ListItem.{ListItem}
+use Rattle.bc_core.specs.declared.command.ListItem.TheVariants as entries
 use Rattle.bc_core.specs.View.{valof_of}
 use Rattle.bc_core.specs.Tree.{Exp, Frame}
 use Rattle.bc_rules_defs.specs.declared.piece.Piece.{Piece}
@@ -26,13 +28,12 @@ label_pairs (case k is) f = label_pairs is f
 label_pairs (default is) f = label_pairs is f
 label_pairs (label k is) f = record { number = k; label = f } ∷ label_pairs is (f + 1)
 
--- the values of its cases, and the labels that they take
-abbrev pub case_pairs : Items → ℕ → List Numbered
-case_pairs no_item f = []
-case_pairs (command c is) f = case_pairs is f
-case_pairs (case k is) f = record { number = k; label = f } ∷ case_pairs is (f + 1)
-case_pairs (default is) f = case_pairs is (f + 1)
-case_pairs (label k is) f = case_pairs is f
+-- the label of the next CASE or DEFAULT behind an item, where that of the next one from the item on is f
+abbrev pub next_entry : ListItem → (f : ℕ) → ℕ
+next_entry (entries.Command c) f = f
+next_entry (entries.Case k) f = f + 1
+next_entry entries.Default f = f + 1
+next_entry (entries.Label k) f = f
 
 abbrev pub exits_of : Around → Exits
 exits_of a = record {
@@ -41,8 +42,6 @@ exits_of a = record {
   cases = a.cases;
   result = a.resulted;
   labels = λ l. label_in a.labels.now l 0;
-  case_of = λ v. label_in a.case_labels.now v a.default;
-  default_of = a.default;
 }
 
 -- the bodies of the VALOFs with at least this number

@@ -40,9 +40,6 @@ pub(crate) struct Around<'a> {
     pub(crate) resulted: u16,
     /// The source's labels, those of inner lists first.
     pub(crate) labels: &'a [Numbered],
-    /// The cases of the innermost SWITCHON.
-    pub(crate) case_labels: &'a [Numbered],
-    pub(crate) default: u16,
 }
 
 impl<'a> Around<'a> {
@@ -61,8 +58,6 @@ impl<'a> Around<'a> {
             cases: 0,
             resulted,
             labels: &[],
-            case_labels: &[],
-            default: 0,
         }
     }
 

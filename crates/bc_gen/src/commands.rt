@@ -12,6 +12,7 @@ ghost use Rattle.bc_gen.specs.Writing.{Writes, Puts};
 
 use crate::around::{Around, label_of};
 use crate::gen_error::GenError;
+use crate::lists::entry_behind;
 use crate::writer::Writer;
 use bc_core::{
     Block, Command, Condition, CoreExp, Declaration, ListItem, Root, Variable, copy_expression,
@@ -320,26 +321,27 @@ impl Writer {
         let within = Around {
             cases: past,
             labels: &labels,
-            case_labels: &found.cases,
-            default: found.default,
             ..*around
         };
         self.execute(23)?;
-        self.data(Word::new(found.cases.len() as u16))?;
+        self.data(Word::new(found.count))?;
         self.data_label(found.default)?;
-        self.table(&within, list)?;
-        self.list(&within, level, list)?;
+        self.table(found.first, list)?;
+        self.list(&within, level, list, found.first)?;
         self.label(past)
     }
 
-    /// A value and an address for each CASE.
-    fn table(&mut self, around: &Around<'_>, list: &[ListItem]) -> Result<(), GenError>
-        ensures { Puts result self.old self.new (table_of Plain (items_view list.now) (exits_of around.now).case_of) }
+    /// A value and an address for each CASE, where the first CASE or DEFAULT has this label.
+    fn table(&mut self, first: u16, list: &[ListItem]) -> Result<(), GenError>
+        ensures { Puts result self.old self.new (table_of Plain (items_view list.now) first) }
     {
+        let mut entry = first;
         for item in list {
+            let label = entry;
+            entry = entry_behind(item, entry)?;
             if let ListItem::Case(value) = item {
                 self.data(*value)?;
-                self.data_label(label_of(around.case_labels, value.get(), around.default))?;
+                self.data_label(label)?;
             }
         }
         Ok(())
@@ -369,7 +371,7 @@ impl Writer {
             labels: &labels,
             ..*around
         };
-        self.list(&within, inner, &block.list)
+        self.list(&within, inner, &block.list, 0)
     }
 
     /// The code of declarations; the result is the next free offset behind their variables.
@@ -412,12 +414,22 @@ impl Writer {
         Ok(())
     }
 
+    /// The code of a list, whose first CASE or DEFAULT has this label.
     #[cycle(commands)]
-    fn list(&mut self, around: &Around<'_>, level: u16, list: &[ListItem]) -> Result<(), GenError>
-        ensures { Writes result self.old self.new (emit_items Plain (roots_in around.now) (items_view list.now) level (exits_of around.now) self.old.next) }
+    fn list(
+        &mut self,
+        around: &Around<'_>,
+        level: u16,
+        list: &[ListItem],
+        first: u16,
+    ) -> Result<(), GenError>
+        ensures { Writes result self.old self.new (emit_items Plain (roots_in around.now) (items_view list.now) level
+            (exits_of around.now) first self.old.next) }
     {
+        let mut entry = first;
         for item in list {
-            self.list_item(around, level, item)?;
+            self.list_item(around, level, item, entry)?;
+            entry = entry_behind(item, entry)?;
         }
         Ok(())
     }
@@ -428,16 +440,14 @@ impl Writer {
         around: &Around<'_>,
         level: u16,
         item: &ListItem,
+        entry: u16,
     ) -> Result<(), GenError>
         ensures { Writes result self.old self.new (emit_items Plain (roots_in around.now) (items_before item.now forms.no_item) level
-            (exits_of around.now) self.old.next) }
+            (exits_of around.now) entry self.old.next) }
     {
         match item {
             ListItem::Command(command) => self.command(around, level, command),
-            ListItem::Case(value) => {
-                self.label(label_of(around.case_labels, value.get(), around.default))
-            }
-            ListItem::Default => self.label(around.default),
+            ListItem::Case(_) | ListItem::Default => self.label(entry),
             ListItem::Label(number) => self.label(label_of(around.labels, *number, 0)),
         }
     }

@@ -1,20 +1,36 @@
 //! The labels of command lists.
-ghost use Rattle.std.specs.Prelude.{◌≡◌, ◌+◌, ◌++◌, ◌≤◌, IfOk, IfErr, length};
+ghost use Rattle.std.specs.Prelude.{◌≡◌, ◌+◌, ◌++◌, IfOk, IfErr};
 ghost use Rattle.bc_core.specs.View.{items};
 ghost use Rattle.bc_gen_defs.specs.Emit.{labels_in, defaulted, cases_in, entries_in};
-ghost use Rattle.bc_gen.specs.Surroundings.{label_pairs, case_pairs};
+ghost use Rattle.bc_gen.specs.Surroundings.{label_pairs, next_entry};
 ghost use Rattle.bc_gen.specs.Writing.{RunsOut};
 
 use crate::around::Numbered;
+use crate::commands::behind;
 use crate::gen_error::GenError;
 use crate::writer::Writer;
 use bc_core::ListItem;
+use bc_word::Memory;
 
 /// The labels of a SWITCHON's list.
-#[derive(Drop)]
+#[derive(Clone, Copy)]
 pub(crate) struct CaseLabels {
-    pub(crate) cases: Vec<Numbered>,
+    /// That of the first CASE or DEFAULT; each further one has the next.
+    pub(crate) first: u16,
+    /// That of the first DEFAULT, or else of the end.
     pub(crate) default: u16,
+    /// How many CASEs there are.
+    pub(crate) count: u16,
+}
+
+/// The label of the next CASE or DEFAULT behind an item, where that of the next one from the item on is this.
+pub(crate) fn entry_behind(item: &ListItem, entry: u16) -> Result<u16, Memory>
+    ensures { IfOk result (λ found. found ≡ next_entry item.now entry) }
+{
+    match item {
+        ListItem::Case(_) | ListItem::Default => behind(entry, 1),
+        ListItem::Command(_) | ListItem::Label(_) => Ok(entry),
+    }
 }
 
 impl Writer {
@@ -49,24 +65,21 @@ impl Writer {
         list: &[ListItem],
         end: u16,
     ) -> Result<CaseLabels, GenError>
+        ensures first { IfOk result (λ found. found.first ≡ self.old.next) }
         ensures default { IfOk result (λ found. found.default ≡ defaulted (items list.now) self.old.next end) }
-        ensures cases { IfOk result (λ found. found.cases.items ≡ case_pairs (items list.now) self.old.next) }
-        ensures count { IfOk result (λ found. length found.cases.items ≡ cases_in (items list.now)) }
-        ensures few { IfOk result (λ found. length found.cases.items ≤ self.new.next) }
+        ensures count { IfOk result (λ found. found.count ≡ cases_in (items list.now)) }
         ensures next { IfOk result (λ _. self.new.next ≡ self.old.next + entries_in (items list.now)) }
         ensures out { IfErr result (λ e. RunsOut e (self.old.next + entries_in (items list.now))) }
         ensures parts { self.new.parts ≡ self.old.parts }
     {
-        let mut cases = Vec::new(self.alloc);
+        let first = self.next;
+        let mut count: u16 = 0;
         let mut default = None;
         for item in list {
             match item {
-                ListItem::Case(value) => {
-                    let label = self.take(1)?;
-                    cases.push(Numbered {
-                        number: value.get(),
-                        label,
-                    })?;
+                ListItem::Case(_) => {
+                    self.take(1)?;
+                    count += 1;
                 }
                 ListItem::Default => {
                     let label = self.take(1)?;
@@ -76,8 +89,9 @@ impl Writer {
             }
         }
         Ok(CaseLabels {
-            cases,
+            first,
             default: default.unwrap_or(end),
+            count,
         })
     }
 }

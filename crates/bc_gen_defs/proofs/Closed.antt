@@ -6,7 +6,7 @@ use Rattle.bc_core.specs.Commands.{Variable, Initial, Vector, Command, Block, bl
 use Rattle.bc_core.specs.Commands as commands
 use Rattle.bc_core.specs.Level.{cells_of, cells_of_all, cells_declared, level_in_for, level_behind_parameters}
 use Rattle.bc_core.specs.Command.{step_of_for}
-use Rattle.bc_gen_defs.specs.Emit.{Roots, Exits, labelled, labels_in, cased, defaulted, entries_in, table_of, emit_variable, emit_variables, emit_declarations, end_of_for, emit, emit_block, emit_items}
+use Rattle.bc_gen_defs.specs.Emit.{Roots, Exits, labelled, labels_in, entries_in, table_of, emit_variable, emit_variables, emit_declarations, end_of_for, emit, emit_block, emit_items}
 use Rattle.bc_gen_defs.specs.Bodies.{body_exits, emit_body}
 use Rattle.bc_gen_defs.specs.Section.{emit_routines}
 use Rattle.bc_gen_defs.specs.Entries.{Marked, Plain}
@@ -24,12 +24,12 @@ OfRoots Q roots = (r : Root) (t f : ℕ) → Q (roots r t f).0
 one : (Q : List Marked → Type 0) → Keeps Q → (i : Item) (xs : List Marked) → Q xs → Q (Plain i ∷ xs)
 one Q k i xs h = k.behind (Plain i ∷ []) xs (k.item i) h
 
-table_kept : (Q : List Marked → Type 0) → Keeps Q → (is : Items) (at : ℕ → ℕ) → Q (table_of Plain is at)
-table_kept Q k no_item at = k.nothing
-table_kept Q k (command c is) at = table_kept Q k is at
-table_kept Q k (case v is) at = one Q k _ _ (one Q k _ _ (table_kept Q k is at))
-table_kept Q k (default is) at = table_kept Q k is at
-table_kept Q k (label l is) at = table_kept Q k is at
+table_kept : (Q : List Marked → Type 0) → Keeps Q → (is : Items) (first : ℕ) → Q (table_of Plain is first)
+table_kept Q k no_item first = k.nothing
+table_kept Q k (command c is) first = table_kept Q k is first
+table_kept Q k (case v is) first = one Q k _ _ (one Q k _ _ (table_kept Q k is (first + 1)))
+table_kept Q k (default is) first = table_kept Q k is (first + 1)
+table_kept Q k (label l is) first = table_kept Q k is first
 
 variable_kept : (Q : List Marked → Type 0) (roots : Roots Marked) → OfRoots Q roots → (v : Variable) (k s f : ℕ) → Q (emit_variable roots v k s f).0
 variable_kept Q roots r (Initial e) k s f = r (Assign s e (Frame k)) 0 f
@@ -82,9 +82,9 @@ mutual
       (one Q q _ _ (q.behind _ _ (r (Assign s1 (step_of_for by s) (Frame s)) 0 x.1) (one Q q _ _ (q.item _))))))))
   command_kept Q q roots r (commands.SwitchOn e is) s E f =
       let v = roots (Value s e) 0 (f + 1 + entries_in is) in
-      let E1 = record E { cases = f; labels = labelled is v.1 E.labels; case_of = cased is (f + 1) (defaulted is (f + 1) f); default_of = defaulted is (f + 1) f } in
-      q.behind _ _ (r (Value s e) 0 (f + 1 + entries_in is)) (one Q q _ _ (one Q q _ _ (one Q q _ _ (q.behind _ _ (table_kept Q q is E1.case_of)
-      (q.behind _ _ (items_kept Q q roots r is s E1 (v.1 + labels_in is)) (q.item _))))))
+      let E1 = record E { cases = f; labels = labelled is v.1 E.labels } in
+      q.behind _ _ (r (Value s e) 0 (f + 1 + entries_in is)) (one Q q _ _ (one Q q _ _ (one Q q _ _ (q.behind _ _ (table_kept Q q is (f + 1))
+      (q.behind _ _ (items_kept Q q roots r is s E1 (f + 1) (v.1 + labels_in is)) (q.item _))))))
   command_kept Q q roots r commands.Break s E f = q.item _
   command_kept Q q roots r commands.Loop s E f = q.item _
   command_kept Q q roots r commands.EndCase s E f = q.item _
@@ -98,16 +98,16 @@ mutual
   block_kept Q q roots r (block ds is) s E f =
       let d = emit_declarations roots ds s (f + labels_in is) in
       q.behind _ _ (declarations_kept Q q roots r ds s (f + labels_in is))
-      (items_kept Q q roots r is (s + cells_declared ds) (record E { labels = labelled is f E.labels }) d.1)
+      (items_kept Q q roots r is (s + cells_declared ds) (record E { labels = labelled is f E.labels }) 0 d.1)
 
-  items_kept : (Q : List Marked → Type 0) → Keeps Q → (roots : Roots Marked) → OfRoots Q roots → (is : Items) (s : ℕ) (E : Exits) (f : ℕ) → Q (emit_items Plain roots is s E f).0
-  items_kept Q q roots r no_item s E f = q.nothing
-  items_kept Q q roots r (command c is) s E f =
+  items_kept : (Q : List Marked → Type 0) → Keeps Q → (roots : Roots Marked) → OfRoots Q roots → (is : Items) (s : ℕ) (E : Exits) (first f : ℕ) → Q (emit_items Plain roots is s E first f).0
+  items_kept Q q roots r no_item s E first f = q.nothing
+  items_kept Q q roots r (command c is) s E first f =
       let x = emit Plain roots c s E f in
-      q.behind _ _ (command_kept Q q roots r c s E f) (items_kept Q q roots r is s E x.1)
-  items_kept Q q roots r (case v is) s E f = one Q q _ _ (items_kept Q q roots r is s E f)
-  items_kept Q q roots r (default is) s E f = one Q q _ _ (items_kept Q q roots r is s E f)
-  items_kept Q q roots r (label l is) s E f = one Q q _ _ (items_kept Q q roots r is s E f)
+      q.behind _ _ (command_kept Q q roots r c s E f) (items_kept Q q roots r is s E first x.1)
+  items_kept Q q roots r (case v is) s E first f = one Q q _ _ (items_kept Q q roots r is s E (first + 1) f)
+  items_kept Q q roots r (default is) s E first f = one Q q _ _ (items_kept Q q roots r is s E (first + 1) f)
+  items_kept Q q roots r (label l is) s E first f = one Q q _ _ (items_kept Q q roots r is s E first f)
 
 body_kept : (Q : List Marked → Type 0) → Keeps Q → (roots : Roots Marked) → OfRoots Q roots → (b : Body) (s f : ℕ) → Q (emit_body Plain roots b s f).0
 body_kept Q q roots r (Gives e) s f = q.behind _ _ (r (Value s e) 0 f) (q.item _)

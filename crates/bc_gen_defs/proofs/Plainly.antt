@@ -8,7 +8,7 @@ use Rattle.bc_core.specs.Tree.{Frame, Value, Test, Assign}
 use Rattle.bc_core.specs.Commands.{Variable, Initial, Vector, Command, Block, block, Items, no_item, command, case, default, label, Body, Gives, Does, Place, Valof, Core}
 use Rattle.bc_core.specs.Commands as commands
 use Rattle.bc_core.specs.Level.{cells_of, cells_of_all, cells_declared, level_in_for, level_behind_parameters}
-use Rattle.bc_gen_defs.specs.Emit.{Code, Roots, Exits, labelled, labels_in, cased, defaulted, entries_in, table_of, emit_variable, emit_variables, emit_declarations, end_of_for, emit, emit_block, emit_items}
+use Rattle.bc_gen_defs.specs.Emit.{Code, Roots, Exits, labelled, labels_in, entries_in, table_of, emit_variable, emit_variables, emit_declarations, end_of_for, emit, emit_block, emit_items}
 use Rattle.bc_gen_defs.specs.Bodies.{BodiesCode, Coding, fill, label_ahead, over, body_exits, emit_valof, bodies_from, emit_body, level_of}
 use Rattle.bc_gen_defs.specs.Section.{emit_routines, routines_over, routines_code}
 use Rattle.bc_gen_defs.specs.Entries.{Marked, Plain, Begins, plain_items, marked_over}
@@ -27,12 +27,12 @@ strip x = (plain_items x.0, x.1)
 abbrev pub strip_roots : Roots Marked → Roots Item
 strip_roots roots r t f = strip (roots r t f)
 
-table_plain : (is : Items) (at : ℕ → ℕ) → plain_items (table_of Plain is at) ≡ table_of plain is at
-table_plain no_item at = refl
-table_plain (command c is) at = table_plain is at
-table_plain (case k is) at = ap (λ (t : List Item). Data k ∷ DataLabel (at k) ∷ t) (table_plain is at)
-table_plain (default is) at = table_plain is at
-table_plain (label k is) at = table_plain is at
+table_plain : (is : Items) (first : ℕ) → plain_items (table_of Plain is first) ≡ table_of plain is first
+table_plain no_item first = refl
+table_plain (command c is) first = table_plain is first
+table_plain (case k is) first = ap (λ (t : List Item). Data k ∷ DataLabel first ∷ t) (table_plain is (first + 1))
+table_plain (default is) first = table_plain is (first + 1)
+table_plain (label k is) first = table_plain is first
 
 variable_plain : (roots : Roots Marked) (v : Variable) (k s f : ℕ) → strip (emit_variable roots v k s f) ≡ emit_variable (strip_roots roots) v k s f
 variable_plain roots (Initial e) k s f = refl
@@ -77,8 +77,8 @@ mutual
       rw (sym (block_plain roots b s1 (record E { broken = f + 1; looped = f + 2 }) t.1)) (simp plain_append)
   command_plain roots (commands.SwitchOn e is) s E f =
       let v = roots (Value s e) 0 (f + 1 + entries_in is) in
-      let E1 = record E { cases = f; labels = labelled is v.1 E.labels; case_of = cased is (f + 1) (defaulted is (f + 1) f); default_of = defaulted is (f + 1) f } in
-      rw (sym (items_plain roots is s E1 (v.1 + labels_in is)), sym (table_plain is E1.case_of)) (simp plain_append)
+      let E1 = record E { cases = f; labels = labelled is v.1 E.labels } in
+      rw (sym (items_plain roots is s E1 (f + 1) (v.1 + labels_in is)), sym (table_plain is (f + 1))) (simp plain_append)
   command_plain roots commands.Break s E f = refl
   command_plain roots commands.Loop s E f = refl
   command_plain roots commands.EndCase s E f = refl
@@ -91,16 +91,16 @@ mutual
   block_plain : (roots : Roots Marked) (b : Block) (s : ℕ) (E : Exits) (f : ℕ) → strip (emit_block Plain roots b s E f) ≡ emit_block plain (strip_roots roots) b s E f
   block_plain roots (block ds is) s E f =
       let d = emit_declarations roots ds s (f + labels_in is) in
-      rw (sym (declarations_plain roots ds s (f + labels_in is)), sym (items_plain roots is (s + cells_declared ds) (record E { labels = labelled is f E.labels }) d.1)) (simp plain_append)
+      rw (sym (declarations_plain roots ds s (f + labels_in is)), sym (items_plain roots is (s + cells_declared ds) (record E { labels = labelled is f E.labels }) 0 d.1)) (simp plain_append)
 
-  items_plain : (roots : Roots Marked) (is : Items) (s : ℕ) (E : Exits) (f : ℕ) → strip (emit_items Plain roots is s E f) ≡ emit_items plain (strip_roots roots) is s E f
-  items_plain roots no_item s E f = refl
-  items_plain roots (command c is) s E f =
+  items_plain : (roots : Roots Marked) (is : Items) (s : ℕ) (E : Exits) (first f : ℕ) → strip (emit_items Plain roots is s E first f) ≡ emit_items plain (strip_roots roots) is s E first f
+  items_plain roots no_item s E first f = refl
+  items_plain roots (command c is) s E first f =
       let x = emit Plain roots c s E f in
-      rw (sym (command_plain roots c s E f), sym (items_plain roots is s E x.1)) (simp plain_append)
-  items_plain roots (case k is) s E f = rw (sym (items_plain roots is s E f)) refl
-  items_plain roots (default is) s E f = rw (sym (items_plain roots is s E f)) refl
-  items_plain roots (label l is) s E f = rw (sym (items_plain roots is s E f)) refl
+      rw (sym (command_plain roots c s E f), sym (items_plain roots is s E first x.1)) (simp plain_append)
+  items_plain roots (case k is) s E first f = rw (sym (items_plain roots is s E (first + 1) f)) refl
+  items_plain roots (default is) s E first f = rw (sym (items_plain roots is s E (first + 1) f)) refl
+  items_plain roots (label l is) s E first f = rw (sym (items_plain roots is s E first f)) refl
 
 abbrev strip_bodies : BodiesCode Marked → BodiesCode Item
 strip_bodies bodies n s l f = strip (bodies n s l f)

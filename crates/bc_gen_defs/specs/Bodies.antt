@@ -47,7 +47,7 @@ over coding levels bodies r target f = let x = fill (λ i. i) levels bodies (cod
 
 -- what holds at the beginning of a body: RESULTIS jumps to l
 abbrev pub body_exits : ℕ → Exits
-body_exits l = record { broken = 0; looped = 0; cases = 0; result = l; labels = λ k. 0; case_of = λ k. 0; default_of = 0 }
+body_exits l = record { broken = 0; looped = 0; cases = 0; result = l; labels = λ k. 0 }
 
 -- without RESULTIS its value is 0
 abbrev pub emit_valof : {X : Type 0} → (Item → X) → Roots X → Block → BodiesCode X

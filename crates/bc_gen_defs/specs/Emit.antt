@@ -23,16 +23,13 @@ Code X = List X × ℕ
 abbrev pub Roots : Type 0 → Type 0
 Roots X = Root → (target first : ℕ) → Code X
 
--- the labels to which BREAK, LOOP, ENDCASE and RESULTIS jump, and those of the source's labels, of the cases and
--- of the default
+-- the labels to which BREAK, LOOP, ENDCASE and RESULTIS jump, and those of the source's labels
 pub record Exits : Type 0 where
   pub broken : ℕ
   pub looped : ℕ
   pub cases : ℕ
   pub result : ℕ
   pub labels : ℕ → ℕ
-  pub case_of : ℕ → ℕ
-  pub default_of : ℕ
 
 abbrev pub jump : ℕ → Item
 jump l = Operation functions.Jump false bases.Label l
@@ -58,14 +55,7 @@ labels_in (case k is) = labels_in is
 labels_in (default is) = labels_in is
 labels_in (label k is) = labels_in is + 1
 
--- a SWITCHON takes a label for each CASE and DEFAULT, in order
-abbrev pub cased : Items → ℕ → (without : ℕ) → ℕ → ℕ
-cased no_item f without v = without
-cased (command c is) f without v = cased is f without v
-cased (case k is) f without v = cond (k == v) f (cased is (f + 1) without v)
-cased (default is) f without v = cased is (f + 1) without v
-cased (label k is) f without v = cased is f without v
-
+-- a SWITCHON takes a label for each CASE and DEFAULT, in order, the first of them f; that of the first DEFAULT
 abbrev pub defaulted : Items → ℕ → (without : ℕ) → ℕ
 defaulted no_item f without = without
 defaulted (command c is) f without = defaulted is f without
@@ -87,13 +77,13 @@ entries_in (case k is) = entries_in is + 1
 entries_in (default is) = entries_in is + 1
 entries_in (label k is) = entries_in is
 
--- a value and an address for each CASE
-abbrev pub table_of : {X : Type 0} → (Item → X) → Items → (ℕ → ℕ) → List X
-table_of of no_item at = []
-table_of of (command c is) at = table_of of is at
-table_of of (case k is) at = of (Data k) ∷ of (DataLabel (at k)) ∷ table_of of is at
-table_of of (default is) at = table_of of is at
-table_of of (label k is) at = table_of of is at
+-- a value and an address for each CASE, where the first CASE or DEFAULT has label f
+abbrev pub table_of : {X : Type 0} → (Item → X) → Items → (f : ℕ) → List X
+table_of of no_item f = []
+table_of of (command c is) f = table_of of is f
+table_of of (case k is) f = of (Data k) ∷ of (DataLabel f) ∷ table_of of is (f + 1)
+table_of of (default is) f = table_of of is (f + 1)
+table_of of (label k is) f = table_of of is f
 
 -- the variable with its cell at offset k, at level s
 abbrev pub emit_variable : {X : Type 0} → Roots X → Variable → (k s f : ℕ) → Code X
@@ -157,14 +147,10 @@ abbrev mutual
       (i.0 ++ (n.0 ++ of (Label f) ∷ (t.0 ++ (x.0 ++ of (Label (f + 2)) ∷ (u.0 ++ of (jump f) ∷ of (Label (f + 1)) ∷ [])))), u.1)
   emit of roots (commands.SwitchOn e is) s E f =
       let v = roots (Value s e) 0 (f + 1 + entries_in is) in
-      let E1 = record E {
-        cases = f;
-        labels = labelled is v.1 E.labels;
-        case_of = cased is (f + 1) (defaulted is (f + 1) f);
-        default_of = defaulted is (f + 1) f;
-      } in
-      let x = emit_items of roots is s E1 (v.1 + labels_in is) in
-      (v.0 ++ (of (execute 23) ∷ of (Data (cases_in is)) ∷ of (DataLabel E1.default_of) ∷ (table_of of is E1.case_of ++ (x.0 ++ of (Label f) ∷ []))), x.1)
+      let E1 = record E { cases = f; labels = labelled is v.1 E.labels } in
+      let x = emit_items of roots is s E1 (f + 1) (v.1 + labels_in is) in
+      let at_default = of (DataLabel (defaulted is (f + 1) f)) in
+      (v.0 ++ (of (execute 23) ∷ of (Data (cases_in is)) ∷ at_default ∷ (table_of of is (f + 1) ++ (x.0 ++ of (Label f) ∷ []))), x.1)
   emit of roots commands.Break s E f = (of (jump E.broken) ∷ [], f)
   emit of roots commands.Loop s E f = (of (jump E.looped) ∷ [], f)
   emit of roots commands.EndCase s E f = (of (jump E.cases) ∷ [], f)
@@ -178,15 +164,16 @@ abbrev mutual
   pub emit_block : {X : Type 0} → (Item → X) → Roots X → Block → (s : ℕ) → Exits → (f : ℕ) → Code X
   emit_block of roots (block ds is) s E f =
       let d = emit_declarations roots ds s (f + labels_in is) in
-      let x = emit_items of roots is (s + cells_declared ds) (record E { labels = labelled is f E.labels }) d.1 in
+      let x = emit_items of roots is (s + cells_declared ds) (record E { labels = labelled is f E.labels }) 0 d.1 in
       (d.0 ++ x.0, x.1)
 
-  pub emit_items : {X : Type 0} → (Item → X) → Roots X → Items → (s : ℕ) → Exits → (f : ℕ) → Code X
-  emit_items of roots no_item s E f = ([], f)
-  emit_items of roots (command c is) s E f =
+  -- the items of a list, whose first CASE or DEFAULT has label first; the list of a block has none
+  pub emit_items : {X : Type 0} → (Item → X) → Roots X → Items → (s : ℕ) → Exits → (first f : ℕ) → Code X
+  emit_items of roots no_item s E first f = ([], f)
+  emit_items of roots (command c is) s E first f =
       let x = emit of roots c s E f in
-      let y = emit_items of roots is s E x.1 in
+      let y = emit_items of roots is s E first x.1 in
       (x.0 ++ y.0, y.1)
-  emit_items of roots (case k is) s E f = let x = emit_items of roots is s E f in (of (Label (E.case_of k)) ∷ x.0, x.1)
-  emit_items of roots (default is) s E f = let x = emit_items of roots is s E f in (of (Label E.default_of) ∷ x.0, x.1)
-  emit_items of roots (label l is) s E f = let x = emit_items of roots is s E f in (of (Label (E.labels l)) ∷ x.0, x.1)
+  emit_items of roots (case k is) s E first f = let x = emit_items of roots is s E (first + 1) f in (of (Label first) ∷ x.0, x.1)
+  emit_items of roots (default is) s E first f = let x = emit_items of roots is s E (first + 1) f in (of (Label first) ∷ x.0, x.1)
+  emit_items of roots (label l is) s E first f = let x = emit_items of roots is s E first f in (of (Label (E.labels l)) ∷ x.0, x.1)

@@ -19,7 +19,7 @@ roots r target first = (root target first, first + 1)
 
 -- exits that are told apart
 abbrev around : Exits
-around = record { broken = 91; looped = 92; cases = 93; result = 94; labels = λ k. 95; case_of = λ k. 96; default_of = 97 }
+around = record { broken = 91; looped = 92; cases = 93; result = 94; labels = λ k. 95 }
 
 -- with the next free offset 2 and the next free label 5
 abbrev code : Command → Code Item

@@ -1,6 +1,5 @@
 -- The code of commands takes its labels in turn, and speaks of these and of its exits.
-use Rattle.std.proofs.Common.{◌≡◌, ℕ, ◌+◌, ◌≤◌, ◌<◌, ◌&&◌, inr, true, false, not, List, [], ◌∷◌, ◌++◌, refl, arith}
-use Rattle.std.specs.Prelude.{nat_le}
+use Rattle.std.proofs.Common.{◌≡◌, ℕ, ◌+◌, ◌≤◌, ◌<◌, ◌&&◌, true, false, not, List, [], ◌∷◌, ◌++◌, refl, arith}
 use Rattle.bc_text_items.specs.declared.item.Item.{Item}
 use Rattle.bc_text_items.specs.declared.item.Item.TheVariants.{Label, Data, DataLabel}
 use Rattle.bc_core.specs.Tree.{Frame, Value, Test, Assign}
@@ -8,10 +7,10 @@ use Rattle.bc_core.specs.Commands.{Variable, Initial, Vector, Command, Block, bl
 use Rattle.bc_core.specs.Commands as commands
 use Rattle.bc_core.specs.Level.{cells_of, cells_of_all, cells_declared, level_in_for}
 use Rattle.bc_core.specs.Command.{step_of_for}
-use Rattle.bc_core.specs.WellFormed.{Around, Jumps, root_fits, assignment_fits, variables_fit, declarations_fit, are_distinct, labels_of, has_entries, in_a_loop, in_list, command_fits, block_fits, items_fit, cases_of, defaults_in, entries_differ}
-use Rattle.bc_gen_defs.specs.Emit.{Code, Roots, Exits, jump, execute, zero_item, labelled, labels_in, cased, defaulted, cases_in, entries_in, table_of, emit_variable, emit_variables, emit_declarations, end_of_for, emit, emit_block, emit_items}
+use Rattle.bc_core.specs.WellFormed.{Around, Jumps, root_fits, assignment_fits, variables_fit, declarations_fit, are_distinct, labels_of, has_entries, in_a_loop, in_list, command_fits, block_fits, items_fit, entries_differ}
+use Rattle.bc_gen_defs.specs.Emit.{Code, Roots, Exits, jump, execute, zero_item, labelled, labels_in, defaulted, cases_in, entries_in, table_of, emit_variable, emit_variables, emit_declarations, end_of_for, emit, emit_block, emit_items}
 use Rattle.bc_gen_labels.proofs.Counts.{at, stands, stands_both}
-use Rattle.bc_gen_labels.proofs.Fresh.{left_true, right_true, not_true, owed_labels, owed_cases, labels_fresh, cases_fresh, no_cases, defaulted_within, cased_within}
+use Rattle.bc_gen_labels.proofs.Fresh.{left_true, right_true, not_true, owed_labels, owed_cases, labels_fresh, cases_fresh, no_cases, defaulted_within}
 use Rattle.bc_gen_labels.proofs.Speaking.{In, Speaks, both, nothing, item}
 use Rattle.bc_gen_labels.proofs.Runs.{Run, none, behind, mark, empty, alike, close_one, close_two, close_three, close_list, same_owed, Sound, SoundRoots, Allowed, in_loop, in_a_list, in_a_switch, root_names, sides_name}
 
@@ -40,24 +39,24 @@ nothing_there f = record { up = omega arith; run = empty f; speaks = λ n q l u.
 pub only : {Q : ℕ → Type 0} (f : ℕ) (xs : List Item) → ((k : ℕ) → stands k xs ≡ 0) → ((n : ℕ) → Q n → Speaks n xs) → Sound Q none f (xs, f)
 only f xs e h = record { up = omega arith; run = alike xs [] e (empty f); speaks = λ n q l u. h n q }
 
-table_plain : (is : Items) (at : ℕ → ℕ) (k : ℕ) → stands k (table_of (λ i. i) is at) ≡ 0
-table_plain no_item at k = refl
-table_plain (command c is) at k = table_plain is at k
-table_plain (case v is) at k = table_plain is at k
-table_plain (default is) at k = table_plain is at k
-table_plain (label l is) at k = table_plain is at k
+table_plain : (is : Items) (first : ℕ) (k : ℕ) → stands k (table_of (λ i. i) is first) ≡ 0
+table_plain no_item first k = refl
+table_plain (command c is) first k = table_plain is first k
+table_plain (case v is) first k = table_plain is (first + 1) k
+table_plain (default is) first k = table_plain is (first + 1) k
+table_plain (label l is) first k = table_plain is first k
 
-behind_table : (is : Items) (at : ℕ → ℕ) (xs : List Item) (k : ℕ) → stands k (table_of (λ i. i) is at ++ xs) ≡ stands k xs
-behind_table is at xs k = by (stands k (table_of (λ i. i) is at)) (stands k xs) _ (stands_both k (table_of (λ i. i) is at) xs) (table_plain is at k) where
+behind_table : (is : Items) (first : ℕ) (xs : List Item) (k : ℕ) → stands k (table_of (λ i. i) is first ++ xs) ≡ stands k xs
+behind_table is first xs k = by (stands k (table_of (λ i. i) is first)) (stands k xs) _ (stands_both k (table_of (λ i. i) is first) xs) (table_plain is first k) where
   by : (a b c : ℕ) → c ≡ a + b → a ≡ 0 → c ≡ b
   by a b c h i = omega arith
 
-table_speaks : {n : ℕ} (is : Items) (at : ℕ → ℕ) → ((v : ℕ) → In n (at v)) → Speaks n (table_of (λ i. i) is at)
-table_speaks no_item at h = nothing
-table_speaks (command c is) at h = table_speaks is at h
-table_speaks (case v is) at h = item (Data v) _ tt (item (DataLabel (at v)) _ (h v) (table_speaks is at h))
-table_speaks (default is) at h = table_speaks is at h
-table_speaks (label l is) at h = table_speaks is at h
+table_speaks : {n : ℕ} (is : Items) (first : ℕ) → 1 ≤ first → first + entries_in is ≤ n → Speaks n (table_of (λ i. i) is first)
+table_speaks no_item first l h = nothing
+table_speaks (command c is) first l h = table_speaks is first l h
+table_speaks (case v is) first l h = item (Data v) _ tt (item (DataLabel first) _ (l, omega arith) (table_speaks is (first + 1) (omega arith) (omega arith)))
+table_speaks (default is) first l h = table_speaks is (first + 1) (omega arith) (omega arith)
+table_speaks (label k is) first l h = table_speaks is first l h
 
 between : (f g x n : ℕ) → 1 ≤ f → g ≤ n → (f ≤ x) × (x < g) → In n x
 between f g x n l u h = let h0 = h.0 in let h1 = h.1 in (omega arith, omega arith)
@@ -225,45 +224,41 @@ module _ (A : Around) (roots : Roots Item) (r : SoundRoots A.places roots) where
         let g = f + 1 + entries_in is in
         let v = roots (Value s e) 0 g in
         let D = defaulted is (f + 1) f in
-        let K = cased is (f + 1) D in
-        let E1 = record E { cases = f; labels = labelled is v.1 E.labels; case_of = K; default_of = D } in
+        let E1 = record E { cases = f; labels = labelled is v.1 E.labels } in
         let J1 = record J { in_cases = true } in
         let v1 = v.1 + labels_in is in
-        let x = emit_items (λ i. i) roots is s E1 v1 in
+        let x = emit_items (λ i. i) roots is s E1 (f + 1) v1 in
         let fe = root_fits A e u in
         let fl = are_distinct (labels_of is) in
         let fi = items_fit A (in_list is J1) is u in
         let fd = entries_differ is in
         let before = left_true (fe && fl && fd) fi h in
         let front = left_true (fe && fl) fd before in
-        let dc = are_distinct (cases_of is) in
-        let dd = nat_le (defaults_in is) 1 in
-        let few = right_true (fe && fl) fd before in
         let hv = r (Value s e) 0 g in
-        let hx = items_sound is (in_list is J1) u (right_true (fe && fl && fd) fi h) s E1 v1 in
+        let hx = items_sound is (in_list is J1) u (right_true (fe && fl && fd) fi h) s E1 (f + 1) v1 in
         let v_up : g ≤ v.1 = hv.up in
         let x_up : v1 ≤ x.1 = hx.up in
         let ol : ℕ → ℕ = λ k. owed_labels (labelled is v.1 E.labels) is k in
-        let oc : ℕ → ℕ = λ k. owed_cases K D is k in
+        let oc : ℕ → ℕ = λ k. owed_cases (f + 1) is k in
         let last = x.0 ++ Label f ∷ [] in
-        let table = table_of (λ i. i) is K in
+        let table = table_of (λ i. i) is (f + 1) in
         let tail = execute 23 ∷ Data (cases_in is) ∷ DataLabel D ∷ (table ++ last) in
         let all : Run (λ k. (ol k + oc k) + (at f k + 0)) v1 x.1 last = behind x.0 _ hx.run (mark f [] (empty x.1)) in
         let cases : Run (λ k. oc k + at f k) v.1 x.1 last =
         close_list v.1 (labels_in is) ol (λ k. oc k + at f k) last all (labels_fresh is v.1 E.labels (labelled is v.1 E.labels) (right_true fe fl front) (λ l i. refl)) (λ k. omega arith) in
-        let whole = behind v.0 tail hv.run (alike tail last (λ k. behind_table is K last k) cases) in
+        let whole = behind v.0 tail hv.run (alike tail last (λ k. behind_table is (f + 1) last k) cases) in
         record {
           up = omega arith;
           run = close_one f _ (close_list (f + 1) (entries_in is) oc (λ k. at f k) _ whole
-              (cases_fresh is (f + 1) D f K D (left_true dc dd few) (right_true dc dd few) (λ m i. refl) (inr refl)) (λ k. omega arith)) (λ k. refl);
+              (λ k. cases_fresh is (f + 1) k) (λ k. omega arith)) (λ k. refl);
           speaks = λ n a l m.
               let begin : In n f = (l, omega arith) in
               let within = defaulted_within is (f + 1) f (omega arith) in
               let room : g ≤ n = omega arith in
               both v.0 _ (hv.speaks n (a.places, root_names A n a.places e u (left_true fe fl front), tt) (omega arith) (omega arith))
               (item (execute 23) _ tt (item (Data (cases_in is)) _ tt (item (DataLabel D) _ (between f g D n l room within)
-              (both table _ (table_speaks is K (λ w. between f g (K w) n l room (cased_within is (f + 1) f D w (omega arith) within)))
-              (both x.0 _ (hx.speaks n (in_a_switch is f v.1 K D begin (omega arith) (omega arith) a) (omega arith) m) (item (Label f) [] tt nothing))))));
+              (both table _ (table_speaks is (f + 1) (omega arith) room)
+              (both x.0 _ (hx.speaks n (in_a_switch is f v.1 begin (omega arith) (omega arith) a) (omega arith) m) (item (Label f) [] tt nothing))))));
         }
     command_sound commands.Break J u h s E f = only f (jump E.broken ∷ []) (λ k. refl) (λ n a. item (jump E.broken) [] (a.broken h) nothing)
     command_sound commands.Loop J u h s E f = only f (jump E.looped ∷ []) (λ k. refl) (λ n a. item (jump E.looped) [] (a.looped h) nothing)
@@ -283,7 +278,7 @@ module _ (A : Around) (roots : Roots Item) (r : SoundRoots A.places roots) where
         let m = f + labels_in is in
         let D = emit_declarations roots ds s m in
         let E1 = record E { labels = labelled is f E.labels } in
-        let x = emit_items (λ i. i) roots is (s + cells_declared ds) E1 D.1 in
+        let x = emit_items (λ i. i) roots is (s + cells_declared ds) E1 0 D.1 in
         let u1 = u + cells_declared ds in
         let fd = declarations_fit A ds u in
         let fe = not (has_entries is) in
@@ -292,10 +287,10 @@ module _ (A : Around) (roots : Roots Item) (r : SoundRoots A.places roots) where
         let front = left_true (fd && fe && fl) fi h in
         let begin = left_true (fd && fe) fl front in
         let hd = declarations_sound ds u (left_true fd fe begin) s m in
-        let hx = items_sound is (in_list is J) u1 (right_true (fd && fe && fl) fi h) (s + cells_declared ds) E1 D.1 in
+        let hx = items_sound is (in_list is J) u1 (right_true (fd && fe && fl) fi h) (s + cells_declared ds) E1 0 D.1 in
         let d_up : m ≤ D.1 = hd.up in
         let x_up : D.1 ≤ x.1 = hx.up in
-        let none_here = no_cases is E.case_of E.default_of (not_true (has_entries is) (right_true fd fe begin)) in
+        let none_here = no_cases is 0 (not_true (has_entries is) (right_true fd fe begin)) in
         record {
           up = omega arith;
           run = close_list f (labels_in is) (λ k. owed_labels (labelled is f E.labels) is k) none _ (behind D.0 x.0 hd.run hx.run)
@@ -303,24 +298,24 @@ module _ (A : Around) (roots : Roots Item) (r : SoundRoots A.places roots) where
           speaks = λ n a l q. both D.0 x.0 (hd.speaks n a.places (omega arith) (omega arith)) (hx.speaks n (in_a_list is f l (omega arith) a) (omega arith) q);
         }
 
-    items_sound : (is : Items) (J : Jumps) (u : ℕ) → items_fit A J is u ≡ true → (s : ℕ) (E : Exits) (f : ℕ)
-        → Sound (Allowed A J E) (λ k. owed_labels E.labels is k + owed_cases E.case_of E.default_of is k) f (emit_items (λ i. i) roots is s E f)
-    items_sound no_item J u h s E f = record { up = omega arith; run = same_owed _ [] (empty f) (λ k. refl); speaks = λ n a l m. nothing }
-    items_sound (command c is) J u h s E f =
+    items_sound : (is : Items) (J : Jumps) (u : ℕ) → items_fit A J is u ≡ true → (s : ℕ) (E : Exits) (first f : ℕ)
+        → Sound (Allowed A J E) (λ k. owed_labels E.labels is k + owed_cases first is k) f (emit_items (λ i. i) roots is s E first f)
+    items_sound no_item J u h s E first f = record { up = omega arith; run = same_owed _ [] (empty f) (λ k. refl); speaks = λ n a l m. nothing }
+    items_sound (command c is) J u h s E first f =
         let x = emit (λ i. i) roots c s E f in
-        let y = emit_items (λ i. i) roots is s E x.1 in
+        let y = emit_items (λ i. i) roots is s E first x.1 in
         let fc = command_fits A J c u in
         let fi = items_fit A J is u in
-        joined x y (command_sound c J u (left_true fc fi h) s E f) (items_sound is J u (right_true fc fi h) s E x.1)
-    items_sound (case v is) J u h s E f =
-        let x = emit_items (λ i. i) roots is s E f in
-        let hx = items_sound is J u h s E f in
-        record { up = hx.up; run = same_owed _ _ (mark (E.case_of v) x.0 hx.run) (λ k. omega arith); speaks = λ n a l m. item (Label (E.case_of v)) x.0 tt (hx.speaks n a l m) }
-    items_sound (default is) J u h s E f =
-        let x = emit_items (λ i. i) roots is s E f in
-        let hx = items_sound is J u h s E f in
-        record { up = hx.up; run = same_owed _ _ (mark E.default_of x.0 hx.run) (λ k. omega arith); speaks = λ n a l m. item (Label E.default_of) x.0 tt (hx.speaks n a l m) }
-    items_sound (label v is) J u h s E f =
-        let x = emit_items (λ i. i) roots is s E f in
-        let hx = items_sound is J u h s E f in
+        joined x y (command_sound c J u (left_true fc fi h) s E f) (items_sound is J u (right_true fc fi h) s E first x.1)
+    items_sound (case v is) J u h s E first f =
+        let x = emit_items (λ i. i) roots is s E (first + 1) f in
+        let hx = items_sound is J u h s E (first + 1) f in
+        record { up = hx.up; run = same_owed _ _ (mark first x.0 hx.run) (λ k. omega arith); speaks = λ n a l m. item (Label first) x.0 tt (hx.speaks n a l m) }
+    items_sound (default is) J u h s E first f =
+        let x = emit_items (λ i. i) roots is s E (first + 1) f in
+        let hx = items_sound is J u h s E (first + 1) f in
+        record { up = hx.up; run = same_owed _ _ (mark first x.0 hx.run) (λ k. omega arith); speaks = λ n a l m. item (Label first) x.0 tt (hx.speaks n a l m) }
+    items_sound (label v is) J u h s E first f =
+        let x = emit_items (λ i. i) roots is s E first f in
+        let hx = items_sound is J u h s E first f in
         record { up = hx.up; run = same_owed _ _ (mark (E.labels v) x.0 hx.run) (λ k. omega arith); speaks = λ n a l m. item (Label (E.labels v)) x.0 tt (hx.speaks n a l m) }

@@ -1,10 +1,10 @@
 -- The labels that a list takes for its labels and entries stand in it, each once.
-use Rattle.std.proofs.Common.{◌≡◌, ◌∙◌, refl, sym, ap, ℕ, suc, ◌+◌, ◌≤◌, ◌<◌, ◌==◌, Bool, true, false, not, ◌&&◌, ◌||◌, List, ◌++◌, ◌⊎◌, inl, inr, arith}
-use Rattle.std.specs.Prelude.{cond, nat_le}
+use Rattle.std.proofs.Common.{◌≡◌, ◌∙◌, refl, sym, ap, ℕ, ◌+◌, ◌≤◌, ◌<◌, ◌==◌, Bool, true, false, not, ◌&&◌, ◌||◌, List, ◌++◌, ◌⊎◌, inl, inr, arith}
+use Rattle.std.specs.Prelude.{cond}
 use Rattle.std.proofs.lemmas.Bool.Decides.{nat_tests}
 use Rattle.bc_core.specs.Commands.{Items, no_item, command, case, default, label}
-use Rattle.bc_core.specs.WellFormed.{has, are_distinct, labels_of, has_entries, cases_of, defaults_in}
-use Rattle.bc_gen_defs.specs.Emit.{labelled, labels_in, cased, defaulted, entries_in}
+use Rattle.bc_core.specs.WellFormed.{has, are_distinct, labels_of, has_entries}
+use Rattle.bc_gen_defs.specs.Emit.{labelled, labels_in, defaulted, entries_in}
 use Rattle.bc_gen_labels.proofs.Counts.{at, below, next_below}
 
 pub left_true : (a b : Bool) → (a && b) ≡ true → a ≡ true
@@ -53,12 +53,13 @@ owed_labels label_of (case v is) k = owed_labels label_of is k
 owed_labels label_of (default is) k = owed_labels label_of is k
 owed_labels label_of (label l is) k = at (label_of l) k + owed_labels label_of is k
 
-abbrev pub owed_cases : (ℕ → ℕ) → ℕ → Items → ℕ → ℕ
-owed_cases case_of default_of no_item k = 0
-owed_cases case_of default_of (command c is) k = owed_cases case_of default_of is k
-owed_cases case_of default_of (case v is) k = at (case_of v) k + owed_cases case_of default_of is k
-owed_cases case_of default_of (default is) k = at default_of k + owed_cases case_of default_of is k
-owed_cases case_of default_of (label l is) k = owed_cases case_of default_of is k
+-- its entries, the first of which has label f
+abbrev pub owed_cases : (f : ℕ) → Items → ℕ → ℕ
+owed_cases f no_item k = 0
+owed_cases f (command c is) k = owed_cases f is k
+owed_cases f (case v is) k = at f k + owed_cases (f + 1) is k
+owed_cases f (default is) k = at f k + owed_cases (f + 1) is k
+owed_cases f (label l is) k = owed_cases f is k
 
 nothing_owed : (b c : ℕ) → b ≡ c → 0 + b ≡ c
 nothing_owed b c h = omega arith
@@ -80,40 +81,26 @@ labels_fresh (label l is) f outer label_of d h k =
     one_owed (at (label_of l) k) (at f k) (owed_labels label_of is k) (below k f) (below k (f + 1)) (below k (f + 1 + labels_in is)) (below k (f + (labels_in is + 1)))
     (ap (λ m. at m k) here) rest (next_below k f) (ap (below k) (omega arith))
 
--- at most one DEFAULT, so none behind it
-none_behind : (n : ℕ) → nat_le (suc n) 1 ≡ true → n ≡ 0
-none_behind n h = grind (arith, nat_tests)
+-- an entry, and those behind it
+entry_fresh : (is : Items) (f k : ℕ) → owed_cases (f + 1) is k + below k (f + 1) ≡ below k (f + 1 + entries_in is) → at f k + owed_cases (f + 1) is k + below k f ≡ below k (f + (entries_in is + 1))
+entry_fresh is f k rest =
+    one_owed (at f k) (at f k) (owed_cases (f + 1) is k) (below k f) (below k (f + 1)) (below k (f + 1 + entries_in is)) (below k (f + (entries_in is + 1)))
+    refl rest (next_below k f) (ap (below k) (omega arith))
 
-few : (n : ℕ) → n ≡ 0 → nat_le n 1 ≡ true
-few n h = grind (arith, nat_tests)
-
-pub cases_fresh : (is : Items) (f without first : ℕ) (case_of : ℕ → ℕ) (default_of : ℕ) → are_distinct (cases_of is) ≡ true → nat_le (defaults_in is) 1 ≡ true
-    → ((v : ℕ) → has (cases_of is) v ≡ true → case_of v ≡ cased is f without v) → ((defaults_in is ≡ 0) ⊎ (default_of ≡ defaulted is f first))
-    → (k : ℕ) → owed_cases case_of default_of is k + below k f ≡ below k (f + entries_in is)
-cases_fresh no_item f without first case_of default_of d o h i k = nothing_owed (below k f) (below k (f + 0)) (ap (below k) (omega arith))
-cases_fresh (command c is) f without first case_of default_of d o h i k = cases_fresh is f without first case_of default_of d o h i k
-cases_fresh (case v is) f without first case_of default_of d o h i k =
-    let fresh = not_true (has (cases_of is) v) (left_true (not (has (cases_of is) v)) (are_distinct (cases_of is)) d) in
-    let here : case_of v ≡ f = h v (or_left (v == v) (has (cases_of is) v) (same_number v)) ∙ first_case (v == v) f (cased is (f + 1) without v) (same_number v) in
-    let rest = cases_fresh is (f + 1) without first case_of default_of (right_true (not (has (cases_of is) v)) (are_distinct (cases_of is)) d) o
-    (λ m j. h m (or_right (v == m) (has (cases_of is) m) j) ∙ second_case (v == m) f (cased is (f + 1) without m) (other (cases_of is) v m fresh j)) i k in
-    one_owed (at (case_of v) k) (at f k) (owed_cases case_of default_of is k) (below k f) (below k (f + 1)) (below k (f + 1 + entries_in is)) (below k (f + (entries_in is + 1)))
-    (ap (λ m. at m k) here) rest (next_below k f) (ap (below k) (omega arith))
-cases_fresh (default is) f without first case_of default_of d o h (inl e) k = absurd (omega arith)
-cases_fresh (default is) f without first case_of default_of d o h (inr e) k =
-    let none = none_behind (defaults_in is) o in
-    let rest = cases_fresh is (f + 1) without first case_of default_of d (few (defaults_in is) none) h (inl none) k in
-    one_owed (at default_of k) (at f k) (owed_cases case_of default_of is k) (below k f) (below k (f + 1)) (below k (f + 1 + entries_in is)) (below k (f + (entries_in is + 1)))
-    (ap (λ m. at m k) e) rest (next_below k f) (ap (below k) (omega arith))
-cases_fresh (label l is) f without first case_of default_of d o h i k = cases_fresh is f without first case_of default_of d o h i k
+pub cases_fresh : (is : Items) (f k : ℕ) → owed_cases f is k + below k f ≡ below k (f + entries_in is)
+cases_fresh no_item f k = nothing_owed (below k f) (below k (f + 0)) (ap (below k) (omega arith))
+cases_fresh (command c is) f k = cases_fresh is f k
+cases_fresh (case v is) f k = entry_fresh is f k (cases_fresh is (f + 1) k)
+cases_fresh (default is) f k = entry_fresh is f k (cases_fresh is (f + 1) k)
+cases_fresh (label l is) f k = cases_fresh is f k
 
 -- in the list of a block there are none
-pub no_cases : (is : Items) (case_of : ℕ → ℕ) (default_of : ℕ) → has_entries is ≡ false → (k : ℕ) → owed_cases case_of default_of is k ≡ 0
-no_cases no_item case_of default_of h k = refl
-no_cases (command c is) case_of default_of h k = no_cases is case_of default_of h k
-no_cases (case v is) case_of default_of h k = absurd (cc)
-no_cases (default is) case_of default_of h k = absurd (cc)
-no_cases (label l is) case_of default_of h k = no_cases is case_of default_of h k
+pub no_cases : (is : Items) (f : ℕ) → has_entries is ≡ false → (k : ℕ) → owed_cases f is k ≡ 0
+no_cases no_item f h k = refl
+no_cases (command c is) f h k = no_cases is f h k
+no_cases (case v is) f h k = absurd (cc)
+no_cases (default is) f h k = absurd (cc)
+no_cases (label l is) f h k = no_cases is f h k
 
 abbrev Between : ℕ → ℕ → ℕ → Type 0
 Between f g x = (f ≤ x) × (x < g)
@@ -145,23 +132,3 @@ defaulted_within (case v is) f without h =
     let i0 = i.0 in let i1 = i.1 in (i0, omega arith)
 defaulted_within (default is) f without h = (omega arith, omega arith)
 defaulted_within (label l is) f without h = defaulted_within is f without h
-
-either_within : (b : Bool) (low high x y : ℕ) → Between low high x → Between low high y → Between low high (cond b x y)
-either_within true low high x y h i = h
-either_within false low high x y h i = i
-
-later_within : (low f n x : ℕ) → Between low (f + 1 + n) x → Between low (f + (n + 1)) x
-later_within low f n x h = let h0 = h.0 in let h1 = h.1 in (h0, omega arith)
-
-sooner_within : (low f n x : ℕ) → Between low (f + (n + 1)) x → Between low (f + 1 + n) x
-sooner_within low f n x h = let h0 = h.0 in let h1 = h.1 in (h0, omega arith)
-
-pub cased_within : (is : Items) (f low without v : ℕ) → low ≤ f → Between low (f + entries_in is) without → Between low (f + entries_in is) (cased is f without v)
-cased_within no_item f low without v h w = w
-cased_within (command c is) f low without v h w = cased_within is f low without v h w
-cased_within (case m is) f low without v h w =
-    either_within (m == v) low (f + (entries_in is + 1)) f (cased is (f + 1) without v) (h, omega arith)
-    (later_within low f (entries_in is) _ (cased_within is (f + 1) low without v (omega arith) (sooner_within low f (entries_in is) without w)))
-cased_within (default is) f low without v h w =
-    later_within low f (entries_in is) _ (cased_within is (f + 1) low without v (omega arith) (sooner_within low f (entries_in is) without w))
-cased_within (label l is) f low without v h w = cased_within is f low without v h w

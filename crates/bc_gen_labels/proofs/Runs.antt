@@ -108,9 +108,9 @@ pub in_a_list : {A : Around} {J : Jumps} {E : Exits} {n : ℕ} (is : Items) (f :
 in_a_list {J = J} {E = E} {n = n} is f low high a =
     record { places = a.places; broken = a.broken; looped = a.looped; cases = a.cases; result = a.result; labels = list_labels is f n E.labels J.labels low high a.labels }
 
-pub in_a_switch : {A : Around} {J : Jumps} {E : Exits} {n : ℕ} (is : Items) (f g : ℕ) (case_of : ℕ → ℕ) (default_of : ℕ) → In n f → 1 ≤ g → g + labels_in is ≤ n → Allowed A J E n
-    → Allowed A (in_list is (record J { in_cases = true })) (record E { cases = f; labels = labelled is g E.labels; case_of = case_of; default_of = default_of }) n
-in_a_switch {J = J} {E = E} {n = n} is f g case_of default_of h low high a =
+pub in_a_switch : {A : Around} {J : Jumps} {E : Exits} {n : ℕ} (is : Items) (f g : ℕ) → In n f → 1 ≤ g → g + labels_in is ≤ n → Allowed A J E n
+    → Allowed A (in_list is (record J { in_cases = true })) (record E { cases = f; labels = labelled is g E.labels }) n
+in_a_switch {J = J} {E = E} {n = n} is f g h low high a =
     record { places = a.places; broken = a.broken; looped = a.looped; cases = λ i. h; result = a.result; labels = list_labels is g n E.labels J.labels low high a.labels }
 
 pub root_names : (A : Around) (n : ℕ) → A.places < n → (e : Exp) (s : ℕ) → root_fits A e s ≡ true → Names n e

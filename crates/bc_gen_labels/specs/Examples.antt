@@ -1,5 +1,6 @@
--- Worked examples: the labels of a section. Where a SWITCHON has a CASE twice, or a second DEFAULT, a label stands twice; no resolved section is such a one.
-use Rattle.std.specs.Prelude.{◌≡◌, ℕ, true, false, List, [], ◌∷◌, Some, refl}
+-- Worked examples: the labels of a section. Each CASE and DEFAULT has one of its own, also where a SWITCHON has a CASE twice. A label of the source that
+-- stands twice in a list has its label twice; no resolved section is such a one.
+use Rattle.std.specs.Prelude.{◌≡◌, ℕ, false, List, [], ◌∷◌, Some, refl}
 use Rattle.bc_core.specs.Tree.{Num}
 use Rattle.bc_core.specs.Commands.{block, Items, no_item, command, case, default, label, Core, Does}
 use Rattle.bc_core.specs.Commands as commands
@@ -33,20 +34,18 @@ stand_once = refl
 pub spoken_of : uses_of (section_items no_code (switch (case 3 (command commands.EndCase (default no_item))))) ≡ 4 ∷ 3 ∷ 2 ∷ 1 ∷ []
 spoken_of = refl
 
-abbrev case_twice : Core
-case_twice = switch (case 3 (case 3 no_item))
+pub two_cases : labels (switch (case 3 (case 3 no_item))) ≡ 1 ∷ 3 ∷ 4 ∷ 2 ∷ []
+two_cases = refl
 
-pub twice_is_no_core : is_core case_twice ≡ false
+-- control comes to the first of two
+pub two_defaults : uses_of (section_items no_code (switch (default (default no_item)))) ≡ 3 ∷ 1 ∷ []
+two_defaults = refl
+
+abbrev label_twice : Core
+label_twice = switch (label 7 (label 7 no_item))
+
+pub twice_is_no_core : is_core label_twice ≡ false
 twice_is_no_core = refl
 
-pub label_twice : first_repeated (labels case_twice) ≡ Some 3
-label_twice = refl
-
-abbrev default_twice : Core
-default_twice = switch (default (default no_item))
-
-pub two_defaults_are_no_core : is_core default_twice ≡ false
-two_defaults_are_no_core = refl
-
-pub label_twice_by_defaults : first_repeated (labels default_twice) ≡ Some 3
-label_twice_by_defaults = refl
+pub stands_twice : first_repeated (labels label_twice) ≡ Some 3
+stands_twice = refl

@@ -13,7 +13,7 @@ use Rattle.bc_rules_defs.specs.declared.piece.Piece.{Piece}
 use Rattle.bc_rules_defs.specs.declared.piece.Piece.TheVariants as pieces
 use Rattle.bc_rules_defs.specs.Code.{root_code, root_labels}
 use Rattle.bc_rules_defs.specs.Entry.{Entry}
-use Rattle.bc_gen_defs.specs.Emit.{Code, Roots, Exits, zero_item, labelled, labels_in, cased, defaulted, entries_in, table_of, emit_variable, emit_variables, emit_declarations, end_of_for, emit, emit_block, emit_items}
+use Rattle.bc_gen_defs.specs.Emit.{Code, Roots, Exits, zero_item, labelled, labels_in, entries_in, table_of, emit_variable, emit_variables, emit_declarations, end_of_for, emit, emit_block, emit_items}
 use Rattle.bc_gen_defs.specs.Bodies.{BodiesCode, coding_of, fill, label_ahead, body_exits, emit_valof, bodies_from, emit_body, level_of}
 use Rattle.bc_gen_defs.specs.Section.{emit_routines}
 use Rattle.bc_gen_defs.specs.Entries.{Marked, Plain, Begins, entries_from, marked_over, marked_code}
@@ -48,12 +48,12 @@ last {rs = rs} h i = let b = both h i in record { is = b.is ∙ append-nil rs }
 item : {ps : List Marked} {rs : List Root} (i : Item) → Has ps rs → Has (Plain i ∷ ps) rs
 item i h = record { is = h.is }
 
-table_has : (is : Items) (at : ℕ → ℕ) → Has (table_of Plain is at) []
-table_has no_item at = none
-table_has (command c is) at = table_has is at
-table_has (case k is) at = item _ (item _ (table_has is at))
-table_has (default is) at = table_has is at
-table_has (label k is) at = table_has is at
+table_has : (is : Items) (first : ℕ) → Has (table_of Plain is first) []
+table_has no_item first = none
+table_has (command c is) first = table_has is first
+table_has (case k is) first = item _ (item _ (table_has is (first + 1)))
+table_has (default is) first = table_has is (first + 1)
+table_has (label k is) first = table_has is first
 
 record Counts (roots : Roots Marked) (of : Counted) : Type 0 where
   each : (r : Root) (t f : ℕ) → Has (roots r t f).0 (of r)
@@ -106,8 +106,8 @@ mutual
       (item _ (last (r.each (Assign s1 (step_of_for by s) (Frame s)) 0 x.1) (item _ (item _ none))))))))
   command_has roots of r (commands.SwitchOn e is) s E f =
       let v = roots (Value s e) 0 (f + 1 + entries_in is) in
-      let E1 = record E { cases = f; labels = labelled is v.1 E.labels; case_of = cased is (f + 1) (defaulted is (f + 1) f); default_of = defaulted is (f + 1) f } in
-      both (r.each (Value s e) 0 (f + 1 + entries_in is)) (item _ (item _ (item _ (both (table_has is E1.case_of) (last (items_have roots of r is s E1 (v.1 + labels_in is)) (item _ none))))))
+      let E1 = record E { cases = f; labels = labelled is v.1 E.labels } in
+      both (r.each (Value s e) 0 (f + 1 + entries_in is)) (item _ (item _ (item _ (both (table_has is (f + 1)) (last (items_have roots of r is s E1 (f + 1) (v.1 + labels_in is)) (item _ none))))))
   command_has roots of r commands.Break s E f = item _ none
   command_has roots of r commands.Loop s E f = item _ none
   command_has roots of r commands.EndCase s E f = item _ none
@@ -120,16 +120,16 @@ mutual
   block_has : (roots : Roots Marked) (of : Counted) → Counts roots of → (b : Block) (s : ℕ) (E : Exits) (f : ℕ) → Has (emit_block Plain roots b s E f).0 (roots_of_block of b s)
   block_has roots of r (block ds is) s E f =
       let d = emit_declarations roots ds s (f + labels_in is) in
-      both (declarations_have roots of r ds s (f + labels_in is)) (items_have roots of r is (s + cells_declared ds) (record E { labels = labelled is f E.labels }) d.1)
+      both (declarations_have roots of r ds s (f + labels_in is)) (items_have roots of r is (s + cells_declared ds) (record E { labels = labelled is f E.labels }) 0 d.1)
 
-  items_have : (roots : Roots Marked) (of : Counted) → Counts roots of → (is : Items) (s : ℕ) (E : Exits) (f : ℕ) → Has (emit_items Plain roots is s E f).0 (roots_of_items of is s)
-  items_have roots of r no_item s E f = none
-  items_have roots of r (command c is) s E f =
+  items_have : (roots : Roots Marked) (of : Counted) → Counts roots of → (is : Items) (s : ℕ) (E : Exits) (first f : ℕ) → Has (emit_items Plain roots is s E first f).0 (roots_of_items of is s)
+  items_have roots of r no_item s E first f = none
+  items_have roots of r (command c is) s E first f =
       let x = emit Plain roots c s E f in
-      both (command_has roots of r c s E f) (items_have roots of r is s E x.1)
-  items_have roots of r (case k is) s E f = item _ (items_have roots of r is s E f)
-  items_have roots of r (default is) s E f = item _ (items_have roots of r is s E f)
-  items_have roots of r (label l is) s E f = item _ (items_have roots of r is s E f)
+      both (command_has roots of r c s E f) (items_have roots of r is s E first x.1)
+  items_have roots of r (case k is) s E first f = item _ (items_have roots of r is s E (first + 1) f)
+  items_have roots of r (default is) s E first f = item _ (items_have roots of r is s E (first + 1) f)
+  items_have roots of r (label l is) s E first f = item _ (items_have roots of r is s E first f)
 
 -- ---- Bodies
 

@@ -8,7 +8,7 @@ use Rattle.bc_core.specs.Commands.{Variable, Initial, Vector, Command, Block, bl
 use Rattle.bc_core.specs.Commands as commands
 use Rattle.bc_core.specs.Level.{cells_of, cells_of_all, cells_declared, level_in_for}
 use Rattle.bc_core.specs.Command.{step_of_for}
-use Rattle.bc_gen_defs.specs.Emit.{Roots, Exits, labelled, labels_in, cased, defaulted, entries_in, cases_in, table_of, emit_variable, emit_variables, emit_declarations, end_of_for, emit, emit_block, emit_items, jump}
+use Rattle.bc_gen_defs.specs.Emit.{Roots, Exits, labelled, labels_in, defaulted, entries_in, cases_in, table_of, emit_variable, emit_variables, emit_declarations, end_of_for, emit, emit_block, emit_items, jump}
 use Rattle.bc_gen_defs.specs.Size.{Words, words_of_variable, words_of_variables, words_of_declarations, words_of_command, words_of_block, words_of_items}
 use Rattle.bc_gen_sizes.proofs.Takes.{Takes, takes_none, takes_both, takes_as, takes_operation, takes_label, takes_data, takes_address}
 
@@ -22,12 +22,12 @@ plain i = i
 pub takes_jump : (l : ℕ) {is : List Item} {n : ℕ} → Takes is n → Takes (jump l ∷ is) (2 + n)
 takes_jump l h = takes_operation functions.Jump false bases.Label l h
 
-table_takes : (is : Items) (at : ℕ → ℕ) → Takes (table_of plain is at) (2 * cases_in is)
-table_takes no_item at = takes_none
-table_takes (command c is) at = table_takes is at
-table_takes (case k is) at = takes_as (takes_data k (takes_address (at k) (table_takes is at))) (omega arith)
-table_takes (default is) at = table_takes is at
-table_takes (label k is) at = table_takes is at
+table_takes : (is : Items) (first : ℕ) → Takes (table_of plain is first) (2 * cases_in is)
+table_takes no_item first = takes_none
+table_takes (command c is) first = table_takes is first
+table_takes (case k is) first = takes_as (takes_data k (takes_address first (table_takes is (first + 1)))) (omega arith)
+table_takes (default is) first = table_takes is (first + 1)
+table_takes (label k is) first = table_takes is first
 
 variable_takes : (words : Words) (roots : Roots Item) → RootsTake words roots → (v : Variable) (k s f : ℕ) → Takes (emit_variable roots v k s f).0 (words_of_variable words v k s)
 variable_takes words roots r (Initial e) k s f = r.each (Assign s e (Frame k)) 0 f
@@ -80,9 +80,9 @@ mutual
       (takes_label (f + 2) (takes_both (r.each (Assign s1 (step_of_for by s) (Frame s)) 0 x.1) (takes_jump f (takes_label (f + 1) takes_none))))))))) (omega arith)
   command_takes words roots r (commands.SwitchOn e is) s E f =
       let v = roots (Value s e) 0 (f + 1 + entries_in is) in
-      let E1 = record E { cases = f; labels = labelled is v.1 E.labels; case_of = cased is (f + 1) (defaulted is (f + 1) f); default_of = defaulted is (f + 1) f } in
-      takes_as (takes_both (r.each (Value s e) 0 (f + 1 + entries_in is)) (takes_operation functions.Execute false bases.Number 23 (takes_data (cases_in is) (takes_address E1.default_of
-      (takes_both (table_takes is E1.case_of) (takes_both (items_take words roots r is s E1 (v.1 + labels_in is)) (takes_label f takes_none))))))) (omega arith)
+      let E1 = record E { cases = f; labels = labelled is v.1 E.labels } in
+      takes_as (takes_both (r.each (Value s e) 0 (f + 1 + entries_in is)) (takes_operation functions.Execute false bases.Number 23 (takes_data (cases_in is) (takes_address (defaulted is (f + 1) f)
+      (takes_both (table_takes is (f + 1)) (takes_both (items_take words roots r is s E1 (f + 1) (v.1 + labels_in is)) (takes_label f takes_none))))))) (omega arith)
   command_takes words roots r commands.Break s E f = takes_jump E.broken takes_none
   command_takes words roots r commands.Loop s E f = takes_jump E.looped takes_none
   command_takes words roots r commands.EndCase s E f = takes_jump E.cases takes_none
@@ -95,13 +95,13 @@ mutual
   pub block_takes : (words : Words) (roots : Roots Item) → RootsTake words roots → (b : Block) (s : ℕ) (E : Exits) (f : ℕ) → Takes (emit_block plain roots b s E f).0 (words_of_block words b s)
   block_takes words roots r (block ds is) s E f =
       let d = emit_declarations roots ds s (f + labels_in is) in
-      takes_both (declarations_take words roots r ds s (f + labels_in is)) (items_take words roots r is (s + cells_declared ds) (record E { labels = labelled is f E.labels }) d.1)
+      takes_both (declarations_take words roots r ds s (f + labels_in is)) (items_take words roots r is (s + cells_declared ds) (record E { labels = labelled is f E.labels }) 0 d.1)
 
-  items_take : (words : Words) (roots : Roots Item) → RootsTake words roots → (is : Items) (s : ℕ) (E : Exits) (f : ℕ) → Takes (emit_items plain roots is s E f).0 (words_of_items words is s)
-  items_take words roots r no_item s E f = takes_none
-  items_take words roots r (command c is) s E f =
+  items_take : (words : Words) (roots : Roots Item) → RootsTake words roots → (is : Items) (s : ℕ) (E : Exits) (first f : ℕ) → Takes (emit_items plain roots is s E first f).0 (words_of_items words is s)
+  items_take words roots r no_item s E first f = takes_none
+  items_take words roots r (command c is) s E first f =
       let x = emit plain roots c s E f in
-      takes_both (command_takes words roots r c s E f) (items_take words roots r is s E x.1)
-  items_take words roots r (case k is) s E f = takes_label (E.case_of k) (items_take words roots r is s E f)
-  items_take words roots r (default is) s E f = takes_label E.default_of (items_take words roots r is s E f)
-  items_take words roots r (label l is) s E f = takes_label (E.labels l) (items_take words roots r is s E f)
+      takes_both (command_takes words roots r c s E f) (items_take words roots r is s E first x.1)
+  items_take words roots r (case k is) s E first f = takes_label first (items_take words roots r is s E (first + 1) f)
+  items_take words roots r (default is) s E first f = takes_label first (items_take words roots r is s E (first + 1) f)
+  items_take words roots r (label l is) s E first f = takes_label (E.labels l) (items_take words roots r is s E first f)

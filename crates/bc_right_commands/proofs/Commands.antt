@@ -17,15 +17,15 @@ use Rattle.bc_text_items.specs.Sizes.{operation_size}
 use Rattle.bc_machine_defs.specs.Effect.{running}
 use Rattle.bc_right_steps.specs.Leads.{machine}
 use Rattle.bc_right_steps.proofs.Agreeing.{keeps_then, keeps_held, holds_up, holds_held}
-use Rattle.std.specs.Prelude.{slice_set}
+use Rattle.std.specs.Prelude.{cond, slice_set}
 use Rattle.std.proofs.lemmas.List.{get_or-set_same}
 use Rattle.bc_core.specs.Value.{Context, value, truth, assign}
 use Rattle.bc_core.specs.Exit.{Exit, Past, Broke, Looped, LeftCases, Returned, Jumped}
 use Rattle.bc_core.specs.Lists.{Entry, Beginning, AtCase, AtDefault, AtLabel, has_case, has_label, met, listed}
 use Rattle.bc_core.specs.Command.{step_of_for, initialise_one, initialise, declare, perform, perform_block, perform_items}
 use Rattle.bc_right_steps.specs.Premises.{Roots}
-use Rattle.bc_gen_defs.specs.Emit.{Exits, jump, end_of_for, labels_in, emit_variable, emit_variables, emit_declarations, emit, emit_block, emit_items, labelled, execute, entries_in, defaulted, cased, cases_in, table_of}
-use Rattle.bc_right_commands.proofs.Switching.{defaulted_none, passes_over, switch_lands}
+use Rattle.bc_gen_defs.specs.Emit.{Exits, jump, end_of_for, labels_in, emit_variable, emit_variables, emit_declarations, emit, emit_block, emit_items, labelled, execute, entries_in, defaulted, cases_in, table_of}
+use Rattle.bc_right_commands.proofs.Switching.{passes_over, switch_lands}
 use Rattle.bc_right_steps.specs.Landing.{Moment, moment, Later, Stands, Goal, Does}
 use Rattle.bc_right_steps.specs.Premises.{RootsLand, StoresLast}
 use Rattle.bc_right_steps.specs.Goals.{value_goal, test_goal, end_goal}
@@ -36,7 +36,7 @@ use Rattle.bc_right_commands.specs.Levelled.{VariableLevelled, VariablesLevelled
 use Rattle.bc_right_steps.proofs.Steps.{later_then, later_refl, acts, plain, leads_more, bind_from, lands_from, parts, at_end, at_label, behind_item, behind_label, jump_first, at_place, jumped, lands_done, does_done, does_then, does_at, does_turn}
 use Rattle.bc_right_commands.proofs.ForTest.{for_test_lands}
 use Rattle.bc_right_steps.proofs.Cells.{does_with_cells}
-use Rattle.bc_right_commands.proofs.Forms.{Entered, starts_at, goes_to, ends_at, in_order, assign_lands, call_lands, resultis_lands, finish_lands, if_lands, test_lands, in_loop, repeat_lands, while_lands, repeat_while_lands, for_loop_lands, list_lands}
+use Rattle.bc_right_commands.proofs.Forms.{Entered, cased, starts_at, goes_to, ends_at, in_order, assign_lands, call_lands, resultis_lands, finish_lands, if_lands, test_lands, in_loop, repeat_lands, while_lands, repeat_while_lands, for_loop_lands, list_lands}
 
 module _ (C : Context) (address levels : ℕ → ℕ) (V : Bodies) (S : Moment) (most : ℕ) (roots : Roots) (R : RootsLand C address levels V S most roots) where
   variable_lands : (K : Moment) → Later S K → (v : Variable) (p k s f c end : ℕ) → Stands address S c (emit_variable roots v k s f).0 end → p + cells_of_initials V (v ∷ []) s ≤ 65536 → VariableLevelled levels v k s → (limit a : ℕ) → Does K most (p + s) p limit a c (end_goal end) (initialise_one C v p k s)
@@ -74,6 +74,12 @@ module _ (C : Context) (address levels : ℕ → ℕ) (V : Bodies) (S : Moment) 
       → (here ≡ true → c1 ≡ c) → Does K most top p limit a c goal (items Beginning) → (rest ≡ true → Does K most top p limit a c1 goal (items at)) → Does K most top p limit a c1 goal (items (met here at))
   entry_lands K top p limit a c c1 goal items at true rest e same h k = does_at goal (items Beginning) (same refl) h
   entry_lands K top p limit a c c1 goal items at false rest e same h k = k e
+
+  -- a list is entered at this CASE, or at one behind it
+  case_lands : (K : Moment) → (top p limit a c l later : ℕ) (goal : Goal Exit) (items : Entry → Run Exit) (at : Entry) (here rest : Bool) → (here || rest) ≡ true
+      → address l ≡ c → Does K most top p limit a c goal (items Beginning) → (rest ≡ true → Does K most top p limit a (address later) goal (items at)) → Does K most top p limit a (address (cond here l later)) goal (items (met here at))
+  case_lands K top p limit a c l later goal items at true rest e same h k = does_at goal (items Beginning) same h
+  case_lands K top p limit a c l later goal items at false rest e same h k = k e
 
   -- the limit is held in the frame: the loop is seen from the moment at which it is
   for_lands : (K : Moment) → Later S K → (p s c mid1 mid2 end limit a by : ℕ) (E : Exits) (start : Run (Unit {0})) (last variable : Run ℕ) (step : Run (Unit {0})) (body : Run Exit) → p + (s + 4) ≤ 65536
@@ -210,17 +216,16 @@ module _ (C : Context) (address levels : ℕ → ℕ) (V : Bodies) (S : Moment) 
     command_lands K old (commands.SwitchOn e is) p s E f c end st room l limit a =
         let v = roots (Value s e) 0 (f + 1 + entries_in is) in
         let d = defaulted is (f + 1) f in
-        let own = cased is (f + 1) d in
-        let E1 = record E { cases = f; labels = labelled is v.1 E.labels; case_of = own; default_of = d } in
-        let x = emit_items (λ i. i) roots is s E1 (v.1 + labels_in is) in
+        let E1 = record E { cases = f; labels = labelled is v.1 E.labels } in
+        let x = emit_items (λ i. i) roots is s E1 (f + 1) (v.1 + labels_in is) in
         let rest = x.0 ++ Label f ∷ [] in
-        let tail = execute 23 ∷ Data (cases_in is) ∷ DataLabel d ∷ (table_of (λ i. i) is own ++ rest) in
+        let tail = execute 23 ∷ Data (cases_in is) ∷ DataLabel d ∷ (table_of (λ i. i) is (f + 1) ++ rest) in
         let q1 = parts v.0 tail st in
-        let q2 = parts (table_of (λ i. i) is own) rest (behind_item (behind_item (behind_item q1.back))) in
+        let q2 = parts (table_of (λ i. i) is (f + 1)) rest (behind_item (behind_item (behind_item q1.back))) in
         let q3 = parts x.0 (Label f ∷ []) q2.back in
-        switch_lands address S K old most E is f v.1 own d q1.middle q2.middle q3.middle end end rest (value C e p s) (perform_items C is p s) (R.gives K old e p s (f + 1 + entries_in is) a c q1.middle limit q1.front (omega (arith, room)) l.0)
-        q1.back (at_label q3.back) (at_end (behind_label q3.back)) (λ none. (defaulted_none is (f + 1) f none, λ st1. passes_over C is p s st1 none))
-        (λ at entered limit1 a1. items_land K old is p s E1 (v.1 + labels_in is) q2.middle q3.middle q3.front (omega (arith, room)) l.1 at entered limit1 a1)
+        switch_lands address S K old most E is f v.1 (f + 1) q1.middle q2.middle q3.middle end end rest (value C e p s) (perform_items C is p s) (R.gives K old e p s (f + 1 + entries_in is) a c q1.middle limit q1.front (omega (arith, room)) l.0)
+        q1.back (at_label q3.back) (at_end (behind_label q3.back)) (λ none st1. passes_over C is p s st1 none)
+        (λ at entered limit1 a1. items_land K old is p s E1 (f + 1) (v.1 + labels_in is) q2.middle q3.middle q3.front (omega (arith, room)) l.1 at entered limit1 a1)
     command_lands K old commands.Break p s E f c end st room l limit a = does_done (exit_goal address S E end limit) Broke (λ b2 n le. (end, st))
     command_lands K old commands.Loop p s E f c end st room l limit a = does_done (exit_goal address S E end limit) Looped (λ b2 n le. (end, st))
     command_lands K old commands.EndCase p s E f c end st room l limit a = does_done (exit_goal address S E end limit) LeftCases (λ b2 n le. (end, st))
@@ -238,56 +243,55 @@ module _ (C : Context) (address levels : ℕ → ℕ) (V : Bodies) (S : Moment) 
         let s1 = s + cells_declared ds in
         let d = emit_declarations roots ds s (f + labels_in is) in
         let E1 = record E { labels = labelled is f E.labels } in
-        let x = emit_items (λ i. i) roots is s1 E1 d.1 in
+        let x = emit_items (λ i. i) roots is s1 E1 0 d.1 in
         let q = parts d.0 x.0 st in
         let goal = exit_goal address S E end limit in
         declarations_land K old ds p s (f + labels_in is) c q.middle (p + s1) limit goal (listed (has_label is) (perform_items C is p s1) Beginning) q.front (omega (arith, room)) l.0 refl
-        (λ a1. list_lands address S K old most E is f E.case_of E.default_of q.middle end (perform_items C is p s1)
-        (λ at entered limit1 a2. items_land K old is p s1 E1 d.1 q.middle end q.back (omega (arith, room)) l.1 at entered limit1 a2) Beginning tt) a
+        (λ a1. list_lands address S K old most E is f 0 q.middle end (perform_items C is p s1)
+        (λ at entered limit1 a2. items_land K old is p s1 E1 0 d.1 q.middle end q.back (omega (arith, room)) l.1 at entered limit1 a2) Beginning tt) a
 
-    items_land : (K : Moment) → Later S K → (is : Items) (p s : ℕ) (E : Exits) (f c end : ℕ) → Stands address S c (emit_items (λ i. i) roots is s E f).0 end → p + cells_of_items V is s ≤ 65536 → ItemsLevelled levels is s → (at : Entry) → Entered at is → (limit a : ℕ) → Does K most (p + s) p limit a (starts_at address E c at) (exit_goal address S E end limit) (perform_items C is p s at)
-    items_land K old no_item p s E f c end st room lv Beginning entered limit a = does_done (exit_goal address S E end limit) Past (λ b2 n le. at_end st)
-    items_land K old no_item p s E f c end st room lv (AtCase v) entered limit a = absurd (let h : false ≡ true = entered in cc)
-    items_land K old no_item p s E f c end st room lv AtDefault entered limit a = absurd (let h : false ≡ true = entered in cc)
-    items_land K old no_item p s E f c end st room lv (AtLabel l) entered limit a = absurd (let h : false ≡ true = entered in cc)
-    items_land K old (command k is) p s E f c end st room lv Beginning entered limit a =
+    items_land : (K : Moment) → Later S K → (is : Items) (p s : ℕ) (E : Exits) (first f c end : ℕ) → Stands address S c (emit_items (λ i. i) roots is s E first f).0 end → p + cells_of_items V is s ≤ 65536 → ItemsLevelled levels is s → (at : Entry) → Entered at is → (limit a : ℕ) → Does K most (p + s) p limit a (starts_at address E is first c at) (exit_goal address S E end limit) (perform_items C is p s at)
+    items_land K old no_item p s E first f c end st room lv Beginning entered limit a = does_done (exit_goal address S E end limit) Past (λ b2 n le. at_end st)
+    items_land K old no_item p s E first f c end st room lv (AtCase v) entered limit a = absurd (let h : false ≡ true = entered in cc)
+    items_land K old no_item p s E first f c end st room lv AtDefault entered limit a = absurd (let h : false ≡ true = entered in cc)
+    items_land K old no_item p s E first f c end st room lv (AtLabel l) entered limit a = absurd (let h : false ≡ true = entered in cc)
+    items_land K old (command k is) p s E first f c end st room lv Beginning entered limit a =
         let x = emit (λ i. i) roots k s E f in
-        let y = emit_items (λ i. i) roots is s E x.1 in
+        let y = emit_items (λ i. i) roots is s E first x.1 in
         let q = parts x.0 y.0 st in
         in_order address S K old most E q.middle end (perform C k p s) (perform_items C is p s Beginning) (command_lands K old k p s E f c q.middle q.front (omega (arith, room)) lv.0 limit a)
-        (λ a1. items_land K old is p s E x.1 q.middle end q.back (omega (arith, room)) lv.1 Beginning tt limit a1)
-    items_land K old (command k is) p s E f c end st room lv (AtCase v) entered limit a =
+        (λ a1. items_land K old is p s E first x.1 q.middle end q.back (omega (arith, room)) lv.1 Beginning tt limit a1)
+    items_land K old (command k is) p s E first f c end st room lv (AtCase v) entered limit a =
         let x = emit (λ i. i) roots k s E f in
-        let q = parts x.0 (emit_items (λ i. i) roots is s E x.1).0 st in
-        record { from = (items_land K old is p s E x.1 q.middle end q.back (omega (arith, room)) lv.1 (AtCase v) entered limit a).from }
-    items_land K old (command k is) p s E f c end st room lv AtDefault entered limit a =
+        let q = parts x.0 (emit_items (λ i. i) roots is s E first x.1).0 st in
+        record { from = (items_land K old is p s E first x.1 q.middle end q.back (omega (arith, room)) lv.1 (AtCase v) entered limit a).from }
+    items_land K old (command k is) p s E first f c end st room lv AtDefault entered limit a =
         let x = emit (λ i. i) roots k s E f in
-        let q = parts x.0 (emit_items (λ i. i) roots is s E x.1).0 st in
-        record { from = (items_land K old is p s E x.1 q.middle end q.back (omega (arith, room)) lv.1 AtDefault entered limit a).from }
-    items_land K old (command k is) p s E f c end st room lv (AtLabel l) entered limit a =
+        let q = parts x.0 (emit_items (λ i. i) roots is s E first x.1).0 st in
+        record { from = (items_land K old is p s E first x.1 q.middle end q.back (omega (arith, room)) lv.1 AtDefault entered limit a).from }
+    items_land K old (command k is) p s E first f c end st room lv (AtLabel l) entered limit a =
         let x = emit (λ i. i) roots k s E f in
-        let q = parts x.0 (emit_items (λ i. i) roots is s E x.1).0 st in
-        record { from = (items_land K old is p s E x.1 q.middle end q.back (omega (arith, room)) lv.1 (AtLabel l) entered limit a).from }
-    items_land K old (case k is) p s E f c end st room lv Beginning entered limit a = items_land K old is p s E f c end (behind_label st) room lv Beginning tt limit a
-    items_land K old (case k is) p s E f c end st room lv (AtCase v) entered limit a =
-        entry_lands K (p + s) p limit a c (address (E.case_of v)) (exit_goal address S E end limit) (perform_items C is p s) (AtCase v) (k == v) (has_case is v) entered
-        (λ e. ap (λ z. address (E.case_of z)) (sym (eqb-true k v e)) ∙ at_label st)
-        (items_land K old is p s E f c end (behind_label st) room lv Beginning tt limit a)
-        (λ e. items_land K old is p s E f c end (behind_label st) room lv (AtCase v) e limit a)
-    items_land K old (case k is) p s E f c end st room lv AtDefault entered limit a = items_land K old is p s E f c end (behind_label st) room lv AtDefault entered limit a
-    items_land K old (case k is) p s E f c end st room lv (AtLabel l) entered limit a = items_land K old is p s E f c end (behind_label st) room lv (AtLabel l) entered limit a
-    items_land K old (default is) p s E f c end st room lv Beginning entered limit a = items_land K old is p s E f c end (behind_label st) room lv Beginning tt limit a
-    items_land K old (default is) p s E f c end st room lv (AtCase v) entered limit a = items_land K old is p s E f c end (behind_label st) room lv (AtCase v) entered limit a
-    items_land K old (default is) p s E f c end st room lv AtDefault entered limit a = does_at (exit_goal address S E end limit) (perform_items C is p s Beginning) (at_label st) (items_land K old is p s E f c end (behind_label st) room lv Beginning tt limit a)
-    items_land K old (default is) p s E f c end st room lv (AtLabel l) entered limit a = items_land K old is p s E f c end (behind_label st) room lv (AtLabel l) entered limit a
-    items_land K old (label k is) p s E f c end st room lv Beginning entered limit a = items_land K old is p s E f c end (behind_label st) room lv Beginning tt limit a
-    items_land K old (label k is) p s E f c end st room lv (AtCase v) entered limit a = items_land K old is p s E f c end (behind_label st) room lv (AtCase v) entered limit a
-    items_land K old (label k is) p s E f c end st room lv AtDefault entered limit a = items_land K old is p s E f c end (behind_label st) room lv AtDefault entered limit a
-    items_land K old (label k is) p s E f c end st room lv (AtLabel l) entered limit a =
+        let q = parts x.0 (emit_items (λ i. i) roots is s E first x.1).0 st in
+        record { from = (items_land K old is p s E first x.1 q.middle end q.back (omega (arith, room)) lv.1 (AtLabel l) entered limit a).from }
+    items_land K old (case k is) p s E first f c end st room lv Beginning entered limit a = items_land K old is p s E (first + 1) f c end (behind_label st) room lv Beginning tt limit a
+    items_land K old (case k is) p s E first f c end st room lv (AtCase v) entered limit a =
+        case_lands K (p + s) p limit a c first (cased is (first + 1) v) (exit_goal address S E end limit) (perform_items C is p s) (AtCase v) (k == v) (has_case is v) entered (at_label st)
+        (items_land K old is p s E (first + 1) f c end (behind_label st) room lv Beginning tt limit a)
+        (λ e. items_land K old is p s E (first + 1) f c end (behind_label st) room lv (AtCase v) e limit a)
+    items_land K old (case k is) p s E first f c end st room lv AtDefault entered limit a = items_land K old is p s E (first + 1) f c end (behind_label st) room lv AtDefault entered limit a
+    items_land K old (case k is) p s E first f c end st room lv (AtLabel l) entered limit a = items_land K old is p s E (first + 1) f c end (behind_label st) room lv (AtLabel l) entered limit a
+    items_land K old (default is) p s E first f c end st room lv Beginning entered limit a = items_land K old is p s E (first + 1) f c end (behind_label st) room lv Beginning tt limit a
+    items_land K old (default is) p s E first f c end st room lv (AtCase v) entered limit a = items_land K old is p s E (first + 1) f c end (behind_label st) room lv (AtCase v) entered limit a
+    items_land K old (default is) p s E first f c end st room lv AtDefault entered limit a = does_at (exit_goal address S E end limit) (perform_items C is p s Beginning) (at_label st) (items_land K old is p s E (first + 1) f c end (behind_label st) room lv Beginning tt limit a)
+    items_land K old (default is) p s E first f c end st room lv (AtLabel l) entered limit a = items_land K old is p s E (first + 1) f c end (behind_label st) room lv (AtLabel l) entered limit a
+    items_land K old (label k is) p s E first f c end st room lv Beginning entered limit a = items_land K old is p s E first f c end (behind_label st) room lv Beginning tt limit a
+    items_land K old (label k is) p s E first f c end st room lv (AtCase v) entered limit a = items_land K old is p s E first f c end (behind_label st) room lv (AtCase v) entered limit a
+    items_land K old (label k is) p s E first f c end st room lv AtDefault entered limit a = items_land K old is p s E first f c end (behind_label st) room lv AtDefault entered limit a
+    items_land K old (label k is) p s E first f c end st room lv (AtLabel l) entered limit a =
         entry_lands K (p + s) p limit a c (address (E.labels l)) (exit_goal address S E end limit) (perform_items C is p s) (AtLabel l) (k == l) (has_label is l) entered
         (λ e. ap (λ z. address (E.labels z)) (sym (eqb-true k l e)) ∙ at_label st)
-        (items_land K old is p s E f c end (behind_label st) room lv Beginning tt limit a)
-        (λ e. items_land K old is p s E f c end (behind_label st) room lv (AtLabel l) e limit a)
+        (items_land K old is p s E first f c end (behind_label st) room lv Beginning tt limit a)
+        (λ e. items_land K old is p s E first f c end (behind_label st) room lv (AtLabel l) e limit a)
 
   pub commands_land : (K : Moment) → Later S K → (k : Command) (p s : ℕ) (E : Exits) (f a c end limit : ℕ) → Stands address S c (emit (λ i. i) roots k s E f).0 end → p + cells_of_command V k s ≤ 65536 → CommandLevelled levels k s → Does K most (p + s) p limit a c (exit_goal address S E end limit) (perform C k p s)
   commands_land K old k p s E f a c end limit st room l = command_lands K old k p s E f c end st room l limit a

@@ -14,7 +14,7 @@ use Rattle.bc_core.specs.Loop.{LoopRound, end_relation, back, leave, behind_body
 use Rattle.bc_core.specs.Lists.{Entry, Beginning, AtCase, AtDefault, AtLabel, has_case, has_label, behind_list, listed}
 use Rattle.bc_right_steps.specs.Leads.{machine}
 use Rattle.bc_right_steps.proofs.Steps.{step_stops, stops_from}
-use Rattle.bc_gen_defs.specs.Emit.{Exits, execute, labelled}
+use Rattle.bc_gen_defs.specs.Emit.{Exits, execute, labelled, defaulted}
 use Rattle.bc_right_steps.specs.Landing.{Moment, Later, Stands, Reached, Goal, Lands, Does}
 use Rattle.bc_right_steps.specs.Goals.{value_goal, jumps_to, test_goal, end_goal}
 use Rattle.bc_right_steps.specs.Items.{JumpAt}
@@ -50,16 +50,24 @@ Entered (AtCase v) is = has_case is v ≡ true
 Entered AtDefault is = has_default is ≡ true
 Entered (AtLabel l) is = has_label is l ≡ true
 
+-- the label of the first CASE with this value, where the list's first CASE or DEFAULT has label f
+abbrev pub cased : Items → (f : ℕ) → ℕ → ℕ
+cased no_item f v = 0
+cased (command c is) f v = cased is f v
+cased (case k is) f v = cond (k == v) f (cased is (f + 1) v)
+cased (default is) f v = cased is (f + 1) v
+cased (label k is) f v = cased is f v
+
 -- where the code of a list that begins at c is entered
-abbrev pub starts_at : (ℕ → ℕ) → Exits → ℕ → Entry → ℕ
-starts_at address E c Beginning = c
-starts_at address E c (AtCase v) = address (E.case_of v)
-starts_at address E c AtDefault = address E.default_of
-starts_at address E c (AtLabel l) = address (E.labels l)
+abbrev pub starts_at : (ℕ → ℕ) → Exits → Items → (first : ℕ) → ℕ → Entry → ℕ
+starts_at address E is first c Beginning = c
+starts_at address E is first c (AtCase v) = address (cased is first v)
+starts_at address E is first c AtDefault = address (defaulted is first 0)
+starts_at address E is first c (AtLabel l) = address (E.labels l)
 
 -- what holds in a list whose labels are numbered from f on
-abbrev pub in_list : Exits → Items → ℕ → (ℕ → ℕ) → ℕ → Exits
-in_list E is f q d = record E { labels = labelled is f E.labels; case_of = q; default_of = d }
+abbrev pub in_list : Exits → Items → ℕ → Exits
+in_list E is f = record E { labels = labelled is f E.labels }
 
 -- loops: E is what holds around, and l, l2, l3 are the labels of the beginning, of BREAK and of LOOP
 abbrev pub in_loop : Exits → (l2 l3 : ℕ) → Exits
@@ -233,17 +241,17 @@ module _ (address : ℕ → ℕ) (S K : Moment) (old : Later S K) (most : ℕ) w
         }
 
   -- lists
-  behind_items : {top p limit : ℕ} (E : Exits) (is : Items) (f : ℕ) (q : ℕ → ℕ) (d c end : ℕ) → (O : Moment) (x : State) (t : ℕ)
-      → Onward K most O x t top p limit (exit_goal address S (in_list E is f q d) end limit) (round_goal (starts_at address (in_list E is f q d) c) (λ at. Entered at is) limit (exit_goal address S E end limit)) (behind_list (has_label is))
-  behind_items {top = top} {p = p} {limit = limit} E is f q d c end O x t = on where
+  behind_items : {top p limit : ℕ} (E : Exits) (is : Items) (f first c end : ℕ) → (O : Moment) (x : State) (t : ℕ)
+      → Onward K most O x t top p limit (exit_goal address S (in_list E is f) end limit) (round_goal (starts_at address (in_list E is f) is first c) (λ at. Entered at is) limit (exit_goal address S E end limit)) (behind_list (has_label is))
+  behind_items {top = top} {p = p} {limit = limit} E is f first c end O x t = on where
     goal : Goal (Round Entry Exit)
-    goal = round_goal (starts_at address (in_list E is f q d) c) (λ at. Entered at is) limit (exit_goal address S E end limit)
+    goal = round_goal (starts_at address (in_list E is f) is first c) (λ at. Entered at is) limit (exit_goal address S E end limit)
 
     to_label : (l : ℕ) (here : Bool) (a b c1 g : ℕ) (m : List ℕ) (st : outcomes.State) → has_label is l ≡ here → Reached K most O x t top p a b c1 g m st → st.turns ≤ limit → (c1 ≡ address (labelled is f E.labels l)) × (st.turns < limit) → Lands K most O x t top p limit goal (Done (cond here (Again (AtLabel l)) (Leave (Jumped l))) st)
     to_label l true a b c1 g m st e r le h = lands_done limit goal (Again (AtLabel l)) r le (h.0, e, h.1)
     to_label l false a b c1 g m st e r le h = lands_done limit goal (Leave (Jumped l)) r le (h.0 ∙ ap address (labelled_outer is f E.labels l e), h.1)
 
-    on : Onward K most O x t top p limit (exit_goal address S (in_list E is f q d) end limit) (round_goal (starts_at address (in_list E is f q d) c) (λ at. Entered at is) limit (exit_goal address S E end limit)) (behind_list (has_label is))
+    on : Onward K most O x t top p limit (exit_goal address S (in_list E is f) end limit) (round_goal (starts_at address (in_list E is f) is first c) (λ at. Entered at is) limit (exit_goal address S E end limit)) (behind_list (has_label is))
     on Past a b c1 g m st r le h = lands_done limit goal (Leave Past) r le h
     on Broke a b c1 g m st r le h = lands_done limit goal (Leave Broke) r le h
     on Looped a b c1 g m st r le h = lands_done limit goal (Leave Looped) r le h
@@ -252,10 +260,10 @@ module _ (address : ℕ → ℕ) (S K : Moment) (old : Later S K) (most : ℕ) w
     on (Resulted v) a b c1 g m st r le h = lands_done limit goal (Leave (Resulted v)) r le h
     on (Jumped l) a b c1 g m st r le h = to_label l (has_label is l) a b c1 g m st refl r le h
 
-  pub list_lands : {top p limit a : ℕ} (E : Exits) (is : Items) (f : ℕ) (q : ℕ → ℕ) (d c end : ℕ) (items : Entry → Run Exit)
-      → ((at : Entry) → Entered at is → (limit a : ℕ) → Does K most top p limit a (starts_at address (in_list E is f q d) c at) (exit_goal address S (in_list E is f q d) end limit) (items at))
-      → (at : Entry) → Entered at is → Does K most top p limit a (starts_at address (in_list E is f q d) c at) (exit_goal address S E end limit) (listed (has_label is) items at)
-  list_lands E is f q d c end items h at entered =
-      does_repeated (λ at1. then_do (items at1) (behind_list (has_label is))) (starts_at address (in_list E is f q d) c) (λ at1. Entered at1 is) (λ limit. exit_goal address S E end limit) (raise_exit E end)
-      (λ at1 in1 limit a. then_raw (exit_goal address S (in_list E is f q d) end limit) (round_goal (starts_at address (in_list E is f q d) c) (λ at. Entered at is) limit (exit_goal address S E end limit)) (items at1) (behind_list (has_label is)) (h at1 in1 limit a) (λ O x t. behind_items E is f q d c end O x t))
+  pub list_lands : {top p limit a : ℕ} (E : Exits) (is : Items) (f first c end : ℕ) (items : Entry → Run Exit)
+      → ((at : Entry) → Entered at is → (limit a : ℕ) → Does K most top p limit a (starts_at address (in_list E is f) is first c at) (exit_goal address S (in_list E is f) end limit) (items at))
+      → (at : Entry) → Entered at is → Does K most top p limit a (starts_at address (in_list E is f) is first c at) (exit_goal address S E end limit) (listed (has_label is) items at)
+  list_lands E is f first c end items h at entered =
+      does_repeated (λ at1. then_do (items at1) (behind_list (has_label is))) (starts_at address (in_list E is f) is first c) (λ at1. Entered at1 is) (λ limit. exit_goal address S E end limit) (raise_exit E end)
+      (λ at1 in1 limit a. then_raw (exit_goal address S (in_list E is f) end limit) (round_goal (starts_at address (in_list E is f) is first c) (λ at. Entered at is) limit (exit_goal address S E end limit)) (items at1) (behind_list (has_label is)) (h at1 in1 limit a) (λ O x t. behind_items E is f first c end O x t))
       at entered

@@ -17,7 +17,7 @@ use Rattle.bc_rules_defs.specs.Piece.{S, A, A_number, SP, LIP, AIP, SIP, X, K, J
 use Rattle.bc_word.specs.Words.{number_of, negated}
 use Rattle.bc_rules_defs.specs.Rules.{Derives, v0, v1, v2, v3, v4, v6, v7, v8, v9, v10, v11, v12, v13, v14, v15, v16, v17, v18, v19, v20, v21, v22, v22_valof, j1, j2, j3, j4, j5, j6, j7, j8, j9, DerivesAll, no_more, one_more, RootDerives, value, test, a1, a2, a3}
 use Rattle.bc_rules_defs.specs.Code.{code, all_code, root_code, labels, all_labels}
-use Rattle.bc_gen_defs.specs.Emit.{Exits, jump, execute, zero_item, cases_in, labelled, labels_in, cased, defaulted, entries_in, table_of, emit_variable, emit_variables, emit_declarations, end_of_for, emit, emit_block, emit_items}
+use Rattle.bc_gen_defs.specs.Emit.{Exits, jump, execute, zero_item, cases_in, labelled, labels_in, defaulted, entries_in, table_of, emit_variable, emit_variables, emit_declarations, end_of_for, emit, emit_block, emit_items}
 use Rattle.bc_gen_defs.specs.Bodies.{label_ahead, fill, over, coding_of, body_exits, bodies_from, emit_body}
 use Rattle.bc_gen_defs.specs.Section.{emit_routines}
 use Rattle.bc_right_steps.specs.Premises.{Roots, BodiesCode, Code}
@@ -120,12 +120,12 @@ PlainRoots roots = (r : Root) (t f : ℕ) → Plain (roots r t f).0
 roots_plain : {T : Table} (choice : Choice T) (levels : ℕ → ℕ) (bodies : BodiesCode) → ((n s l f : ℕ) → Plain (bodies n s l f).0) → PlainRoots (over (coding_of choice) levels bodies)
 roots_plain choice levels bodies all r t f = filled_plain levels bodies all (root_code (choice r) t f) _ (root_plain (choice r) t f)
 
-table_plain : (is : Items) (at : ℕ → ℕ) → Plain (table_of (λ i. i) is at)
-table_plain no_item at = tt
-table_plain (command c is) at = table_plain is at
-table_plain (case k is) at = table_plain is at
-table_plain (default is) at = table_plain is at
-table_plain (label k is) at = table_plain is at
+table_plain : (is : Items) (first : ℕ) → Plain (table_of (λ i. i) is first)
+table_plain no_item first = tt
+table_plain (command c is) first = table_plain is first
+table_plain (case k is) first = table_plain is (first + 1)
+table_plain (default is) first = table_plain is (first + 1)
+table_plain (label k is) first = table_plain is first
 
 module _ (roots : Roots) (plain : PlainRoots roots) where
   variable_plain : (v : Variable) (k s f : ℕ) → Plain (emit_variable roots v k s f).0
@@ -189,12 +189,11 @@ module _ (roots : Roots) (plain : PlainRoots roots) where
         (plain_both t.0 (x.0 ++ tail3) (plain _ (f + 1) n.1) (plain_both x.0 tail3 (block_plain b s1 E1 t.1) (plain_both u.0 tail4 (plain _ 0 x.1) tt))))
     command_plain (commands.SwitchOn e is) s E f =
         let v = roots (Value s e) 0 (f + 1 + entries_in is) in
-        let own = cased is (f + 1) (defaulted is (f + 1) f) in
-        let E1 = record E { cases = f; labels = labelled is v.1 E.labels; case_of = own; default_of = defaulted is (f + 1) f } in
-        let x = emit_items (λ i. i) roots is s E1 (v.1 + labels_in is) in
+        let E1 = record E { cases = f; labels = labelled is v.1 E.labels } in
+        let x = emit_items (λ i. i) roots is s E1 (f + 1) (v.1 + labels_in is) in
         let rest = x.0 ++ Label f ∷ [] in
-        plain_both v.0 (execute 23 ∷ Data (cases_in is) ∷ DataLabel (defaulted is (f + 1) f) ∷ (table_of (λ i. i) is own ++ rest)) (plain (Value s e) 0 (f + 1 + entries_in is))
-        (plain_both (table_of (λ i. i) is own) rest (table_plain is own) (plain_both x.0 (Label f ∷ []) (items_plain is s E1 (v.1 + labels_in is)) tt))
+        plain_both v.0 (execute 23 ∷ Data (cases_in is) ∷ DataLabel (defaulted is (f + 1) f) ∷ (table_of (λ i. i) is (f + 1) ++ rest)) (plain (Value s e) 0 (f + 1 + entries_in is))
+        (plain_both (table_of (λ i. i) is (f + 1)) rest (table_plain is (f + 1)) (plain_both x.0 (Label f ∷ []) (items_plain is s E1 (f + 1) (v.1 + labels_in is)) tt))
     command_plain commands.Break s E f = tt
     command_plain commands.Loop s E f = tt
     command_plain commands.EndCase s E f = tt
@@ -208,16 +207,16 @@ module _ (roots : Roots) (plain : PlainRoots roots) where
     block_plain (block ds is) s E f =
         let d = emit_declarations roots ds s (f + labels_in is) in
         let E1 = record E { labels = labelled is f E.labels } in
-        plain_both d.0 (emit_items (λ i. i) roots is (s + cells_declared ds) E1 d.1).0 (declarations_plain ds s (f + labels_in is)) (items_plain is (s + cells_declared ds) E1 d.1)
+        plain_both d.0 (emit_items (λ i. i) roots is (s + cells_declared ds) E1 0 d.1).0 (declarations_plain ds s (f + labels_in is)) (items_plain is (s + cells_declared ds) E1 0 d.1)
 
-    items_plain : (is : Items) (s : ℕ) (E : Exits) (f : ℕ) → Plain (emit_items (λ i. i) roots is s E f).0
-    items_plain no_item s E f = tt
-    items_plain (command c is) s E f =
+    items_plain : (is : Items) (s : ℕ) (E : Exits) (first f : ℕ) → Plain (emit_items (λ i. i) roots is s E first f).0
+    items_plain no_item s E first f = tt
+    items_plain (command c is) s E first f =
         let x = emit (λ i. i) roots c s E f in
-        plain_both x.0 (emit_items (λ i. i) roots is s E x.1).0 (command_plain c s E f) (items_plain is s E x.1)
-    items_plain (case k is) s E f = items_plain is s E f
-    items_plain (default is) s E f = items_plain is s E f
-    items_plain (label l is) s E f = items_plain is s E f
+        plain_both x.0 (emit_items (λ i. i) roots is s E first x.1).0 (command_plain c s E f) (items_plain is s E first x.1)
+    items_plain (case k is) s E first f = items_plain is s E (first + 1) f
+    items_plain (default is) s E first f = items_plain is s E (first + 1) f
+    items_plain (label l is) s E first f = items_plain is s E first f
 
   body_plain : (b : Body) (s f : ℕ) → Plain (emit_body (λ i. i) roots b s f).0
   body_plain (Gives e) s f = let v = roots (Value s e) 0 f in plain_both v.0 (execute 4 ∷ []) (plain (Value s e) 0 f) tt

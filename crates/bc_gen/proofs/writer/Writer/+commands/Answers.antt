@@ -96,9 +96,9 @@ list-list_item-requires t c =
 
 pub list-loop-item-preserved : goal.list-loop-item-preserved
 list-loop-item-preserved t c =
-    list_turn (roots_in c.args.around.now) c.args.level (exits_of c.args.around.now) c.args.list.now c.loop-item.item-index c.item-item.result c.args.self.now c.loop-item.self c.list_item.new.self
-    (emit_items Plain (roots_in c.args.around.now) (items c.args.list.now) c.args.level (exits_of c.args.around.now) c.args.self.now.next)
-    c.loop-item-test.true c.item-item.is c.in_ok-list_item.ensures c.loop-item.invariant
+    list_turn (roots_in c.args.around.now) c.args.level (exits_of c.args.around.now) c.args.list.now c.loop-item.item-index c.item-item.result c.loop-item.entry c.in_ok-entry.entry c.args.self.now c.loop-item.self c.list_item.new.self
+    (emit_items Plain (roots_in c.args.around.now) (items c.args.list.now) c.args.level (exits_of c.args.around.now) c.args.first c.args.self.now.next)
+    c.loop-item-test.true c.item-item.is c.in_ok-entry.ensures c.in_ok-list_item.ensures c.loop-item.invariant
 
 pub block-returns : goal.block-returns
 block-returns t c =
@@ -157,16 +157,15 @@ for_loop-returns t c =
 
 pub switchon-returns : goal.switchon-returns
 switchon-returns t c =
-    let count : c.new.result ≡ cases_in (items c.args.list.now) = omega (arith, c.new.ensures, c.len.ensures, c.in_ok-found.found.cases.ok.0, c.in_ok-found.ensures.count) in
-    let table = rw c.deref-2.ensures.value at c.in_ok-table.ensures in
-    let list = rw (c.deref.ensures.value, c.deref-2.ensures.value) at c.in_ok-list.ensures in
+    let count : c.new.result ≡ cases_in (items c.args.list.now) = omega (arith, c.new.ensures, c.in_ok-found.ensures.count) in
+    let list = rw c.deref.ensures.value at c.in_ok-list.ensures in
     switchon_writes c.label.result (roots_in c.args.around.now) (exits_of c.args.around.now) c.args.around.now.labels.now (exp c.args.value.now) (items c.args.list.now)
-    c.args.level c.in_ok-past.past c.in_ok-found.found.default c.new.result c.in_ok-labels.labels.items c.in_ok-found.found.cases.items
+    c.args.level c.in_ok-past.past c.in_ok-found.found.first c.in_ok-found.found.default c.new.result c.in_ok-labels.labels.items
     c.args.self.now c.take.new.self c.case_labels.new.self c.value.new.self c.list_labels.new.self c.execute.new.self c.data.new.self c.data_label.new.self c.table.new.self c.list.new.self c.label.new.self
     refl c.in_ok-past.ensures.taken c.in_ok-past.ensures.parts
-    c.in_ok-found.ensures.default c.in_ok-found.ensures.cases count c.in_ok-found.ensures.next c.in_ok-found.ensures.parts
+    c.in_ok-found.ensures.first c.in_ok-found.ensures.default count c.in_ok-found.ensures.next c.in_ok-found.ensures.parts
     c.in_ok-value.ensures c.in_ok-labels.ensures.labels c.in_ok-labels.ensures.next c.in_ok-labels.ensures.parts
-    c.in_ok-execute.ensures c.in_ok-data.ensures c.in_ok-data_label.ensures table list c.label.ensures
+    c.in_ok-execute.ensures c.in_ok-data.ensures c.in_ok-data_label.ensures c.in_ok-table.ensures list c.label.ensures
 
 pub declarations-loop-declaration-preserved : goal.declarations-loop-declaration-preserved
 declarations-loop-declaration-preserved t c =
@@ -462,10 +461,10 @@ switchon-returns-in_err-labels t c =
 
 pub switchon-returns-in_err-list : goal.switchon-returns-in_err-list
 switchon-returns-in_err-list t c =
-    fails c.from_residual-in_err-list.result c.in_err-list.field-0.0 c.args.self.now c.list.new.self (emit_items Plain (roots_in c.args.around.now) (items c.args.list.now) c.args.level (record (exits_of c.args.around.now) { cases = c.in_ok-past.past; labels = λ n. label_in c.in_ok-labels.labels.items n 0; case_of = λ v. label_in c.in_ok-found.found.cases.items v c.in_ok-found.found.default; default_of = c.in_ok-found.found.default }) c.table.new.self.next).1
+    fails c.from_residual-in_err-list.result c.in_err-list.field-0.0 c.args.self.now c.list.new.self (emit_items Plain (roots_in c.args.around.now) (items c.args.list.now) c.args.level (record (exits_of c.args.around.now) { cases = c.in_ok-past.past; labels = λ n. label_in c.in_ok-labels.labels.items n 0 }) c.in_ok-found.found.first c.table.new.self.next).1
     (emit Plain (roots_in c.args.around.now) (commands.SwitchOn (exp c.args.value.now) (items c.args.list.now)) c.args.level (exits_of c.args.around.now) c.args.self.now.next)
-    c.from_residual-in_err-list.ensures.1 (rw (c.deref.ensures.value, c.deref-2.ensures.value) at c.in_err-list.ensures)
-    (switchon_done (roots_in c.args.around.now) (exits_of c.args.around.now) c.args.around.now.labels.now (exp c.args.value.now) (items c.args.list.now) c.args.level _ _ _ _ c.args.self.now.next _ _ _ _ refl c.in_ok-past.ensures.taken.0 c.in_ok-past.ensures.taken.1 c.in_ok-found.ensures.default c.in_ok-found.ensures.cases c.in_ok-found.ensures.next c.in_ok-value.ensures.1 c.in_ok-labels.ensures.labels (c.in_ok-table.ensures.1 ∙ c.in_ok-data_label.ensures.1 ∙ c.in_ok-data.ensures.1 ∙ c.in_ok-execute.ensures.1 ∙ c.in_ok-labels.ensures.next))
+    c.from_residual-in_err-list.ensures.1 (rw c.deref.ensures.value at c.in_err-list.ensures)
+    (switchon_done (roots_in c.args.around.now) (exits_of c.args.around.now) c.args.around.now.labels.now (exp c.args.value.now) (items c.args.list.now) c.args.level _ _ _ c.args.self.now.next _ _ _ _ refl c.in_ok-past.ensures.taken.0 c.in_ok-past.ensures.taken.1 c.in_ok-found.ensures.first c.in_ok-found.ensures.next c.in_ok-value.ensures.1 c.in_ok-labels.ensures.labels (c.in_ok-table.ensures.1 ∙ c.in_ok-data_label.ensures.1 ∙ c.in_ok-data.ensures.1 ∙ c.in_ok-execute.ensures.1 ∙ c.in_ok-labels.ensures.next))
 
 pub block-returns-in_err-labels : goal.block-returns-in_err-labels
 block-returns-in_err-labels t c =
@@ -483,10 +482,10 @@ block-returns-in_err-inner t c =
 
 pub list-returns-in_err-list_item : goal.list-returns-in_err-list_item
 list-returns-in_err-list_item t c =
-    fails c.from_residual.result c.in_err-list_item.field-0.0 c.args.self.now c.list_item.new.self (emit_items Plain (roots_in c.args.around.now) (items_before c.item-item.result no_item) c.args.level (exits_of c.args.around.now) c.loop-item.self.next).1
-    (emit_items Plain (roots_in c.args.around.now) (items c.args.list.now) c.args.level (exits_of c.args.around.now) c.args.self.now.next)
+    fails c.from_residual.result c.in_err-list_item.field-0.0 c.args.self.now c.list_item.new.self (emit_items Plain (roots_in c.args.around.now) (items_before c.item-item.result no_item) c.args.level (exits_of c.args.around.now) c.loop-item.entry c.loop-item.self.next).1
+    (emit_items Plain (roots_in c.args.around.now) (items c.args.list.now) c.args.level (exits_of c.args.around.now) c.args.first c.args.self.now.next)
     c.from_residual.ensures.1 c.in_err-list_item.ensures
-    (list_out (roots_in c.args.around.now) (rising c.args.around.now) c.args.level (exits_of c.args.around.now) c.args.list.now c.loop-item.item-index c.item-item.result c.loop-item.self.next _ c.loop-item-test.true c.item-item.is c.loop-item.invariant.1)
+    (list_out (roots_in c.args.around.now) (rising c.args.around.now) c.args.level (exits_of c.args.around.now) c.args.list.now c.loop-item.item-index c.item-item.result c.loop-item.entry c.loop-item.self.next _ c.loop-item-test.true c.item-item.is c.loop-item.invariant.1)
 
 pub declarations-returns-in_err-variables-clause-written : goal.declarations-returns-in_err-variables-clause-written
 declarations-returns-in_err-variables-clause-written t c =

@@ -81,8 +81,8 @@ decreases-list_item l = weight_around l.around.now + (64 * weight_of_items (item
 
 abbrev pub invariant-list-loop-item : goal.invariant-list-loop-item
 invariant-list-loop-item l =
-    let rest = emit_items Plain (roots_in l.around) (items (drop l.item-index l.list)) l.level (exits_of l.around) l.self.next in
-    let whole = emit_items Plain (roots_in l.around) (items l.list) l.level (exits_of l.around) l.fn.self.next in
+    let rest = emit_items Plain (roots_in l.around) (items (drop l.item-index l.list)) l.level (exits_of l.around) l.entry l.self.next in
+    let whole = emit_items Plain (roots_in l.around) (items l.list) l.level (exits_of l.around) l.first l.fn.self.next in
     (parts l.self.parts.items ++ rest.0 ≡ parts l.fn.self.parts.items ++ whole.0) × (rest.1 ≡ whole.1)
 
 abbrev pub invariant-declarations-loop-declaration : goal.invariant-declarations-loop-declaration

@@ -3,11 +3,9 @@ use Rattle.bc_core.specs.View.{items}
 use Rattle.bc_gen_defs.specs.Emit.{table_of}
 use Rattle.bc_gen_defs.specs.Entries.{Plain}
 use Rattle.bc_gen.specs.Parts.{parts}
-use Rattle.bc_gen.specs.Surroundings.{exits_of}
 use Rattle.bc_gen.proofs.writer.Writer.table.Given as goal
 
 abbrev pub invariant-loop-item : goal.invariant-loop-item
 invariant-loop-item l =
-    let at = (exits_of l.around).case_of in
-    (parts l.self.parts.items ++ table_of Plain (items (drop l.item-index l.list)) at ≡ parts l.fn.self.parts.items ++ table_of Plain (items l.list) at)
+    (parts l.self.parts.items ++ table_of Plain (items (drop l.item-index l.list)) l.entry ≡ parts l.fn.self.parts.items ++ table_of Plain (items l.list) l.first)
     × (l.self.next ≡ l.fn.self.next)
