@@ -1,12 +1,13 @@
 ghost use Rattle.std.specs.Prelude.{◌≡◌};
 ghost use Rattle.bc_core.specs.View.{exp};
 ghost use Rattle.bc_rules_defs.specs.Free.{is_plain, beside_zero, without_zero as without_zero_of};
-ghost use Rattle.bc_rules_defs.specs.Parts.{parts_of as parts_by, node_parts as node_parts_of, operator_parts, value_parts as value_parts_of, test_parts as test_parts_of, assignment_parts as assignment_parts_of, single_if, in_any, where_true, triple, pair as pair_of};
+ghost use Rattle.bc_rules_defs.specs.Parts.{parts_of as parts_by, node_parts as node_parts_of, operator_parts, value_parts as value_parts_of, test_parts as test_parts_of, assignment_parts as assignment_parts_of, in_any as in_any_of, where_true};
+ghost use Rattle.bc_rules_defs.specs.Takes.{of_one as one_taken, of_two as two_taken, of_choice as choice_taken};
 ghost use Rattle.bc_rules.specs.View.{parts, expression};
 
 use crate::parts::{Part, Parts};
 use bc_core::{CoreExp, constant, operand};
-use bc_rules_defs::{Aim, Mode, Rule, is_zero};
+use bc_rules_defs::{Aim, Mode, Rule, Takes, is_zero};
 use bc_word::{Op, mirror};
 
 /// Whether the test of an expression is made of its value: neither NOT nor `&` nor the bar is on top.
@@ -76,12 +77,53 @@ fn part<'a>(aim: Aim, of: &'a CoreExp) -> Part<'a>
     Part { aim, of }
 }
 
-/// A test that jumps at this sense, and two values.
-fn choice<'a>(sense: bool, c: &'a CoreExp, x: &'a CoreExp, y: &'a CoreExp) -> Parts<'a>
-    ensures { parts result ≡ triple (Aim.Jumps sense) (exp c.now) (Aim.Gets Mode.Any) (exp x.now) (Aim.Gets Mode.Any) (exp y.now) }
+/// The one part, if it is taken.
+fn of_one<'a>(takes: Takes, a: &'a CoreExp) -> Parts<'a>
+    ensures { parts result ≡ one_taken takes (exp a.now) }
+{
+    match takes {
+        Takes::First(aim) => Parts::Single(part(aim, a)),
+        Takes::Nothing
+        | Takes::Second(_)
+        | Takes::InOrder(_, _)
+        | Takes::Turned(_, _)
+        | Takes::Choice(_)
+        | Takes::Call => Parts::Leaf(false),
+    }
+}
+
+/// Those of two parts that are taken, in the order of the code.
+fn of_two<'a>(takes: Takes, a: &'a CoreExp, b: &'a CoreExp) -> Parts<'a>
+    ensures { parts result ≡ two_taken takes (exp a.now) (exp b.now) }
+{
+    match takes {
+        Takes::First(aim) => Parts::Single(part(aim, a)),
+        Takes::Second(aim) => Parts::Single(part(aim, b)),
+        Takes::InOrder(x, y) => Parts::Pair(part(x, a), part(y, b)),
+        Takes::Turned(x, y) => Parts::Pair(part(y, b), part(x, a)),
+        Takes::Nothing | Takes::Choice(_) | Takes::Call => Parts::Leaf(false),
+    }
+}
+
+/// A condition and two values, in the order of the code.
+fn of_choice<'a>(takes: Takes, c: &'a CoreExp, x: &'a CoreExp, y: &'a CoreExp) -> Parts<'a>
+    ensures { parts result ≡ choice_taken takes (exp c.now) (exp x.now) (exp y.now) }
 {
     let any = Aim::Gets(Mode::Any);
-    Parts::Triple(part(Aim::Jumps(sense), c), part(any, x), part(any, y))
+    match takes {
+        Takes::Choice(false) => {
+            Parts::Triple(part(Aim::Jumps(false), c), part(any, x), part(any, y))
+        }
+        Takes::Choice(true) => {
+            Parts::Triple(part(Aim::Jumps(true), c), part(any, y), part(any, x))
+        }
+        Takes::Nothing
+        | Takes::First(_)
+        | Takes::Second(_)
+        | Takes::InOrder(_, _)
+        | Takes::Turned(_, _)
+        | Takes::Call => Parts::Leaf(false),
+    }
 }
 
 /// The parts of a rule at an expression, for this aim. Whether operands are free and whether a table
@@ -116,6 +158,7 @@ pub fn parts_of<'a>(rule: Rule, aim: Aim, e: &'a CoreExp) -> Parts<'a>
 fn node_parts<'a>(rule: Rule, aim: Aim, e: &'a CoreExp) -> Parts<'a>
     ensures { parts result ≡ node_parts_of rule aim (exp e.now) }
 {
+    let takes = rule.takes(aim, false);
     match e {
         CoreExp::Num(_) => match (rule, aim) {
             (Rule::J7, Aim::Jumps(_)) => Parts::Leaf(false),
@@ -123,16 +166,16 @@ fn node_parts<'a>(rule: Rule, aim: Aim, e: &'a CoreExp) -> Parts<'a>
         },
         CoreExp::Frame(_) | CoreExp::Glob(_) | CoreExp::Place(_) => Parts::NoRule,
         CoreExp::Load(a) => match (rule, aim) {
-            (Rule::V2, Aim::Gets(_)) => Parts::Single(part(aim, a)),
+            (Rule::V2, Aim::Gets(_)) => of_one(takes, a),
             _ => Parts::NoRule,
         },
         CoreExp::Neg(a) => match (rule, aim) {
-            (Rule::V3, Aim::Gets(_)) => Parts::Single(part(aim, a)),
+            (Rule::V3, Aim::Gets(_)) => of_one(takes, a),
             _ => Parts::NoRule,
         },
         CoreExp::Not(a) => match (rule, aim) {
-            (Rule::V4, Aim::Gets(_)) => Parts::Single(part(aim, a)),
-            (Rule::J1, Aim::Jumps(sense)) => Parts::Single(part(Aim::Jumps(!sense), a)),
+            (Rule::V4, Aim::Gets(_)) => of_one(takes, a),
+            (Rule::J1, Aim::Jumps(_)) => of_one(takes, a),
             _ => Parts::NoRule,
         },
         CoreExp::Bin(op, a, b) => match aim {
@@ -140,8 +183,8 @@ fn node_parts<'a>(rule: Rule, aim: Aim, e: &'a CoreExp) -> Parts<'a>
             Aim::Jumps(sense) => test_parts(rule, sense, *op, a, b),
         },
         CoreExp::Cond(c, x, y) => match (rule, aim) {
-            (Rule::V20, Aim::Gets(Mode::Any)) => choice(false, c, x, y),
-            (Rule::V21, Aim::Gets(Mode::Any)) => choice(true, c, y, x),
+            (Rule::V20, Aim::Gets(Mode::Any)) => of_choice(takes, c, x, y),
+            (Rule::V21, Aim::Gets(Mode::Any)) => of_choice(takes, c, x, y),
             _ => Parts::NoRule,
         },
         CoreExp::Call(arguments, routine) => match (rule, aim) {
@@ -155,118 +198,85 @@ fn node_parts<'a>(rule: Rule, aim: Aim, e: &'a CoreExp) -> Parts<'a>
     }
 }
 
-/// One part with this aim, if there is one.
-fn single<'a>(aim: Aim, found: Option<&'a CoreExp>) -> Parts<'a>
-    ensures { parts result ≡ single_if aim (expression found.entry) }
-{
-    match found {
-        Some(e) => Parts::Single(part(aim, e)),
-        None => Parts::NoRule,
-    }
-}
-
-/// Two values, for the mode Any.
-fn pair<'a>(mode: Mode, a: &'a CoreExp, second: Mode, b: &'a CoreExp) -> Parts<'a>
-    ensures { parts result ≡ in_any mode (pair_of (Aim.Gets Mode.Any) (exp a.now) (Aim.Gets second) (exp b.now)) }
+/// These parts, for the mode Any.
+fn in_any<'a>(mode: Mode, found: Parts<'a>) -> Parts<'a>
+    ensures { parts result ≡ in_any_of mode (parts found.entry) }
 {
     match mode {
-        Mode::Any => Parts::Pair(part(Aim::Gets(Mode::Any), a), part(Aim::Gets(second), b)),
+        Mode::Any => found,
         Mode::Push => Parts::NoRule,
     }
 }
 
+/// These parts, where it is so.
+fn given<'a>(holds: bool, found: Parts<'a>) -> Parts<'a>
+    ensures { parts result ≡ where_true holds (parts found.entry) }
+{
+    if holds { found } else { Parts::NoRule }
+}
+
 /// The rules of a value at an operator.
+#[tactic(auto, using(crate::proofs::Trees::without_taken))]
 fn value_parts<'a>(rule: Rule, mode: Mode, op: Op, a: &'a CoreExp, b: &'a CoreExp) -> Parts<'a>
     ensures { parts result ≡ value_parts_of rule mode op (exp a.now) (exp b.now) }
 {
+    let takes = rule.takes(Aim::Gets(mode), is_zero(b));
+    let found = of_two(takes, a, b);
     match rule {
         Rule::V6 => match (op, operand(b)) {
-            (Op::Add, Some(_)) => Parts::Single(part(Aim::Gets(mode), a)),
+            (Op::Add, Some(_)) => found,
             _ => Parts::NoRule,
         },
         Rule::V7 => match (op, operand(a)) {
-            (Op::Add, Some(_)) => Parts::Single(part(Aim::Gets(mode), b)),
+            (Op::Add, Some(_)) => found,
             _ => Parts::NoRule,
         },
-        Rule::V8 => single(Aim::Gets(mode), without_zero(op, a, b)),
+        Rule::V8 => match without_zero(op, a, b) {
+            Some(_) => found,
+            None => Parts::NoRule,
+        },
         Rule::V9 => match (op, constant(b)) {
-            (Op::Subtract, Some(_)) => Parts::Single(part(Aim::Gets(mode), a)),
+            (Op::Subtract, Some(_)) => found,
             _ => Parts::NoRule,
         },
         Rule::V10 => match (op, operand(b)) {
-            (Op::Subtract, Some(_)) => Parts::Single(part(Aim::Gets(mode), a)),
+            (Op::Subtract, Some(_)) => found,
             _ => Parts::NoRule,
         },
         Rule::V11 => match (op, operand(a)) {
-            (Op::Subtract, Some(_)) => Parts::Single(part(Aim::Gets(mode), b)),
+            (Op::Subtract, Some(_)) => found,
             _ => Parts::NoRule,
         },
-        Rule::V12 => pair(mode, a, Mode::Push, b),
-        Rule::V13 => match mirror(op) {
-            Some(_) => pair(mode, b, Mode::Push, a),
+        Rule::V12 | Rule::V16 | Rule::V17 => in_any(mode, found),
+        Rule::V13 | Rule::V15 => match mirror(op) {
+            Some(_) => in_any(mode, found),
             None => Parts::NoRule,
         },
-        Rule::V14 => match op {
-            Op::Subtract => pair(mode, b, Mode::Push, a),
+        Rule::V14 | Rule::V19 => match op {
+            Op::Subtract => in_any(mode, found),
             _ => Parts::NoRule,
         },
-        Rule::V15 => match mirror(op) {
-            Some(_) => pair(mode, a, Mode::Any, b),
-            None => Parts::NoRule,
-        },
-        Rule::V16 => pair(mode, b, Mode::Any, a),
-        Rule::V17 => pair(mode, a, Mode::Any, b),
         Rule::V18 => match op {
-            Op::Add => pair(mode, a, Mode::Any, b),
-            _ => Parts::NoRule,
-        },
-        Rule::V19 => match op {
-            Op::Subtract => pair(mode, a, Mode::Any, b),
+            Op::Add => in_any(mode, found),
             _ => Parts::NoRule,
         },
         _ => Parts::NoRule,
     }
 }
 
-/// Two tests, where the rule has this sense.
-fn tests<'a>(fits: bool, first: bool, a: &'a CoreExp, second: bool, b: &'a CoreExp) -> Parts<'a>
-    ensures { parts result ≡ where_true fits (pair_of (Aim.Jumps first) (exp a.now) (Aim.Jumps second) (exp b.now)) }
-{
-    if fits {
-        Parts::Pair(part(Aim::Jumps(first), a), part(Aim::Jumps(second), b))
-    } else {
-        Parts::NoRule
-    }
-}
-
 /// The rules of a test at an operator.
+#[tactic(auto, using(crate::proofs::Trees::beside_taken))]
 fn test_parts<'a>(rule: Rule, sense: bool, op: Op, a: &'a CoreExp, b: &'a CoreExp) -> Parts<'a>
     ensures { parts result ≡ test_parts_of rule sense op (exp a.now) (exp b.now) }
 {
-    match rule {
-        Rule::J2 => match op {
-            Op::And => tests(!sense, false, a, false, b),
-            _ => Parts::NoRule,
-        },
-        Rule::J3 => match op {
-            Op::And => tests(sense, false, a, true, b),
-            _ => Parts::NoRule,
-        },
-        Rule::J4 => match op {
-            Op::Or => tests(sense, true, a, true, b),
-            _ => Parts::NoRule,
-        },
-        Rule::J5 => match op {
-            Op::Or => tests(!sense, true, a, false, b),
-            _ => Parts::NoRule,
-        },
-        Rule::J8 => match op {
-            Op::Equal => single(Aim::Gets(Mode::Any), beside(a, b)),
-            _ => Parts::NoRule,
-        },
-        Rule::J9 => match op {
-            Op::NotEqual => single(Aim::Gets(Mode::Any), beside(a, b)),
-            _ => Parts::NoRule,
+    let takes = rule.takes(Aim::Jumps(sense), is_zero(b));
+    let found = of_two(takes, a, b);
+    match (rule, op) {
+        (Rule::J2, Op::And) | (Rule::J5, Op::Or) => given(!sense, found),
+        (Rule::J3, Op::And) | (Rule::J4, Op::Or) => given(sense, found),
+        (Rule::J8, Op::Equal) | (Rule::J9, Op::NotEqual) => match beside(a, b) {
+            Some(_) => found,
+            None => Parts::NoRule,
         },
         _ => Parts::NoRule,
     }
@@ -276,11 +286,10 @@ fn test_parts<'a>(rule: Rule, sense: bool, op: Op, a: &'a CoreExp, b: &'a CoreEx
 pub fn assignment_parts<'a>(rule: Rule, value: &'a CoreExp, address: &'a CoreExp) -> Parts<'a>
     ensures { parts result ≡ assignment_parts_of rule (exp value.now) (exp address.now) }
 {
-    let any = Aim::Gets(Mode::Any);
+    let takes = rule.takes(Aim::Gets(Mode::Any), false);
     match (rule, operand(address)) {
-        (Rule::A1, Some(_)) => Parts::Single(part(any, value)),
-        (Rule::A2, None) => Parts::Pair(part(any, address), part(any, value)),
-        (Rule::A3, None) => Parts::Pair(part(any, value), part(any, address)),
+        (Rule::A1, Some(_)) => of_two(takes, value, address),
+        (Rule::A2 | Rule::A3, None) => of_two(takes, value, address),
         _ => Parts::NoRule,
     }
 }

@@ -9,6 +9,7 @@ pub struct Part<'a> {
 }
 
 /// The parts that a rule has at an expression, in the order of the code.
+#[derive(Clone, Copy)]
 pub enum Parts<'a> {
     /// The rule doesn't apply.
     NoRule,
