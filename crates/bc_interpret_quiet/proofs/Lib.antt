@@ -1,4 +1,4 @@
-pub mod Quick
+pub mod OnTrees
 pub mod Kept
 pub mod Stacks
 pub mod Steps

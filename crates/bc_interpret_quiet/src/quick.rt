@@ -16,7 +16,7 @@ use bc_word::{Op, Word, apply};
 pub(crate) const DEPTH: usize = 16;
 
 /// Whether no call and no VALOF stands in an expression; false also where it is deeper than this.
-#[tactic(auto, using(crate::proofs::Quick::neither))]
+#[tactic(auto, using(crate::proofs::OnTrees::neither))]
 fn is_quiet(e: &CoreExp, depth: usize) -> bool
     ensures { IsTrue result → has_call (exp e.now) ≡ false }
 {
@@ -48,7 +48,7 @@ fn word_at(sight: &Sight<'_>, address: u16) -> Option<u16>
 
 /// The number that an expression without call and VALOF is worth, if it is worth one. There is none also where it is deeper than this.
 #[cycle(quick)]
-#[tactic(auto, using(crate::proofs::Quick::neither, crate::proofs::Quick::worked_out, crate::proofs::Quick::both_worked_out))]
+#[tactic(auto, using(crate::proofs::OnTrees::neither, crate::proofs::OnTrees::worked_out, crate::proofs::OnTrees::both_worked_out))]
 pub(crate) fn quick_value(sight: &Sight<'_>, e: &CoreExp, depth: usize) -> Option<u16>
     ensures { IsQuickValue (sight_of sight.now) (exp e.now) result }
 {
@@ -104,7 +104,7 @@ pub(crate) fn quick_value(sight: &Sight<'_>, e: &CoreExp, depth: usize) -> Optio
 
 /// The truth of an expression without call and VALOF, if it has one. There is none also where it is deeper than this.
 #[cycle(quick)]
-#[tactic(auto, using(crate::proofs::Quick::neither, crate::proofs::Quick::worked_out))]
+#[tactic(auto, using(crate::proofs::OnTrees::neither, crate::proofs::OnTrees::worked_out))]
 pub(crate) fn quick_truth(sight: &Sight<'_>, e: &CoreExp, depth: usize) -> Option<bool>
     ensures { IsQuickTruth (sight_of sight.now) (exp e.now) result }
 {

@@ -29,9 +29,9 @@ pub(crate) fn give_number<'c>(
             stacks.next = Progress::Answered;
             Ok(())
         }
-        Some(Rest::Number(rest)) => Ok(number_taken(&rest, v, stacks, state)?),
-        Some(Rest::Value(rest)) => Ok(value_taken(&rest, v, stacks, state)?),
-        Some(Rest::Calls(fresh, frame)) => Ok(arrive(table, v, fresh, frame, stacks, state)?),
+        Some(Rest::Number(rest)) => number_taken(&rest, v, stacks, state),
+        Some(Rest::Value(rest)) => value_taken(&rest, v, stacks, state),
+        Some(Rest::Calls(fresh, frame)) => arrive(table, v, fresh, frame, stacks, state),
         Some(Rest::Closes(count, from)) => {
             state.store.close(count as usize, from as usize);
             stacks.next = Progress::On(Work::Number(v));
@@ -58,7 +58,7 @@ pub(crate) fn give_verdict<'c>(
             stacks.next = Progress::Answered;
             Ok(())
         }
-        Some(Rest::Truth(rest)) => Ok(truth_taken(&rest, t, stacks, state)?),
+        Some(Rest::Truth(rest)) => truth_taken(&rest, t, stacks, state),
         Some(Rest::Closes(count, from)) => {
             state.store.close(count as usize, from as usize);
             stacks.next = Progress::On(Work::Verdict(t));
@@ -91,7 +91,7 @@ pub(crate) fn give_nothing<'c>(
             stacks.next = Progress::Answered;
             Ok(())
         }
-        Some(Rest::Nothing(rest)) => Ok(nothing_taken(&rest, stacks)?),
+        Some(Rest::Nothing(rest)) => nothing_taken(&rest, stacks),
         Some(Rest::Closes(count, from)) => {
             state.store.close(count as usize, from as usize);
             stacks.next = Progress::On(Work::Nothing);
@@ -125,7 +125,7 @@ pub(crate) fn give_exit<'c>(
             stacks.next = Progress::Answered;
             Ok(())
         }
-        Some(Rest::Exit(rest)) => Ok(exit_taken(&rest, exit, stacks, state)?),
+        Some(Rest::Exit(rest)) => exit_taken(&rest, exit, stacks, state),
         Some(Rest::Closes(count, from)) => {
             state.store.close(count as usize, from as usize);
             stacks.next = Progress::On(Work::Left(exit));

@@ -39,54 +39,31 @@ pub(crate) fn perform<'c>(
         (command_view command.now) s) stacks.old.rests state.old result stacks.new.next stacks.new.rests state.new }
 {
     match command {
-        Command::Call(call) => Ok(behind_value(ValueRest::Drops, spot, call, s, stacks, state)?),
+        Command::Call(call) => behind_value(ValueRest::Drops, spot, call, s, stacks, state),
         Command::Assign { value, address } => {
             put(Rest::Nothing(NothingRest::Passes), &mut stacks.rests)?;
             stacks.next = Progress::On(Work::Store(spot, value, address, s));
             Ok(())
         }
-        Command::If(condition, body) => Ok(if_so(spot, condition, body, s, stacks, state)?),
-        Command::Test(test, this, that) => Ok(test_which(
-            spot,
-            test,
-            (this, that),
-            s,
-            stacks,
-            state,
-        )?),
-        Command::While(condition, body) => Ok(while_loop(spot, condition, body, s, stacks, state)?),
-        Command::Repeat(body) => Ok(repeat(spot, body, s, stacks)?),
-        Command::RepeatWhile(body, condition) => Ok(repeat_while(
-            spot, body, condition, s, stacks,
-        )?),
+        Command::If(condition, body) => if_so(spot, condition, body, s, stacks, state),
+        Command::Test(test, this, that) => test_which(spot, test, (this, that), s, stacks, state),
+        Command::While(condition, body) => while_loop(spot, condition, body, s, stacks, state),
+        Command::Repeat(body) => repeat(spot, body, s, stacks),
+        Command::RepeatWhile(body, condition) => repeat_while(spot, body, condition, s, stacks),
         Command::For {
             start,
             limit,
             by,
             body,
-        } => {
-            let cell = above(spot.frame, s)?;
-            state.store.open(1, cell as usize);
-            put(Rest::Closes(1, cell), &mut stacks.rests)?;
-            put(
-                Rest::Nothing(NothingRest::Limits(spot, limit, by.get(), body, s)),
-                &mut stacks.rests,
-            )?;
-            put(
-                Rest::Value(ValueRest::StoresAt(cell_of(spot.frame as usize, s as usize)?)),
-                &mut stacks.rests,
-            )?;
-            stacks.next = Progress::On(Work::Evaluate(spot, start, above(s, 2)?));
-            Ok(())
-        }
-        Command::SwitchOn(value, items) => Ok(behind_value(
+        } => for_loop(spot, (start, limit), by.get(), body, s, stacks, state),
+        Command::SwitchOn(value, items) => behind_value(
             ValueRest::Switches(spot, items, s),
             spot,
             value,
             s,
             stacks,
             state,
-        )?),
+        ),
         Command::Break => {
             stacks.next = Progress::On(Work::Left(Exit::Broke));
             Ok(())
@@ -103,14 +80,7 @@ pub(crate) fn perform<'c>(
             stacks.next = Progress::On(Work::Left(Exit::Returned));
             Ok(())
         }
-        Command::ResultIs(value) => Ok(behind_value(
-            ValueRest::Leaves,
-            spot,
-            value,
-            s,
-            stacks,
-            state,
-        )?),
+        Command::ResultIs(value) => behind_value(ValueRest::Leaves, spot, value, s, stacks, state),
         Command::Finish => {
             stacks.next = Progress::Ended(Ending::Finished);
             Ok(())
@@ -123,8 +93,37 @@ pub(crate) fn perform<'c>(
             stacks.next = Progress::On(Work::Left(Exit::Jumped(*label)));
             Ok(())
         }
-        Command::Nested(body) => Ok(enter(spot, body, s, stacks, state)?),
+        Command::Nested(body) => enter(spot, body, s, stacks, state),
     }
+}
+
+/// One step into a FOR with this start, this limit and this step.
+fn for_loop<'c>(
+    spot: Spot<'c>,
+    bounds: (&'c CoreExp, &'c CoreExp),
+    by: u16,
+    body: &'c Block,
+    s: u32,
+    stacks: &mut Stacks<'c>,
+    state: &mut State,
+) -> Result<(), Memory>
+    ensures { Proceeds (machine.perform_step (spot_of spot.entry) (commands.For (exp bounds.entry.0.now) (exp bounds.entry.1.now) by (block_of body.now)) s)
+        stacks.old.rests state.old result stacks.new.next stacks.new.rests state.new }
+{
+    let (start, limit) = bounds;
+    let cell = above(spot.frame, s)?;
+    state.store.open(1, cell as usize);
+    put(Rest::Closes(1, cell), &mut stacks.rests)?;
+    put(
+        Rest::Nothing(NothingRest::Limits(spot, limit, by, body, s)),
+        &mut stacks.rests,
+    )?;
+    put(
+        Rest::Value(ValueRest::StoresAt(cell_of(spot.frame as usize, s as usize)?)),
+        &mut stacks.rests,
+    )?;
+    stacks.next = Progress::On(Work::Evaluate(spot, start, above(s, 2)?));
+    Ok(())
 }
 
 /// One step into an expression in front of this.
@@ -268,7 +267,7 @@ fn if_so<'c>(
     match truth_at(&spot, &condition.test, &mut stacks.room, state)? {
         Some(Truth::Is(t)) => {
             let holds = agrees(condition.sense, t);
-            Ok(enter_if(holds, spot, body, s, stacks, state)?)
+            enter_if(holds, spot, body, s, stacks, state)
         }
         Some(Truth::Divides) => {
             put(
@@ -314,7 +313,7 @@ pub(crate) fn while_loop<'c>(
     match truth_at(&spot, &condition.test, &mut stacks.room, state)? {
         Some(Truth::Is(t)) => {
             let holds = agrees(condition.sense, t);
-            Ok(enter_while(holds, spot, condition, body, s, stacks, state)?)
+            enter_while(holds, spot, condition, body, s, stacks, state)
         }
         Some(Truth::Divides) => {
             put(

@@ -145,16 +145,16 @@ fn evaluate_parts<'c>(
             stacks.next = Progress::On(Work::Evaluate(spot, left, above(s, 1)?));
             Ok(())
         }
-        CoreExp::Cond(condition, this, that) => Ok(choice(
+        CoreExp::Cond(condition, this, that) => choice(
             spot,
             condition,
             (this, that),
             s,
             stacks,
             state,
-        )?),
-        CoreExp::Call(arguments, routine) => Ok(call(spot, arguments, routine, s, stacks, state)?),
-        CoreExp::Valof(number) => Ok(valof(spot, *number as u32, s, stacks)?),
+        ),
+        CoreExp::Call(arguments, routine) => call(spot, arguments, routine, s, stacks, state),
+        CoreExp::Valof(number) => valof(spot, *number as u32, s, stacks),
     }
 }
 

@@ -28,41 +28,35 @@ pub fn step<'c>(
         (given stacks.old.rests.items) work.now) stacks.old.rests state.old result stacks.new.next stacks.new.rests state.new }
 {
     match work {
-        Work::Evaluate(spot, e, s) => Ok(evaluate(*spot, e, *s, stacks, state)?),
-        Work::Decide(spot, e, s) => Ok(decide(*spot, e, *s, stacks, state)?),
-        Work::Argue(arguments) => Ok(argue(*arguments, stacks, state)?),
-        Work::Store(spot, value, address, s) => Ok(store(
-            *spot, value, address, *s, stacks, state,
-        )?),
-        Work::Perform(spot, command, s) => Ok(perform(*spot, command, *s, stacks, state)?),
-        Work::While(spot, condition, body, s) => Ok(while_loop(
+        Work::Evaluate(spot, e, s) => evaluate(*spot, e, *s, stacks, state),
+        Work::Decide(spot, e, s) => decide(*spot, e, *s, stacks, state),
+        Work::Argue(arguments) => argue(*arguments, stacks, state),
+        Work::Store(spot, value, address, s) => store(*spot, value, address, *s, stacks, state),
+        Work::Perform(spot, command, s) => perform(*spot, command, *s, stacks, state),
+        Work::While(spot, condition, body, s) => while_loop(
             *spot, condition, body, *s, stacks, state,
-        )?),
-        Work::Repeat(spot, body, s) => Ok(repeat(*spot, body, *s, stacks)?),
-        Work::RepeatWhile(spot, body, condition, s) => Ok(repeat_while(
+        ),
+        Work::Repeat(spot, body, s) => repeat(*spot, body, *s, stacks),
+        Work::RepeatWhile(spot, body, condition, s) => repeat_while(
             *spot, body, condition, *s, stacks,
-        )?),
-        Work::Enter(spot, block, s) => Ok(enter(*spot, block, *s, stacks, state)?),
-        Work::Declare(spot, declarations, items, s, level) => Ok(declare(
+        ),
+        Work::Enter(spot, block, s) => enter(*spot, block, *s, stacks, state),
+        Work::Declare(spot, declarations, items, s, level) => declare(
             *spot,
             declarations,
             items,
             (*s, *level),
             stacks,
             state,
-        )?),
-        Work::Initialise(spot, variables, k, s) => Ok(initialise(
+        ),
+        Work::Initialise(spot, variables, k, s) => initialise(
             *spot, variables, *k, *s, stacks, state,
-        )?),
-        Work::Listing(spot, items, s, entry) => Ok(listing(
-            *spot, items, *s, *entry, stacks, state,
-        )?),
-        Work::Round(spot, limit, by, body, s) => Ok(round(
-            *spot, *limit, *by, body, *s, stacks, state,
-        )?),
-        Work::Number(v) => Ok(give_number(table, *v, stacks, state)?),
-        Work::Verdict(t) => Ok(give_verdict(table, *t, stacks, state)?),
-        Work::Nothing => Ok(give_nothing(table, stacks, state)?),
-        Work::Left(exit) => Ok(give_exit(table, *exit, stacks, state)?),
+        ),
+        Work::Listing(spot, items, s, entry) => listing(*spot, items, *s, *entry, stacks, state),
+        Work::Round(spot, limit, by, body, s) => round(*spot, *limit, *by, body, *s, stacks, state),
+        Work::Number(v) => give_number(table, *v, stacks, state),
+        Work::Verdict(t) => give_verdict(table, *t, stacks, state),
+        Work::Nothing => give_nothing(table, stacks, state),
+        Work::Left(exit) => give_exit(table, *exit, stacks, state),
     }
 }

@@ -60,14 +60,14 @@ pub(crate) fn truth_taken<'c>(
         }
         TruthRest::Ifs(spot, sense, body, s) => {
             let holds = agrees(*sense, t);
-            Ok(enter_if(holds, *spot, body, *s, stacks, state)?)
+            enter_if(holds, *spot, body, *s, stacks, state)
         }
         TruthRest::Chooses(spot, this, that, s) => {
-            Ok(enter_either(t, *spot, (this, that), *s, stacks, state)?)
+            enter_either(t, *spot, (this, that), *s, stacks, state)
         }
         TruthRest::Whiles(spot, condition, body, s) => {
             let holds = agrees(condition.sense, t);
-            Ok(enter_while(holds, *spot, condition, body, *s, stacks, state)?)
+            enter_while(holds, *spot, condition, body, *s, stacks, state)
         }
         TruthRest::RepeatWhiles(spot, body, condition, s) => {
             if agrees(condition.sense, t) {

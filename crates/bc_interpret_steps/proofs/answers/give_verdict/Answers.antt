@@ -1,12 +1,13 @@
 use Rattle.std.proofs.Common.{Some, subst}
+use Rattle.std.proofs.lemmas.Result.{on_ok_weaker}
 use Rattle.bc_interpret_defs.specs.Machine as machine
 use Rattle.bc_interpret_steps.specs.Code.{truth_rest, stack, given, Taken}
 use Rattle.bc_interpret_steps.proofs.Handing.{handed}
 use Rattle.bc_interpret_steps.proofs.answers.give_verdict.Goals as goal
 
-pub returns-in_ok-truth_taken-in-Some-Truth : goal.returns-in_ok-truth_taken-in-Some-Truth
-returns-in_ok-truth_taken-in-Some-Truth c program table =
+pub returns-in-Some-Truth : goal.returns-in-Some-Truth
+returns-in-Some-Truth c program table =
     let middle = c.take.new.self.rests.items in
     let after = c.truth_taken.new.stacks.rests.items in
-    handed program (machine.Verdict c.args.t) (stack c.args.stacks.now.rests.items) (truth_rest c.in-Some-Truth.rest) (stack middle) c.args.state.now
-    c.truth_taken.new.stacks.next (stack after) (given after) c.truth_taken.new.state (subst (λ r. Taken (Some r) c.args.stacks.now.rests.items middle) c.in-Some-Truth.field-0-is c.in-Some-Truth.ensures) (c.in_ok-truth_taken-in-Some-Truth.ensures program)
+    on_ok_weaker c.truth_taken.result (λ h. handed program (machine.Verdict c.args.t) (stack c.args.stacks.now.rests.items) (truth_rest c.in-Some-Truth.rest) (stack middle) c.args.state.now
+    c.truth_taken.new.stacks.next (stack after) (given after) c.truth_taken.new.state (subst (λ r. Taken (Some r) c.args.stacks.now.rests.items middle) c.in-Some-Truth.field-0-is c.in-Some-Truth.ensures) h) (c.truth_taken.ensures program)

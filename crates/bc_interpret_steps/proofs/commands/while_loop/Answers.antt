@@ -1,15 +1,16 @@
 use Rattle.std.proofs.Common.{[]}
+use Rattle.std.proofs.lemmas.Result.{on_ok_weaker}
 use Rattle.bc_core.specs.View.{exp, block_of}
 use Rattle.bc_interpret_steps.specs.Code.{spot_of, stack, given}
 use Rattle.bc_interpret_steps.proofs.Tests.{while_told, while_divides, while_fails}
 use Rattle.bc_interpret_steps.proofs.commands.while_loop.Goals as goal
 
-pub returns-in_ok-enter_while-in-Some-Is : goal.returns-in_ok-enter_while-in-Some-Is
-returns-in_ok-enter_while-in-Some-Is c =
+pub returns-in-Some-Is : goal.returns-in-Some-Is
+returns-in-Some-Is c =
     let before = c.args.stacks.now.rests.items in
     let after = c.enter_while.new.stacks.rests.items in
-    while_told (spot_of c.args.spot) c.args.condition.now.sense (exp c.args.condition.now.test) (block_of c.args.body.now) c.args.s (stack before) c.args.state.now c.in_ok-t.field-0 c.in-Some-Is.t c.agrees-holds.result c.enter_while.new.stacks.next (stack after) (given after) c.enter_while.new.state
-    c.in_ok-t.ensures (cc) c.agrees-holds.ensures c.in_ok-enter_while-in-Some-Is.ensures
+    on_ok_weaker c.enter_while.result (λ h. while_told (spot_of c.args.spot) c.args.condition.now.sense (exp c.args.condition.now.test) (block_of c.args.body.now) c.args.s (stack before) c.args.state.now c.in_ok-t.field-0 c.in-Some-Is.t c.agrees-holds.result c.enter_while.new.stacks.next (stack after) (given after) c.enter_while.new.state
+    c.in_ok-t.ensures (cc) c.agrees-holds.ensures h) c.enter_while.ensures
 
 pub returns-in_ok-put-in-Some-Divides : goal.returns-in_ok-put-in-Some-Divides
 returns-in_ok-put-in-Some-Divides c =
