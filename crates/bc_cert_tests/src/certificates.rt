@@ -1,7 +1,7 @@
 use bc_cert_write::{CertFault, Entry, write_cert};
 use bc_core::{CoreExp, Root};
 use bc_rules_defs::{Derivation, Rule};
-use bc_word::Word;
+use bc_word::{Memory, Word};
 use std::alloc::Global;
 use std::io;
 use std::io::{ErrorKind, Write};
@@ -9,50 +9,68 @@ use std::io::{ErrorKind, Write};
 const SAMPLE: &[u8] =
     b"BCPLCERT 2\nE 0 1 0 2 4\n4 N65 1 1 0 2 V0.V1\n5 G14 1 1 3 3 -\n5 ! 1 1 3 3 V0.V1\n2 K1 4 - 6 6 V22\nR V\nC L65 SP4 LIG14 K2\nZ 1\n";
 
-fn by(rule: Rule, parts: Vec<Derivation>) -> Derivation {
-    Derivation { rule, parts }
-}
-
 fn leaf(alloc: Global, rule: Rule) -> Derivation {
-    by(rule, Vec::new(alloc))
+    Derivation {
+        rule,
+        parts: Vec::new(alloc),
+    }
 }
 
-fn over(alloc: Global, rule: Rule, part: Derivation) -> Result<Derivation, CertFault> {
+/// V0 over V1.
+fn pushed(alloc: Global) -> Result<Derivation, Memory> {
     let mut parts = Vec::new(alloc);
-    parts.push(part)?;
-    Ok(by(rule, parts))
+    parts.push(leaf(alloc, Rule::V1))?;
+    Ok(Derivation {
+        rule: Rule::V0,
+        parts,
+    })
 }
 
-fn pushed(alloc: Global) -> Result<Derivation, CertFault> {
-    over(alloc, Rule::V0, leaf(alloc, Rule::V1))
+/// V22 over two of these.
+fn derivation(alloc: Global) -> Result<Derivation, Memory> {
+    let mut parts = Vec::new(alloc);
+    for _ in 0..2 {
+        parts.push(pushed(alloc)?)?;
+    }
+    Ok(Derivation {
+        rule: Rule::V22,
+        parts,
+    })
 }
 
-// The entry of the sample.
-fn sample_entry(alloc: Global) -> Result<Entry, CertFault> {
+/// What global 14 holds.
+fn routine(alloc: Global) -> Result<Box<CoreExp>, Memory> {
+    let global = Box::new(alloc, CoreExp::Glob(14))?;
+    Ok(Box::new(alloc, CoreExp::Load(global))?)
+}
+
+/// A call of that with 65.
+fn call(alloc: Global) -> Result<CoreExp, Memory> {
     let mut arguments = Vec::new(alloc);
     arguments.push(CoreExp::Num(Word::new(65)))?;
-    let global = Box::new(alloc, CoreExp::Glob(14))?;
-    let routine = Box::new(alloc, CoreExp::Load(global))?;
-    let mut parts = Vec::new(alloc);
-    parts.push(pushed(alloc)?)?;
-    parts.push(pushed(alloc)?)?;
-    Ok(Entry {
+    Ok(CoreExp::Call(arguments, routine(alloc)?))
+}
+
+/// The entry of the sample, with this root and this derivation.
+fn entry(alloc: Global, expression: CoreExp, derivation: Derivation) -> Entry {
+    Entry {
         segment: 0,
         item: 1,
         target: 0,
         first: 2,
         root: Root::Value {
             level: 2,
-            expression: CoreExp::Call(arguments, routine),
+            expression,
         },
-        derivation: by(Rule::V22, parts),
+        derivation,
         bodies: Vec::new(alloc),
-    })
+    }
 }
 
-fn sample(alloc: Global) -> Result<Vec<Entry>, CertFault> {
+fn sample(alloc: Global) -> Result<Vec<Entry>, Memory> {
     let mut entries = Vec::new(alloc);
-    entries.push(sample_entry(alloc)?)?;
+    let derivation = derivation(alloc)?;
+    entries.push(entry(alloc, call(alloc)?, derivation))?;
     Ok(entries)
 }
 
@@ -85,18 +103,32 @@ impl Write for Stuck {
     }
 }
 
-#[test]
-fn a_failing_writer_is_answered(rt: HostRuntime) -> Result<(), CertFault> {
-    let alloc = rt.alloc();
-    let entries = sample(alloc)?;
+/// Whether a writer that is stuck so is answered by its fault.
+fn is_answered(alloc: Global, entries: &[Entry], left: usize, fails: bool) -> bool {
+    let mut out = Stuck { left, fails };
+    write_cert(alloc, entries, &mut out) == Err(CertFault::Write)
+}
+
+/// The first length of what is taken at which a writer is answered otherwise.
+fn otherwise(alloc: Global, entries: &[Entry]) -> Option<usize> {
     for left in 0..SAMPLE.len() {
         for fails in [true, false] {
-            let mut out = Stuck { left, fails };
-            let got = write_cert(alloc, entries.as_slice(), &mut out);
-            assert_eq!(rt; got, Err(CertFault::Write), "{left}");
+            if !is_answered(alloc, entries, left, fails) {
+                return Some(left);
+            }
         }
     }
-    Ok(())
+    None
+}
+
+fn otherwise_of_sample(alloc: Global) -> Result<Option<usize>, Memory> {
+    let entries = sample(alloc)?;
+    Ok(otherwise(alloc, entries.as_slice()))
+}
+
+#[test]
+fn a_failing_writer_is_answered(rt: HostRuntime) {
+    assert_eq!(rt; otherwise_of_sample(rt.alloc()), Ok(None));
 }
 
 // Whether the sample is written, or want of memory is answered if it may be.
