@@ -24,6 +24,18 @@ const LINE: usize = 88;
 
 const SHOWN: usize = 50;
 
+/// What the sizes at the end are.
+const SIZES: [&str; 8] = [
+    "words of roots",
+    "words of commands",
+    "words of data",
+    "words of this segment",
+    "cells in front of all segments",
+    "words of the primitives",
+    "words of the library",
+    "is their sum: where the stack begins in a program of this file alone",
+];
+
 /// A file's section with its code, as the compiler made them.
 #[derive(Clone, Copy)]
 pub struct Program<'p, 's> {
@@ -70,7 +82,7 @@ struct Listing<'p, 's> {
 
 impl<'p, 's> Listing<'p, 's> {
     /// Tells a line of the file.
-    fn tell(&mut self, number: usize) -> Result<(), Memory> {
+    fn tell(&mut self, number: usize) {
         let line = self.lines.line(self.text, number);
         let sign = if line.is_empty() { " |" } else { " | " };
         self.last = Some(number);
@@ -79,15 +91,17 @@ impl<'p, 's> Listing<'p, 's> {
             Field::Number(number as u64, 4),
             Field::Text(sign),
             Field::Front(line, LINE),
-        ])
+        ]);
     }
 
     /// Tells that a line of another file is meant.
-    fn tell_elsewhere(&mut self, file: usize, at: usize) -> Result<(), Memory> {
+    fn tell_elsewhere(&mut self, file: usize, at: usize) {
         let text = self.program.files.text(file);
-        let lines = Lines::new(self.page.alloc(), text)?;
-        let number = lines.number_at(at);
         self.last = None;
+        let Ok(lines) = Lines::new(self.page.alloc(), text) else {
+            return self.page.refuse();
+        };
+        let number = lines.number_at(at);
         self.page.add_line(&[
             Field::Text("/ "),
             Field::Text(self.program.files.path(file)),
@@ -95,45 +109,53 @@ impl<'p, 's> Listing<'p, 's> {
             Field::Number(number as u64, 0),
             Field::Text(" | "),
             Field::Front(lines.line(text, number), SHOWN),
-        ])
+        ]);
     }
 
     /// Tells the lines up to this one that were not told.
-    fn tell_further(&mut self, number: usize) -> Result<(), Memory> {
+    fn tell_further(&mut self, number: usize) {
         for line in self.told..number {
-            self.tell(line.saturating_add(1))?;
+            self.tell(line.saturating_add(1));
         }
         self.told = number;
-        Ok(())
     }
 
     /// Tells the lines up to this one that were not told, or this one again.
-    fn tell_up_to(&mut self, number: usize) -> Result<(), Memory> {
+    fn tell_up_to(&mut self, number: usize) {
         if number > self.told {
             return self.tell_further(number);
         }
         match self.last {
-            Some(last) if last == number => Ok(()),
+            Some(last) if last == number => {}
             _ => self.tell(number),
         }
     }
 
     /// Tells where a leaf stands.
-    fn tell_leaf(&mut self, leaf: usize) -> Result<(), Memory> {
-        match self.leaves.get(leaf).copied() {
-            Some(token) if token.file == self.program.main => {
-                let number = self.lines.number_at(token.start);
-                self.tell_up_to(number)
-            }
-            Some(token) => self.tell_elsewhere(token.file, token.start),
-            None => Ok(()),
+    fn tell_leaf(&mut self, leaf: usize) {
+        let Some(token) = self.leaves.get(leaf).copied() else {
+            return;
+        };
+        if token.file == self.program.main {
+            self.tell_up_to(self.lines.number_at(token.start));
+        } else {
+            self.tell_elsewhere(token.file, token.start);
         }
     }
 
     /// The text of an item.
-    fn text_of(&self, item: &Item) -> Result<String, Memory> {
+    fn text_of(&mut self, item: &Item) -> String {
         let item = ShownItem(item);
-        Ok(format!(in self.page.alloc(); "{item}")?)
+        match format!(in self.page.alloc(); "{item}") {
+            Ok(text) => text,
+            Err(_) => self.refused(),
+        }
+    }
+
+    /// Nothing, for what can't be written.
+    fn refused(&mut self) -> String {
+        self.page.refuse();
+        String::new(self.page.alloc())
     }
 
     /// Whether an item that takes so many columns begins a further line, as labels do, and what would pass the limit.
@@ -144,7 +166,7 @@ impl<'p, 's> Listing<'p, 's> {
     }
 
     /// Adds an item to its line.
-    fn put_item(&mut self, item: &Item, text: &str) -> Result<(), Memory> {
+    fn put_item(&mut self, item: &Item, text: &str) {
         let before = if matches!(item, Item::Label(_)) {
             Field::Text("")
         } else if self.page.column() < ITEMS {
@@ -152,56 +174,56 @@ impl<'p, 's> Listing<'p, 's> {
         } else {
             Field::Text(" ")
         };
-        self.page.add_all(&[before, Field::Text(text)])
+        self.page.add_all(&[before, Field::Text(text)]);
     }
 
     /// Adds an item, where need be on a further line.
-    fn add_item(&mut self, item: &Item) -> Result<(), Memory> {
-        let text = self.text_of(item)?;
+    fn add_item(&mut self, item: &Item) {
+        let text = self.text_of(item);
         if self.is_further(item, text.len(), WIDTH) {
-            self.page.end_line()?;
+            self.page.end_line();
         }
-        self.put_item(item, text.as_str())
+        self.put_item(item, text.as_str());
     }
 
     /// Ends a line, with what is said in it.
-    fn end_line(&mut self, said: &str) -> Result<(), Memory> {
+    fn end_line(&mut self, said: &str) {
         if said.is_empty() {
             return self.page.end_line();
         }
-        self.page.add_line(&[Field::Column(SAID), Field::Text("/ "), Field::Text(said)])
+        self.page.add_line(&[Field::Column(SAID), Field::Text("/ "), Field::Text(said)]);
     }
 
     /// Tells what is said of the items that follow, in lines of its own.
-    fn say_before(&mut self, said: &str) -> Result<(), Memory> {
+    fn say_before(&mut self, said: &str) {
         self.page
-            .add_all(&[Field::Column(ITEMS), Field::Text("/ ")])?;
-        self.page.add_words(said, "        /   ")?;
-        self.page.end_line()
+            .add_all(&[Field::Column(ITEMS), Field::Text("/ ")]);
+        self.page.add_words(said, "        /   ");
+        self.page.end_line();
     }
 
     /// Adds items in lines up to this column, and behind the first line what is said of them.
-    fn put_items(&mut self, items: &[Item], said: &str, limit: usize) -> Result<(), Memory> {
+    fn put_items(&mut self, items: &[Item], said: &str, limit: usize) {
         let mut left = said;
         for item in items {
-            let text = self.text_of(item)?;
+            let text = self.text_of(item);
             if self.is_further(item, text.len(), limit) {
-                self.end_line(left)?;
+                self.end_line(left);
                 left = "";
             }
-            self.put_item(item, text.as_str())?;
+            self.put_item(item, text.as_str());
         }
-        self.end_line(left)
+        self.end_line(left);
     }
 
     /// Adds items in lines, and what is said of them: behind the first line, or in front where that is long.
-    fn add_items(&mut self, items: &[Item], said: &str) -> Result<(), Memory> {
+    fn add_items(&mut self, items: &[Item], said: &str) {
         let is_behind = SAID.saturating_add(said.len()).saturating_add(2) <= WIDTH;
         if is_behind {
             return self.put_items(items, said, SAID - 1);
         }
-        self.say_before(said)?;
-        self.put_items(items, "", WIDTH)
+        self.say_before(said);
+        self.put_items(items, "", WIDTH);
     }
 
     /// The items of an owner from this one on: the index behind the last that stands beside it.
@@ -232,9 +254,9 @@ impl<'p, 's> Listing<'p, 's> {
     }
 
     /// The items of a root, with its words and its rules.
-    fn add_root(&mut self, index: usize, items: &[Item]) -> Result<(), Memory> {
+    fn add_root(&mut self, index: usize, items: &[Item]) {
         if let Some(leaf) = self.marks.leaves.get(index).copied() {
-            self.tell_leaf(leaf)?;
+            self.tell_leaf(leaf);
         }
         let entries = self.program.entries;
         match entries.get(index) {
@@ -245,35 +267,52 @@ impl<'p, 's> Listing<'p, 's> {
     }
 
     /// The items of a root for the first time.
-    fn add_entry(&mut self, entry: &Entry, items: &[Item]) -> Result<(), Memory> {
+    fn add_entry(&mut self, entry: &Entry, items: &[Item]) {
         let alloc = self.page.alloc();
-        let words = words_of_entry(alloc, entry)?;
+        let words = words_of_entry(alloc, entry);
+        let words = self.counted(words);
         self.sizes.roots = self.sizes.roots.saturating_add(words);
         let rules = ShownDerivation(&entry.derivation);
         let unit = unit(words);
-        let said = format!(in alloc; "{words} {unit} by {rules}")?;
-        self.add_items(items, said.as_str())
+        match format!(in alloc; "{words} {unit} by {rules}") {
+            Ok(said) => self.add_items(items, said.as_str()),
+            Err(_) => self.page.refuse(),
+        }
+    }
+
+    /// A number of words, if it could be counted.
+    fn counted(&mut self, words: Result<u64, Memory>) -> u64 {
+        match words {
+            Ok(words) => words,
+            Err(_) => {
+                self.page.refuse();
+                0
+            }
+        }
     }
 
     /// Items of a command's own.
-    fn add_own(&mut self, index: usize, items: &[Item]) -> Result<(), Memory> {
+    fn add_own(&mut self, index: usize, items: &[Item]) {
         let Some(own) = self.marks.own.get(index).copied() else {
             return self.add_items(items, "");
         };
-        self.tell_leaf(own.leaf)?;
-        let words = words_of_items(self.page.alloc(), items)?;
+        self.tell_leaf(own.leaf);
+        let words = words_of_items(self.page.alloc(), items);
+        let words = self.counted(words);
         self.sizes.commands = self.sizes.commands.saturating_add(words);
-        self.add_counted(items, words, own.what.words())
+        self.add_counted(items, words, own.what.words());
     }
 
     /// Items of so many words, and what they are.
-    fn add_counted(&mut self, items: &[Item], words: u64, what: &str) -> Result<(), Memory> {
+    fn add_counted(&mut self, items: &[Item], words: u64, what: &str) {
         if words == 0 {
             return self.add_items(items, what);
         }
         let unit = unit(words);
-        let said = format!(in self.page.alloc(); "{words} {unit}: {what}")?;
-        self.add_items(items, said.as_str())
+        match format!(in self.page.alloc(); "{words} {unit}: {what}") {
+            Ok(said) => self.add_items(items, said.as_str()),
+            Err(_) => self.page.refuse(),
+        }
     }
 
     /// The token at the leaf of this place, if there is one.
@@ -284,33 +323,32 @@ impl<'p, 's> Listing<'p, 's> {
     }
 
     /// Tells what a place is whose data follow.
-    fn tell_place(&mut self, label: u16) -> Result<(), Memory> {
+    fn tell_place(&mut self, label: u16) {
         let Some(token) = self.token_of_place(label) else {
-            return Ok(());
+            return;
         };
         let index = usize::from(label).saturating_sub(1);
         let what = match self.program.core.places().get(index) {
             Some(Place::Static(_)) => "static ",
             Some(Place::Table(_)) => "",
             Some(Place::Text(_)) => "string ",
-            Some(Place::Routine(_)) | None => return Ok(()),
+            Some(Place::Routine(_)) | None => return,
         };
-        let shown = [
+        self.page.add_all(&[
             Field::Text("/ "),
             Field::Text(what),
             Field::Front(token.text, SHOWN),
-        ];
+        ]);
         if token.file != self.program.main {
-            return self.page.add_line(&shown);
+            return self.page.end_line();
         }
-        self.page.add_all(&shown)?;
         let number = self.lines.number_at(token.start);
-        self.page.add_line(&[Field::Text(" of line "), Field::Number(number as u64, 0)])
+        self.page.add_line(&[Field::Text(" of line "), Field::Number(number as u64, 0)]);
     }
 
     /// A global that is set.
-    fn add_setting(&mut self, item: &Item, label: u16) -> Result<(), Memory> {
-        self.add_item(item)?;
+    fn add_setting(&mut self, item: &Item, label: u16) {
+        self.add_item(item);
         let name: &[u8] = match self.token_of_place(label) {
             Some(token) => token.text,
             None => b"",
@@ -319,88 +357,88 @@ impl<'p, 's> Listing<'p, 's> {
             Field::Column(SAID),
             Field::Text("/ "),
             Field::Front(name, SHOWN),
-        ])
+        ]);
     }
 
     /// A label, and what it is that of.
-    fn add_place(&mut self, item: &Item, label: u16) -> Result<(), Memory> {
-        self.page.end_begun()?;
-        self.tell_place(label)?;
-        self.add_item(item)
+    fn add_place(&mut self, item: &Item, label: u16) {
+        self.page.end_begun();
+        self.tell_place(label);
+        self.add_item(item);
     }
 
     /// An item of the section's.
-    fn add_datum(&mut self, item: &Item) -> Result<(), Memory> {
+    fn add_datum(&mut self, item: &Item) {
         match item {
             Item::Label(label) => self.add_place(item, label.get()),
             Item::Global { label, .. } => {
-                self.page.end_begun()?;
-                self.add_setting(item, label.get())
+                self.page.end_begun();
+                self.add_setting(item, label.get());
             }
             _ => self.add_item(item),
         }
     }
 
     /// What is the section's: its data, and the globals that it sets.
-    fn add_data(&mut self, items: &[Item]) -> Result<(), Memory> {
-        let words = words_of_items(self.page.alloc(), items)?;
+    fn add_data(&mut self, items: &[Item]) {
+        let words = words_of_items(self.page.alloc(), items);
+        let words = self.counted(words);
         self.sizes.data = self.sizes.data.saturating_add(words);
         for item in items {
-            self.add_datum(item)?;
+            self.add_datum(item);
         }
-        self.page.end_begun()
+        self.page.end_begun();
     }
 
     /// The items from this one on that have one owner; gives the index behind them.
-    fn add_run(&mut self, from: usize) -> Result<usize, Memory> {
+    fn add_run(&mut self, from: usize) -> usize {
         let end = self.end_of_run(from);
         let all = self.program.items;
-        let Some(items) = all.get(from..end) else {
-            return Ok(end);
-        };
-        self.add_owned(self.marks.owners.get(from).copied(), items)?;
-        Ok(end)
+        if let Some(items) = all.get(from..end) {
+            self.add_owned(self.marks.owners.get(from).copied(), items);
+        }
+        end
     }
 
     /// The items of an owner.
-    fn add_owned(&mut self, owner: Option<Owner>, items: &[Item]) -> Result<(), Memory> {
+    fn add_owned(&mut self, owner: Option<Owner>, items: &[Item]) {
         match owner {
             Some(Owner::Root(index)) => self.add_root(index, items),
             Some(Owner::Command(index)) => self.add_own(index, items),
             Some(Owner::Section) => {
-                self.tell_further(self.lines.count(self.text))?;
-                self.add_data(items)
+                self.tell_further(self.lines.count(self.text));
+                self.add_data(items);
             }
-            None => Ok(()),
+            None => {}
         }
     }
 
     /// Adds all items in runs of one owner, the end of the text, and the sizes.
-    fn add_all(&mut self) -> Result<(), Memory> {
+    fn add_all(&mut self) {
         let count = self.program.items.len();
         let mut at: usize = 0;
         for _ in 0..count {
             if at >= count {
                 break;
             }
-            at = self.add_run(at)?;
+            at = self.add_run(at);
         }
-        self.page.add_line(&[Field::Text("Z")])?;
-        self.add_sizes()
+        self.page.add_line(&[Field::Text("Z")]);
+        self.add_sizes();
     }
 
     /// A line of sizes.
-    fn add_size(&mut self, words: u64, what: &str) -> Result<(), Memory> {
+    fn add_size(&mut self, words: u64, what: &str) {
         self.page.add_line(&[
             Field::Text("/ "),
             Field::Number(words, 6),
             Field::Text("  "),
             Field::Text(what),
-        ])
+        ]);
     }
 
     /// How many words there are, and at which address the stack begins.
-    fn add_sizes(&mut self) -> Result<(), Memory> {
+    fn add_sizes(&mut self) {
         let Sizes {
             roots,
             commands,
@@ -412,22 +450,10 @@ impl<'p, 's> Listing<'p, 's> {
             .saturating_add(cells)
             .saturating_add(primitives)
             .saturating_add(library);
-        for (words, what) in [
-            (roots, "words of roots"),
-            (commands, "words of commands"),
-            (data, "words of data"),
-            (own, "words of this segment"),
-            (cells, "cells in front of all segments"),
-            (primitives, "words of the primitives"),
-            (library, "words of the library"),
-            (
-                sum,
-                "is their sum: where the stack begins in a program of this file alone",
-            ),
-        ] {
-            self.add_size(words, what)?;
+        let words = [roots, commands, data, own, cells, primitives, library, sum];
+        for (words, what) in words.iter().zip(&SIZES) {
+            self.add_size(*words, what);
         }
-        Ok(())
     }
 }
 
@@ -486,8 +512,36 @@ fn listed<'p, 's>(
             data: 0,
         },
     };
-    listing.add_all()?;
-    Ok(listing.page.into_text())
+    listing.add_all();
+    listing.page.into_text()
+}
+
+/// The listing of a program's code, whose items are marked so.
+fn listed_by_marks(
+    alloc: Global,
+    program: Program<'_, '_>,
+    outline: &Outline,
+    marks: &Marks,
+) -> Result<Vec<u8>, Memory> {
+    let lines = Lines::new(alloc, program.files.text(program.main))?;
+    let leaves = leaves_of(alloc, program.tokens)?;
+    let beside = Beside {
+        lines: &lines,
+        leaves: leaves.as_slice(),
+        marks,
+        places: outline.places.as_slice(),
+    };
+    listed(alloc, program, beside)
+}
+
+/// The listing of a program's code with these steps.
+fn listed_by_steps(
+    alloc: Global,
+    program: Program<'_, '_>,
+    outline: &Outline,
+) -> Result<Vec<u8>, Memory> {
+    let marks = Marks::new(alloc, outline, program.items.len(), program.entries)?;
+    listed_by_marks(alloc, program, outline, &marks)
 }
 
 /// The code of a file's section, each source line as a comment in front of its roots and of what is its commands' own, with
@@ -495,14 +549,5 @@ fn listed<'p, 's>(
 /// growth was refused.
 pub fn code_listing(alloc: Global, program: Program<'_, '_>) -> Result<Vec<u8>, Memory> {
     let outline = Outline::new(alloc, program.section)?;
-    let marks = Marks::new(alloc, &outline, program.items.len(), program.entries)?;
-    let lines = Lines::new(alloc, program.files.text(program.main))?;
-    let leaves = leaves_of(alloc, program.tokens)?;
-    let beside = Beside {
-        lines: &lines,
-        leaves: leaves.as_slice(),
-        marks: &marks,
-        places: outline.places.as_slice(),
-    };
-    listed(alloc, program, beside)
+    listed_by_steps(alloc, program, &outline)
 }

@@ -104,28 +104,6 @@ fn own_items(
     Ok(inside)
 }
 
-/// Puts these indexes' bodies on a stack, so that the first one is on top.
-fn stack(waiting: &mut Vec<Cursor>, bodies: &[usize]) -> Result<(), Memory> {
-    for body in bodies.iter().rev() {
-        waiting.push(Cursor {
-            body: *body,
-            next: 0,
-        })?;
-    }
-    Ok(())
-}
-
-/// The bodies of VALOFs with these numbers.
-fn bodies_of(alloc: Global, outline: &Outline, numbers: &[u64]) -> Result<Vec<usize>, Memory> {
-    let mut bodies = Vec::new(alloc);
-    for number in numbers {
-        if let Some(body) = outline.valofs.get(*number as usize) {
-            bodies.push(*body)?;
-        }
-    }
-    Ok(bodies)
-}
-
 /// How many steps there are, and bodies.
 fn count_of(outline: &Outline) -> usize {
     let mut count: usize = outline.bodies.len().saturating_add(1);
@@ -161,29 +139,102 @@ fn share(owners: &mut [Owner], steps: &[Own]) {
     }
 }
 
+/// What stands in the code of each of these entries, whose items become theirs.
+fn insides_of(
+    alloc: Global,
+    owners: &mut Vec<Owner>,
+    entries: &[Entry],
+) -> Result<Vec<Inside>, Memory> {
+    let mut insides = Vec::new(alloc);
+    for (index, entry) in entries.iter().enumerate() {
+        insides.push(own_items(alloc, owners, index, entry)?)?;
+    }
+    Ok(insides)
+}
+
+/// A walk through the steps in the order of the code: a root's before those of its VALOFs.
+#[derive(Drop)]
+struct Following<'o> {
+    outline: &'o Outline,
+    /// What stands in the code of each root.
+    insides: &'o [Inside],
+    /// The bodies that are begun or to come, the one at work last.
+    waiting: Vec<Cursor>,
+    is_refused: bool,
+}
+
+impl Following<'_> {
+    fn wait(&mut self, cursor: Cursor) {
+        if self.waiting.push(cursor).is_err() {
+            self.is_refused = true;
+        }
+    }
+
+    /// A body that is to come first.
+    fn enter(&mut self, body: usize) {
+        self.wait(Cursor { body, next: 0 });
+    }
+
+    /// All routines, in their order.
+    fn enter_routines(&mut self) {
+        for body in self.outline.routines.iter().rev() {
+            self.enter(*body);
+        }
+    }
+
+    /// The bodies of the VALOFs with these numbers, in their order.
+    fn enter_valofs(&mut self, numbers: &[u64]) {
+        for number in numbers.iter().rev() {
+            if let Some(body) = self.outline.valofs.get(*number as usize) {
+                self.enter(*body);
+            }
+        }
+    }
+
+    /// Takes the step at this place, if there is one.
+    fn take(&mut self, marks: &mut Marks, cursor: Cursor) {
+        let Some(step) = step_at(self.outline, cursor) else {
+            return;
+        };
+        self.wait(Cursor {
+            body: cursor.body,
+            next: cursor.next.saturating_add(1),
+        });
+        self.enter_valofs(marks.inside(step, self.insides));
+        if marks.add(step).is_err() {
+            self.is_refused = true;
+        }
+    }
+
+    /// Takes all steps.
+    fn take_all(&mut self, marks: &mut Marks) {
+        self.enter_routines();
+        for _ in 0..count_of(self.outline) {
+            let Some(cursor) = self.waiting.pop() else {
+                break;
+            };
+            self.take(marks, cursor);
+        }
+    }
+}
+
 impl Marks {
-    /// Goes through the steps in the order of the code: a root's before those of its VALOFs.
+    /// Adds what is roots' and commands' in the order of the code.
     fn follow(
         &mut self,
         alloc: Global,
         outline: &Outline,
         insides: &[Inside],
     ) -> Result<(), Memory> {
-        let mut waiting = Vec::new(alloc);
-        stack(&mut waiting, &outline.routines)?;
-        for _ in 0..count_of(outline) {
-            let Some(cursor) = waiting.pop() else {
-                break;
-            };
-            if let Some(step) = step_at(outline, cursor) {
-                waiting.push(Cursor {
-                    body: cursor.body,
-                    next: cursor.next.saturating_add(1),
-                })?;
-                let bodies = bodies_of(alloc, outline, self.inside(step, insides))?;
-                stack(&mut waiting, &bodies)?;
-                self.add(step)?;
-            }
+        let mut following = Following {
+            outline,
+            insides,
+            waiting: Vec::new(alloc),
+            is_refused: false,
+        };
+        following.take_all(self);
+        if following.is_refused {
+            return Err(Memory);
         }
         Ok(())
     }
@@ -218,10 +269,7 @@ impl Marks {
         entries: &[Entry],
     ) -> Result<Marks, Memory> {
         let mut owners = vec![in alloc; Owner::Section; count]?;
-        let mut insides = Vec::new(alloc);
-        for (index, entry) in entries.iter().enumerate() {
-            insides.push(own_items(alloc, &mut owners, index, entry)?)?;
-        }
+        let insides = insides_of(alloc, &mut owners, entries)?;
         let mut marks = Marks {
             owners,
             leaves: Vec::new(alloc),

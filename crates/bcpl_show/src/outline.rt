@@ -103,6 +103,8 @@ pub struct Outline {
     pub valofs: Vec<usize>,
     /// The leaf of each place: the name of a routine or static, the word of a table, a string.
     pub places: Vec<usize>,
+    /// Whether a growth was refused. What is met from then on counts for nothing.
+    is_refused: bool,
 }
 
 /// How many CASEs a list has.
@@ -128,9 +130,13 @@ impl Outline {
             routines: Vec::new(alloc),
             valofs: Vec::new(alloc),
             places: Vec::new(alloc),
+            is_refused: false,
         };
-        let outside = outline.body()?;
-        outline.declarations(outside, &section.declarations)?;
+        let outside = outline.body();
+        outline.declarations(outside, &section.declarations);
+        if outline.is_refused {
+            return Err(Memory);
+        }
         Ok(outline)
     }
 
@@ -139,139 +145,139 @@ impl Outline {
     }
 
     /// A body more, without steps.
-    fn body(&mut self) -> Result<usize, Memory> {
+    fn body(&mut self) -> usize {
         let body = self.bodies.len();
-        self.bodies.push(Vec::new(self.alloc))?;
-        Ok(body)
+        if self.bodies.push(Vec::new(self.alloc)).is_err() {
+            self.is_refused = true;
+        }
+        body
     }
 
-    fn step(&mut self, body: usize, leaf: usize, work: Work) -> Result<(), Memory> {
+    fn step(&mut self, body: usize, leaf: usize, work: Work) {
         if let Some(steps) = self.bodies.get_mut(body) {
-            steps.push(Step { leaf, work })?;
+            if steps.push(Step { leaf, work }).is_err() {
+                self.is_refused = true;
+            }
         }
-        Ok(())
     }
 
     /// A root at the next leaf.
-    fn root(&mut self, body: usize) -> Result<(), Memory> {
-        self.step(body, self.leaves, Work::Root)
+    fn root(&mut self, body: usize) {
+        self.step(body, self.leaves, Work::Root);
     }
 
     /// Items of a command's own at the leaf that was met last.
-    fn own(&mut self, body: usize, count: usize, what: Purpose) -> Result<(), Memory> {
-        self.step(body, self.leaves.saturating_sub(1), Work::Own(count, what))
+    fn own(&mut self, body: usize, count: usize, what: Purpose) {
+        self.step(body, self.leaves.saturating_sub(1), Work::Own(count, what));
     }
 
     /// A place at the next leaf.
-    fn place(&mut self) -> Result<(), Memory> {
-        Ok(self.places.push(self.leaves)?)
+    fn place(&mut self) {
+        if self.places.push(self.leaves).is_err() {
+            self.is_refused = true;
+        }
     }
 
     /// A leaf that is a place.
-    fn placed(&mut self) -> Result<(), Memory> {
-        self.place()?;
+    fn placed(&mut self) {
+        self.place();
         self.leaf();
-        Ok(())
     }
 
     #[cycle(walking)]
-    fn expression(&mut self, e: &Exp<'_>) -> Result<(), Memory> {
+    fn expression(&mut self, e: &Exp<'_>) {
         match e {
             Exp::Name(_) | Exp::Number(_) | Exp::Character(_) | Exp::True | Exp::False => {
                 self.leaf();
-                Ok(())
             }
             Exp::String(_) => self.placed(),
             Exp::Table(values) => {
-                self.placed()?;
-                self.expressions(values)
+                self.placed();
+                self.expressions(values);
             }
             Exp::Valof(block) => self.valof(block),
             Exp::Monadic(_, operand) => self.expression(operand),
             Exp::Dyadic(_, left, right) => {
-                self.expression(left)?;
-                self.expression(right)
+                self.expression(left);
+                self.expression(right);
             }
             Exp::Condition { test, this, that } => {
-                self.expression(test)?;
-                self.expression(this)?;
-                self.expression(that)
+                self.expression(test);
+                self.expression(this);
+                self.expression(that);
             }
             Exp::Call(called, values) => {
-                self.expression(called)?;
-                self.expressions(values)
+                self.expression(called);
+                self.expressions(values);
             }
         }
     }
 
     #[cycle(walking)]
-    fn expressions(&mut self, list: &[Exp<'_>]) -> Result<(), Memory> {
+    fn expressions(&mut self, list: &[Exp<'_>]) {
         for e in list {
-            self.expression(e)?;
+            self.expression(e);
         }
-        Ok(())
     }
 
     #[cycle(walking)]
-    fn valof(&mut self, block: &Block<'_>) -> Result<(), Memory> {
+    fn valof(&mut self, block: &Block<'_>) {
         self.leaf();
-        let body = self.body()?;
-        self.valofs.push(body)?;
-        self.block(body, block)?;
-        self.own(body, 1, Purpose::Valof)
+        let body = self.body();
+        if self.valofs.push(body).is_err() {
+            self.is_refused = true;
+        }
+        self.block(body, block);
+        self.own(body, 1, Purpose::Valof);
     }
 
     /// A root that is this expression.
     #[cycle(walking)]
-    fn root_of(&mut self, body: usize, e: &Exp<'_>) -> Result<(), Memory> {
-        self.root(body)?;
-        self.expression(e)
+    fn root_of(&mut self, body: usize, e: &Exp<'_>) {
+        self.root(body);
+        self.expression(e);
     }
 
     /// Roots, one for each of these.
     #[cycle(walking)]
-    fn roots_of(&mut self, body: usize, list: &[Exp<'_>]) -> Result<(), Memory> {
+    fn roots_of(&mut self, body: usize, list: &[Exp<'_>]) {
         for e in list {
-            self.root_of(body, e)?;
+            self.root_of(body, e);
         }
-        Ok(())
     }
 
     #[cycle(walking)]
-    fn block(&mut self, body: usize, block: &Block<'_>) -> Result<(), Memory> {
-        self.declarations(body, &block.declarations)?;
-        self.items(body, &block.items)
+    fn block(&mut self, body: usize, block: &Block<'_>) {
+        self.declarations(body, &block.declarations);
+        self.items(body, &block.items);
     }
 
     #[cycle(walking)]
-    fn declarations(&mut self, body: usize, list: &[Declaration<'_>]) -> Result<(), Memory> {
+    fn declarations(&mut self, body: usize, list: &[Declaration<'_>]) {
         for declaration in list {
             match declaration {
-                Declaration::Constants(storage, constants) => self.constants(*storage, constants)?,
-                Declaration::Let(definitions) => self.definitions(body, definitions)?,
+                Declaration::Constants(storage, constants) => self.constants(*storage, constants),
+                Declaration::Let(definitions) => self.definitions(body, definitions),
             }
         }
-        Ok(())
     }
 
     #[cycle(walking)]
-    fn constants(&mut self, storage: Storage, list: &[Constant<'_>]) -> Result<(), Memory> {
+    fn constants(&mut self, storage: Storage, list: &[Constant<'_>]) {
         for constant in list {
             if storage == Storage::Static {
-                self.place()?;
+                self.place();
             }
             self.leaf();
-            self.expression(&constant.value)?;
+            self.expression(&constant.value);
         }
-        Ok(())
     }
 
     #[cycle(walking)]
-    fn definitions(&mut self, body: usize, list: &[Definition<'_>]) -> Result<(), Memory> {
+    fn definitions(&mut self, body: usize, list: &[Definition<'_>]) {
         for definition in list {
-            self.definition(body, definition)?;
+            self.definition(body, definition);
         }
-        Ok(())
     }
 
     /// Names, each a leaf.
@@ -280,62 +286,63 @@ impl Outline {
     }
 
     /// The name and the parameters of a routine, and its body.
-    fn head(&mut self, parameters: &[&[u8]]) -> Result<usize, Memory> {
-        let body = self.body()?;
-        self.routines.push(body)?;
-        self.place()?;
+    fn head(&mut self, parameters: &[&[u8]]) -> usize {
+        let body = self.body();
+        if self.routines.push(body).is_err() {
+            self.is_refused = true;
+        }
+        self.place();
         self.leaf();
-        self.own(body, 1, Purpose::Routine)?;
+        self.own(body, 1, Purpose::Routine);
         self.names(parameters);
-        Ok(body)
+        body
     }
 
     #[cycle(walking)]
-    fn definition(&mut self, body: usize, definition: &Definition<'_>) -> Result<(), Memory> {
+    fn definition(&mut self, body: usize, definition: &Definition<'_>) {
         match definition {
             Definition::Variables(names, values) => {
                 self.names(names);
-                self.roots_of(body, values)
+                self.roots_of(body, values);
             }
             Definition::Vector(_, last) => {
-                self.root(body)?;
+                self.root(body);
                 self.leaf();
                 self.leaf();
-                self.expression(last)
+                self.expression(last);
             }
             Definition::Function(_, parameters, value) => {
-                let body = self.head(parameters)?;
-                self.root_of(body, value)?;
-                self.own(body, 1, Purpose::End)
+                let body = self.head(parameters);
+                self.root_of(body, value);
+                self.own(body, 1, Purpose::End);
             }
             Definition::Routine(_, parameters, block) => {
-                let body = self.head(parameters)?;
-                self.block(body, block)?;
-                self.own(body, 2, Purpose::End)
+                let body = self.head(parameters);
+                self.block(body, block);
+                self.own(body, 2, Purpose::End);
             }
         }
     }
 
     #[cycle(walking)]
-    fn items(&mut self, body: usize, list: &[Item<'_>]) -> Result<(), Memory> {
+    fn items(&mut self, body: usize, list: &[Item<'_>]) {
         for item in list {
             for label in &item.labels {
-                self.label(body, label)?;
+                self.label(body, label);
             }
             if let Some(command) = &item.command {
-                self.command(body, command)?;
+                self.command(body, command);
             }
         }
-        Ok(())
     }
 
     #[cycle(walking)]
-    fn label(&mut self, body: usize, label: &Label<'_>) -> Result<(), Memory> {
+    fn label(&mut self, body: usize, label: &Label<'_>) {
         self.leaf();
         match label {
             Label::Case(value) => {
-                self.own(body, 1, Purpose::Label)?;
-                self.expression(value)
+                self.own(body, 1, Purpose::Label);
+                self.expression(value);
             }
             Label::Default => self.own(body, 1, Purpose::Label),
             Label::Name(_) => self.own(body, 1, Purpose::Label),
@@ -343,81 +350,81 @@ impl Outline {
     }
 
     /// A command of one word.
-    fn word(&mut self, body: usize, count: usize, what: Purpose) -> Result<(), Memory> {
+    fn word(&mut self, body: usize, count: usize, what: Purpose) {
         self.leaf();
-        self.own(body, count, what)
+        self.own(body, count, what);
     }
 
     /// Items of a command's own at the next leaf.
-    fn ahead(&mut self, body: usize, count: usize, what: Purpose) -> Result<(), Memory> {
-        self.step(body, self.leaves, Work::Own(count, what))
+    fn ahead(&mut self, body: usize, count: usize, what: Purpose) {
+        self.step(body, self.leaves, Work::Own(count, what));
     }
 
     /// The end of the turns of a FOR, whose variable is this leaf.
-    fn turned(&mut self, body: usize, variable: usize) -> Result<(), Memory> {
-        self.step(body, variable, Work::Own(1, Purpose::Onward))?;
-        self.step(body, variable, Work::Root)?;
-        self.step(body, variable, Work::Own(2, Purpose::Back))
+    fn turned(&mut self, body: usize, variable: usize) {
+        self.step(body, variable, Work::Own(1, Purpose::Onward));
+        self.step(body, variable, Work::Root);
+        self.step(body, variable, Work::Own(2, Purpose::Back));
     }
 
     /// A command that holds no others.
     #[cycle(walking)]
-    fn single(&mut self, body: usize, command: &Command<'_>) -> Result<(), Memory> {
+    fn single(&mut self, body: usize, command: &Command<'_>) {
         match command {
             Command::Assign(places, values) => {
-                self.roots_of(body, places)?;
-                self.expressions(values)
+                self.roots_of(body, places);
+                self.expressions(values);
             }
             Command::Call(called, values) => {
-                self.root_of(body, called)?;
-                self.expressions(values)
+                self.root_of(body, called);
+                self.expressions(values);
             }
             Command::ResultIs(value) => {
                 self.leaf();
-                self.root_of(body, value)?;
-                self.own(body, 1, Purpose::ResultIs)
+                self.root_of(body, value);
+                self.own(body, 1, Purpose::ResultIs);
             }
             Command::Goto(_) => {
                 self.leaf();
-                self.word(body, 1, Purpose::Goto)
+                self.word(body, 1, Purpose::Goto);
             }
             Command::Break => self.word(body, 1, Purpose::Break),
             Command::Loop => self.word(body, 1, Purpose::Loop),
             Command::EndCase => self.word(body, 1, Purpose::EndCase),
             Command::Return => self.word(body, 2, Purpose::Return),
             Command::Finish => self.word(body, 1, Purpose::Finish),
-            _ => Ok(()),
+            _ => {}
         }
     }
 
     /// A command that tests before what it holds, or chooses.
     #[cycle(walking)]
-    fn guarded(&mut self, body: usize, command: &Command<'_>) -> Result<(), Memory> {
+    fn guarded(&mut self, body: usize, command: &Command<'_>) {
         match command {
             Command::If(test, block) | Command::Unless(test, block) => {
-                self.root_of(body, test)?;
-                self.block(body, block)?;
-                self.own(body, 1, Purpose::Join)
+                self.root_of(body, test);
+                self.block(body, block);
+                self.own(body, 1, Purpose::Join);
             }
             Command::While(test, block) | Command::Until(test, block) => {
-                self.ahead(body, 1, Purpose::Turn)?;
-                self.root_of(body, test)?;
-                self.block(body, block)?;
-                self.own(body, 2, Purpose::Back)
+                self.ahead(body, 1, Purpose::Turn);
+                self.root_of(body, test);
+                self.block(body, block);
+                self.own(body, 2, Purpose::Back);
             }
             Command::Test { test, this, that } => {
-                self.root_of(body, test)?;
-                self.block(body, this)?;
-                self.own(body, 2, Purpose::Past)?;
-                self.block(body, that)?;
-                self.own(body, 1, Purpose::Join)
+                self.root_of(body, test);
+                self.block(body, this);
+                self.own(body, 2, Purpose::Past);
+                self.block(body, that);
+                self.own(body, 1, Purpose::Join);
             }
             Command::SwitchOn(of, list) => {
-                self.root_of(body, of)?;
+                self.root_of(body, of);
                 let items = cases_in(list).saturating_mul(2).saturating_add(3);
-                self.own(body, items, Purpose::Switch)?;
-                self.items(body, list)?;
-                self.own(body, 1, Purpose::Switched)
+                self.own(body, items, Purpose::Switch);
+                self.items(body, list);
+                self.own(body, 1, Purpose::Switched);
             }
             _ => self.single(body, command),
         }
@@ -425,7 +432,7 @@ impl Outline {
 
     /// A FOR.
     #[cycle(walking)]
-    fn counted(&mut self, body: usize, command: &Command<'_>) -> Result<(), Memory> {
+    fn counted(&mut self, body: usize, command: &Command<'_>) {
         let Command::For {
             start,
             limit,
@@ -437,34 +444,34 @@ impl Outline {
             return self.guarded(body, command);
         };
         let variable = self.leaves;
-        self.root(body)?;
+        self.root(body);
         self.leaf();
-        self.expression(start)?;
-        self.root_of(body, limit)?;
-        self.own(body, 1, Purpose::Turn)?;
-        self.step(body, variable, Work::Root)?;
+        self.expression(start);
+        self.root_of(body, limit);
+        self.own(body, 1, Purpose::Turn);
+        self.step(body, variable, Work::Root);
         if let Some(by) = step {
-            self.expression(by)?;
+            self.expression(by);
         }
-        self.block(body, block)?;
-        self.turned(body, variable)
+        self.block(body, block);
+        self.turned(body, variable);
     }
 
     #[cycle(walking)]
-    fn command(&mut self, body: usize, command: &Command<'_>) -> Result<(), Memory> {
+    fn command(&mut self, body: usize, command: &Command<'_>) {
         match command {
             Command::Block(block) => self.block(body, block),
             Command::Repeat(repeated) => {
-                self.ahead(body, 1, Purpose::Turn)?;
-                self.command(body, repeated)?;
-                self.own(body, 2, Purpose::Back)
+                self.ahead(body, 1, Purpose::Turn);
+                self.command(body, repeated);
+                self.own(body, 2, Purpose::Back);
             }
             Command::RepeatWhile(repeated, test) | Command::RepeatUntil(repeated, test) => {
-                self.ahead(body, 1, Purpose::Turn)?;
-                self.command(body, repeated)?;
-                self.own(body, 1, Purpose::Onward)?;
-                self.root_of(body, test)?;
-                self.own(body, 1, Purpose::Behind)
+                self.ahead(body, 1, Purpose::Turn);
+                self.command(body, repeated);
+                self.own(body, 1, Purpose::Onward);
+                self.root_of(body, test);
+                self.own(body, 1, Purpose::Behind);
             }
             _ => self.counted(body, command),
         }

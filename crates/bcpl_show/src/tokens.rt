@@ -28,52 +28,49 @@ fn kind_word(token: &Token<'_>) -> &'static str {
 }
 
 /// Adds what a token stands for, where its text doesn't say so itself.
-fn add_value(page: &mut Page, number: u64) -> Result<(), Memory> {
+fn add_value(page: &mut Page, number: u64) {
     page.add_all(&[
         Field::Column(VALUE),
         Field::Text("  = "),
         Field::Number(number, 0),
-    ])
+    ]);
 }
 
 /// The sign or word that a symbol is known by; a bracket's tag belongs to its text.
-fn add_symbol(page: &mut Page, symbol: Symbol, text: &[u8]) -> Result<(), Memory> {
+fn add_symbol(page: &mut Page, symbol: Symbol, text: &[u8]) {
     let spelling = symbol.spelling();
     if spelling == text || matches!(symbol, Symbol::OpenSection | Symbol::CloseSection) {
-        return Ok(());
+        return;
     }
-    page.fill_to(VALUE)?;
-    page.add(b"  as ")?;
-    page.add(spelling)
-}
-
-/// Whether these digits are the number's.
-fn is_plain(alloc: Global, number: u16, text: &[u8]) -> Result<bool, Memory> {
-    let digits = format!(in alloc; "{number}")?;
-    Ok(digits.as_bytes() == text)
+    page.fill_to(VALUE);
+    page.add(b"  as ");
+    page.add(spelling);
 }
 
 /// Adds the number that a token is, where its text doesn't say so itself.
-fn add_written(page: &mut Page, number: u16, text: &[u8]) -> Result<(), Memory> {
-    if is_plain(page.alloc(), number, text)? {
-        Ok(())
-    } else {
-        add_value(page, u64::from(number))
+fn add_written(page: &mut Page, number: u16, text: &[u8]) {
+    let Ok(digits) = format!(in page.alloc(); "{number}") else {
+        return page.refuse();
+    };
+    if digits.as_bytes() != text {
+        add_value(page, u64::from(number));
     }
 }
 
 /// Adds what a token stands for.
-fn add_meaning(page: &mut Page, token: &Token<'_>) -> Result<(), Memory> {
+fn add_meaning(page: &mut Page, token: &Token<'_>) {
     match token.kind {
         TokenKind::Number(number) => add_written(page, number, token.text),
         TokenKind::Character(code) => add_value(page, u64::from(code)),
         TokenKind::Symbol(symbol) => add_symbol(page, symbol, token.text),
-        TokenKind::Name(_) | TokenKind::String(_) => Ok(()),
+        TokenKind::Name(_) | TokenKind::String(_) => {}
     }
 }
 
-fn add_token(page: &mut Page, text: &[u8], lines: &Lines, token: &Token<'_>) -> Result<(), Memory> {
-    let column = lines.column_at(page.alloc(), text, token.start)?;
+fn add_token(page: &mut Page, text: &[u8], lines: &Lines, token: &Token<'_>) {
+    let Ok(column) = lines.column_at(page.alloc(), text, token.start) else {
+        return page.refuse();
+    };
     page.add_all(&[
         Field::Number(lines.number_at(token.start) as u64, 5),
         Field::Text(":"),
@@ -81,10 +78,10 @@ fn add_token(page: &mut Page, text: &[u8], lines: &Lines, token: &Token<'_>) -> 
         Field::Column(KIND),
         Field::Text(kind_word(token)),
         Field::Column(TEXT),
-    ])?;
-    page.add_folded(token.text, TEXT)?;
-    add_meaning(page, token)?;
-    page.end_line()
+    ]);
+    page.add_folded(token.text, TEXT);
+    add_meaning(page, token);
+    page.end_line();
 }
 
 /// The tokens in front of which a line break stands for a semicolon, by their indexes; none where brackets of sections
@@ -110,9 +107,9 @@ struct Elsewhere<'a> {
 
 impl<'a> Elsewhere<'a> {
     /// Adds how many tokens stand in another file, if any do.
-    fn add(self, page: &mut Page) -> Result<(), Memory> {
+    fn add(self, page: &mut Page) {
         let tokens = match self.count {
-            0 => return Ok(()),
+            0 => return,
             1 => " token of ",
             _ => " tokens of ",
         };
@@ -123,25 +120,25 @@ impl<'a> Elsewhere<'a> {
             Field::Number(self.count, 0),
             Field::Text(tokens),
             Field::Text(self.path),
-        ])
+        ]);
     }
 
     /// With one token more of the file with this path. Those of another file are told.
-    fn with(self, page: &mut Page, path: &'a str) -> Result<Elsewhere<'a>, Memory> {
+    fn with(self, page: &mut Page, path: &'a str) -> Elsewhere<'a> {
         if self.path == path {
-            return Ok(Elsewhere {
+            return Elsewhere {
                 path,
                 count: self.count.saturating_add(1),
-            });
+            };
         }
-        self.add(page)?;
-        Ok(Elsewhere { path, count: 1 })
+        self.add(page);
+        Elsewhere { path, count: 1 }
     }
 }
 
 /// Adds a line break that stands for a semicolon.
-fn add_break(page: &mut Page) -> Result<(), Memory> {
-    page.add_line(&[Field::Column(KIND), Field::Text("line break  ;")])
+fn add_break(page: &mut Page) {
+    page.add_line(&[Field::Column(KIND), Field::Text("line break  ;")]);
 }
 
 /// The tokens of the source `main`, one a line, with their places, and a line for each line break that stands for a
@@ -160,16 +157,16 @@ pub fn token_listing(
     let mut elsewhere = nowhere;
     for (at, token) in tokens.iter().enumerate() {
         if token.file != main {
-            elsewhere = elsewhere.with(&mut page, files.path(token.file))?;
+            elsewhere = elsewhere.with(&mut page, files.path(token.file));
         } else {
-            elsewhere.add(&mut page)?;
+            elsewhere.add(&mut page);
             elsewhere = nowhere;
             if breaks.as_slice().binary_search(&at).is_ok() {
-                add_break(&mut page)?;
+                add_break(&mut page);
             }
-            add_token(&mut page, text, &lines, token)?;
+            add_token(&mut page, text, &lines, token);
         }
     }
-    elsewhere.add(&mut page)?;
-    Ok(page.into_text())
+    elsewhere.add(&mut page);
+    page.into_text()
 }

@@ -135,34 +135,33 @@ fn glued(kinds: &[TokenKind<'_>], place: usize) -> usize {
 impl Layout<'_, '_> {
     /// Tells the file of a declaration, where it is another than that of the one before: by a GET, which stands for all that the
     /// library's file has, or by a comment, where it isn't the one that was told last.
-    fn tell_file(&mut self) -> Result<(), Memory> {
+    fn tell_file(&mut self) {
         let file = match self.leaves.get(self.met) {
             Some(leaf) => leaf.file,
             None => self.file,
         };
         if file == self.file {
-            return Ok(());
+            return;
         }
         if self.is_got {
-            self.page.end_line()?;
+            self.page.end_line();
         }
         self.file = file;
         self.is_got = self.files.is_of_library(file);
         let path = self.files.path(file);
-        self.tell_path(path)
+        self.tell_path(path);
     }
 
     /// Tells the path of the file at work.
-    fn tell_path(&mut self, path: &str) -> Result<(), Memory> {
+    fn tell_path(&mut self, path: &str) {
         if self.is_got {
             let fields = [Field::Text("GET \""), Field::Text(path), Field::Text("\"")];
             return self.page.add_line(&fields);
         }
-        if self.file == self.told {
-            return Ok(());
+        if self.file != self.told {
+            self.told = self.file;
+            self.page.add_line(&[Field::Text("// "), Field::Text(path)]);
         }
-        self.told = self.file;
-        self.page.add_line(&[Field::Text("// "), Field::Text(path)])
     }
 
     fn depth(&self) -> usize {
@@ -187,40 +186,34 @@ impl Layout<'_, '_> {
     }
 
     /// Begins the line of the token at this place: labels stand a step further out.
-    fn begin_line(&mut self, kinds: &[TokenKind<'_>], place: usize) -> Result<(), Memory> {
+    fn begin_line(&mut self, kinds: &[TokenKind<'_>], place: usize) {
         let is_out = self.is_label(kinds, place);
         let depth = self.depth().saturating_sub(usize::from(is_out));
-        self.page.end_begun()?;
+        self.page.end_begun();
         self.breaks = false;
         if self.opened.is_empty() && is_declaration(at(kinds, place)) {
-            self.tell_file()?;
+            self.tell_file();
         }
-        if self.is_got {
-            return Ok(());
+        if !self.is_got {
+            self.page.fill_to(depth.saturating_mul(2));
         }
-        self.page.fill_to(depth.saturating_mul(2))
     }
 
     /// Adds what stands in front of a token on its line, which takes so many columns.
-    fn part(
-        &mut self,
-        kinds: &[TokenKind<'_>],
-        place: usize,
-        columns: usize,
-    ) -> Result<(), Memory> {
+    fn part(&mut self, kinds: &[TokenKind<'_>], place: usize, columns: usize) {
         if place == 0 || self.breaks {
             return self.begin_line(kinds, place);
         }
-        if self.is_got {
-            return Ok(());
-        }
         let last = before(kinds, place, 1);
-        if is_close_before(last, at(kinds, place)) || self.is_colon_of_label(kinds, place) {
-            return Ok(());
+        if self.is_got
+            || is_close_before(last, at(kinds, place))
+            || self.is_colon_of_label(kinds, place)
+        {
+            return;
         }
         let is_close = is_close_behind(before(kinds, place, 2), last);
         if is_close && !is(last, Symbol::OpenBracket) {
-            return Ok(());
+            return;
         }
         let columns = columns.saturating_add(glued(kinds, place));
         let behind = self.page.column().saturating_add(columns).saturating_add(1);
@@ -228,7 +221,7 @@ impl Layout<'_, '_> {
             let column = self.depth().saturating_mul(2).saturating_add(4);
             return self.page.go_on(column);
         }
-        self.page.add_text(if is_close { "" } else { " " })
+        self.page.add_text(if is_close { "" } else { " " });
     }
 
     /// Whether the token at this place is the colon of a label.
@@ -247,40 +240,63 @@ impl Layout<'_, '_> {
     }
 
     /// What opens or ends behind a token that was added.
-    fn open(&mut self, kinds: &[TokenKind<'_>], place: usize) -> Result<(), Memory> {
+    fn open(&mut self, kinds: &[TokenKind<'_>], place: usize) {
         let kind = at(kinds, place);
         if is(kind, Symbol::OpenSection) {
             self.breaks = true;
-            let is_of_globals = is(before(kinds, place, 1), Symbol::Global);
-            return Ok(self.opened.push(is_of_globals)?);
-        }
-        if is(kind, Symbol::Semicolon) {
+            self.open_section(is(before(kinds, place, 1), Symbol::Global));
+        } else if is(kind, Symbol::Semicolon) {
             self.breaks = true;
-            return self.end_declaration();
-        }
-        if is(kind, Symbol::Colon) {
+            self.end_declaration();
+        } else if is(kind, Symbol::Colon) {
             self.breaks = !self.is_in_globals();
         }
-        Ok(())
+    }
+
+    /// A section bracket more is open.
+    fn open_section(&mut self, is_of_globals: bool) {
+        if self.opened.push(is_of_globals).is_err() {
+            self.page.refuse();
+        }
     }
 
     /// Behind a declaration outside of all brackets stands an empty line.
-    fn end_declaration(&mut self) -> Result<(), Memory> {
-        if self.is_got || !self.opened.is_empty() {
-            return Ok(());
+    fn end_declaration(&mut self) {
+        if !self.is_got && self.opened.is_empty() {
+            self.page.end_line();
+            self.page.end_line();
         }
-        self.page.end_line()?;
-        self.page.end_line()
     }
 
     /// Adds the token at this place, which has this text.
-    fn add(&mut self, kinds: &[TokenKind<'_>], place: usize, text: &[u8]) -> Result<(), Memory> {
+    fn add(&mut self, kinds: &[TokenKind<'_>], place: usize, text: &[u8]) {
         self.close(kinds, place);
-        self.part(kinds, place, width(text))?;
+        self.part(kinds, place, width(text));
         if !self.is_got {
-            self.page.add(text)?;
+            self.page.add(text);
         }
-        self.open(kinds, place)
+        self.open(kinds, place);
+    }
+
+    /// Adds the token at this place, which is of this kind.
+    fn add_kind(&mut self, kinds: &[TokenKind<'_>], place: usize, kind: TokenKind<'_>) {
+        match render(self.page.alloc(), &[kind]) {
+            Ok(text) => self.add(kinds, place, text.as_slice()),
+            Err(_) => self.page.refuse(),
+        }
+        if is_leaf(kind) {
+            self.met = self.met.saturating_add(1);
+        }
+    }
+
+    /// Adds all tokens, and the end of the last line.
+    fn add_all(&mut self, kinds: &[TokenKind<'_>]) {
+        for (place, kind) in kinds.iter().enumerate() {
+            self.add_kind(kinds, place, *kind);
+        }
+        if !kinds.is_empty() && !self.is_got {
+            self.page.end_line();
+        }
     }
 }
 
@@ -307,16 +323,7 @@ pub fn tree_listing<'s>(
         opened: Vec::new(alloc),
         breaks: false,
     };
-    for (place, kind) in kinds.iter().enumerate() {
-        let text = render(alloc, &[*kind])?;
-        layout.add(kinds, place, text.as_slice())?;
-        if is_leaf(*kind) {
-            layout.met = layout.met.saturating_add(1);
-        }
-    }
-    if !kinds.is_empty() && !layout.is_got {
-        layout.page.end_line()?;
-    }
+    layout.add_all(kinds);
     let Layout { page, .. } = layout;
-    Ok(page.into_text())
+    page.into_text()
 }
