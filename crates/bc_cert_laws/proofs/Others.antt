@@ -20,7 +20,7 @@ use Rattle.bc_select_defs.specs.Options.{sum}
 use Rattle.bc_cert_node.specs.declared.facts.Facts.{Facts}
 use Rattle.bc_cert_node.specs.declared.form.Form.{Form}
 use Rattle.bc_cert_node.specs.declared.form.Form.TheVariants as forms
-use Rattle.bc_cert_node.specs.declared.recipe.Takes.TheVariants as takes
+use Rattle.bc_rules_defs.specs.declared.takes.Takes.TheVariants as takes
 use Rattle.bc_cert_node.specs.Costs.{cost_of}
 use Rattle.bc_cert_node.specs.Node.{Node, more_words, words_from, no_parts}
 use Rattle.bc_cert_node.specs.Recipe.{words_of_operand, words_of_operand_of, of_operand, of_number, of_load, of_neg, of_not, of_cond, of_call, of_valof}

@@ -24,7 +24,7 @@ use Rattle.bc_select_defs.specs.Choices.{zero_number, has_tests_of_zero}
 use Rattle.bc_select_defs.specs.Lower.{is_zero_is}
 use Rattle.bc_cert_node.specs.declared.facts.Facts.{Facts}
 use Rattle.bc_cert_node.specs.declared.form.Form.TheVariants as forms
-use Rattle.bc_cert_node.specs.declared.recipe.Takes.TheVariants.{First, Second}
+use Rattle.bc_rules_defs.specs.declared.takes.Takes.TheVariants.{First, Second}
 use Rattle.bc_cert_node.specs.declared.recipe.Recipe.{Recipe}
 use Rattle.bc_cert_node.specs.Recipe.{recipe, value_of_two, test_of_two, without_zero, less_number, beside_zero, facts_of, where_so, words_of_operand_of}
 use Rattle.bc_cert_node.specs.Node.{Node}
@@ -71,7 +71,7 @@ module _ (T : Table) (a b : Exp) (s : ℕ) (l k : List Shown) (two : TwoTrees T 
   zeros : (z u : Bool) (p : Aim) (j words : ℕ) → z ≡ is_zero b → Beside T a b s (l ++ k) z u p j words → Beside T a b s (l ++ k) (is_zero b) u p j words
   zeros z u p j words e h = subst (λ z. Beside T a b s (l ++ k) z u p j words) e h
 
-  beside_to : (op : Op) (p : Aim) (j words : ℕ) → Makes T a b s l k two op words (beside_zero left_facts right_facts p j) → Beside T a b s (l ++ k) (is_zero b) (is_zero a) p j words
+  beside_to : (op : Op) (p : Aim) (j words : ℕ) → Makes T a b s l k two op words (beside_zero V8 left_facts right_facts p j) → Beside T a b s (l ++ k) (is_zero b) (is_zero a) p j words
   beside_to op p j words h =
       let o = beside_taken T a b s l k two op words (zero_number (constant_of b)) (zero_number (constant_of a)) p j h in
       subst (λ u. Beside T a b s (l ++ k) (is_zero b) u p j words) (is_zero_is a) (zeros _ _ p j words (is_zero_is b) o)
@@ -204,7 +204,7 @@ module _ (T : Table) (a b : Exp) (s : ℕ) (l k : List Shown) (two : TwoTrees T 
   Dropped op words z r t = Makes T a b s l k two op words r × (one t ≡ tree_beside T a b s l k two op words z)
 
   beside_from : (op : Op) (p : Aim) (j words : ℕ) (e : Exp) → beside_zero_of a b ≡ Some e → (d : Derives T e p) → cond (is_zero b) (shown d (s + 1) ++ bare b (s + 1)) (bare a (s + 1) ++ shown d (s + 1)) ≡ l ++ k
-      → IsFewest d (s + 1) → cost d (s + 1) + j ≡ words → Dropped op words (zero_number (constant_of b)) (beside_zero left_facts right_facts p j) (shape d)
+      → IsFewest d (s + 1) → cost d (s + 1) + j ≡ words → Dropped op words (zero_number (constant_of b)) (beside_zero V8 left_facts right_facts p j) (shape d)
   beside_from op p j words e i d h low c =
       let q = beside_found T a b s l k two op words (is_zero b) (is_zero a) p j e i d h low c in
       let P : Bool → Bool → Type 0 = λ z u. Dropped op words z (beside T a b s l k two op words z u p j) (shape d) in

@@ -8,7 +8,9 @@ use Rattle.bc_core.specs.declared.operands.Operand.{Operand}
 use Rattle.bc_core.specs.Tree.{Exp, Bin}
 use Rattle.bc_core.specs.Value.{has_call}
 use Rattle.bc_rules_defs.specs.declared.rule.Table.{Table}
+use Rattle.bc_rules_defs.specs.declared.rule.Mode.TheVariants.{Any}
 use Rattle.bc_rules_defs.specs.declared.rule.Aim.{Aim}
+use Rattle.bc_rules_defs.specs.declared.rule.Aim.TheVariants.{Gets}
 use Rattle.bc_rules_defs.specs.Piece.{operand_words}
 use Rattle.bc_rules_defs.specs.Rules.{Derives, Tree, Trees, one, shape}
 use Rattle.bc_rules_defs.specs.Code.{cost}
@@ -16,14 +18,15 @@ use Rattle.bc_select_defs.specs.Options.{sum}
 use Rattle.bc_cert_defs.specs.declared.costs.Costs.{Costs}
 use Rattle.bc_cert_node.specs.declared.facts.Facts.{Facts}
 use Rattle.bc_cert_node.specs.declared.form.Form.TheVariants as forms
-use Rattle.bc_cert_node.specs.declared.recipe.Takes.{Takes}
-use Rattle.bc_cert_node.specs.declared.recipe.Takes.TheVariants.{First, Second, InOrder, Turned}
+use Rattle.bc_rules_defs.specs.declared.takes.Takes.{Takes}
+use Rattle.bc_rules_defs.specs.Takes.{beside as beside_of}
+use Rattle.bc_rules_defs.specs.declared.takes.Takes.TheVariants.{First, Second, InOrder, Turned}
 use Rattle.bc_cert_node.specs.declared.recipe.Recipe.{Recipe}
 use Rattle.bc_cert_node.specs.Recipe.{facts_of, recipe, adding, where_so, only_at, words_of_operand, words_of_operand_of}
 use Rattle.bc_cert_node.specs.Node.{Node, more_words}
 use Rattle.bc_cert_lines.specs.Lines.{op_numbered}
 use Rattle.bc_cert_trees.specs.declared.mark.Mark.{Mark}
-use Rattle.bc_cert_trees.specs.Derived.{other_part, taken, trees}
+use Rattle.bc_cert_trees.specs.Derived.{taken, trees}
 use Rattle.bc_cert_trees.specs.Showing.{has_words, makes_by}
 use Rattle.bc_cert_write.specs.Shown.{Shown, shown, bare}
 use Rattle.bc_cert_laws.specs.Standing.{IsFewest}
@@ -216,7 +219,7 @@ module _ (T : Table) (a b : Exp) (s : ℕ) (l k : List Shown) (two : TwoTrees T 
     beside z u p j = cond z (recipe (First p) j) (cond u (recipe (Second p) j) None)
 
     abbrev pub tree_beside : Bool → Trees
-    tree_beside z = trees (taken (other_part z) (two.left_tree ∷ two.right_tree ∷ []))
+    tree_beside z = trees (taken (beside_of (Gets Any) z) (two.left_tree ∷ two.right_tree ∷ []))
 
     pub beside_taken : (z u : Bool) (p : Aim) (j : ℕ) → Makes op words (beside z u p j) → Beside T a b s (l ++ k) z u p j words
     beside_taken true u p j h = let o = left_taken p j h in record { expression = a; is = refl; derivation = o.left; parts = o.parts; counted = o.counted }

@@ -4,9 +4,12 @@ use Rattle.std.specs.Fmt.{decimal}
 use Rattle.bc_word.specs.Words.{number_of}
 use Rattle.bc_core.specs.Tree.{Exp}
 use Rattle.bc_rules_defs.specs.declared.rule.Table.{Table}
+use Rattle.bc_rules_defs.specs.declared.rule.Mode.TheVariants.{Any}
 use Rattle.bc_rules_defs.specs.declared.rule.Aim.{Aim}
+use Rattle.bc_rules_defs.specs.declared.rule.Aim.TheVariants.{Gets}
 use Rattle.bc_rules_defs.specs.declared.rule.Rule.{Rule}
 use Rattle.bc_rules_defs.specs.declared.rule.Rule.TheVariants.{V0, J6}
+use Rattle.bc_rules_defs.specs.Takes.{takes}
 use Rattle.bc_rules_defs.specs.Rules.{Derives, Tree, by, shape}
 use Rattle.bc_rules_defs.specs.Code.{cost}
 use Rattle.bc_select_defs.specs.Nodes.{in_order}
@@ -24,7 +27,7 @@ use Rattle.bc_rules_defs.specs.Names.{rule_letter}
 use Rattle.bc_cert_trees.specs.declared.mark.Mark.{Mark}
 use Rattle.bc_cert_trees.specs.Marks.{has_aim, levels_fit}
 use Rattle.bc_cert_trees.specs.Wholes.{whole}
-use Rattle.bc_cert_trees.specs.Derived.{order_of, taken, trees}
+use Rattle.bc_cert_trees.specs.Derived.{taken, trees}
 use Rattle.bc_cert_trees.specs.Stacks.{second_zero}
 use Rattle.bc_cert_write.specs.Shown.{Shown, shown, bare, rules_at, below}
 use Rattle.bc_cert_write.specs.Lines.{line, rule_name, sense_field}
@@ -133,4 +136,4 @@ pub record Begins (T : Table) (e : Exp) (aim : Aim) (s : ℕ) (r : Rule) (words 
 
 -- what the checker keeps of such a rule
 abbrev pub begun : Rule → List Facts → List Tree → Tree
-begun r fs xs = by r (trees (taken (order_of r (second_zero fs)) xs))
+begun r fs xs = by r (trees (taken (takes r (Gets Any) (second_zero fs)) xs))

@@ -25,7 +25,7 @@ use Rattle.bc_select_defs.specs.Choices.{words_for, by_value as by_value_choice,
 use Rattle.bc_cert_defs.specs.declared.costs.Costs.{Costs}
 use Rattle.bc_cert_node.specs.declared.facts.Facts.{Facts}
 use Rattle.bc_cert_node.specs.declared.form.Form.{Form}
-use Rattle.bc_cert_node.specs.declared.recipe.Takes.TheVariants.{Nothing, First, Second, InOrder, Turned, Choice as Chosen, Call as Called}
+use Rattle.bc_rules_defs.specs.declared.takes.Takes.TheVariants.{Nothing, First, Second, InOrder, Turned, Choice as Chosen, Call as Called}
 use Rattle.bc_cert_node.specs.declared.recipe.Recipe.{Recipe}
 use Rattle.bc_cert_node.specs.Costs.{cost_of}
 use Rattle.bc_cert_node.specs.Form.{is_plain}
@@ -332,10 +332,10 @@ module _ (T : Table) (a b : Exp) (s : ℕ) (c d : Costs) (h : AreLeast T a (s + 
   pair_push : (op : Op) → least_push (over_pair op) ≡ words_in (choices T (Bin op a b) s).push
   pair_push op = give_least (over_pair op) (Gets Push) None (rule.V1 ∷ rule.V6 ∷ rule.V7 ∷ rule.V8 ∷ rule.V9 ∷ rule.V10 ∷ rule.V11 ∷ []) (candidate rule.V1 (operand_cost (operand_of (Bin op a b))) ∷ mixed op la rb (x_of (Gets Push)) (y_of (Gets Push))) (push_words op, mixed_give op Push [] [] tt)
 
-  zero_words : (t : Table) → pair_words s left right (zero_test t left right) ≡ given (has_tests_of_zero t) (plus (beside la rb (x_of (Gets Any)) (y_of (Gets Any))) 2)
+  zero_words : (t : Table) → pair_words s left right (zero_test rule.J8 t left right) ≡ given (has_tests_of_zero t) (plus (beside la rb (x_of (Gets Any)) (y_of (Gets Any))) 2)
   zero_words t = so_words s left right _ _ _ (beside_words s left right (Gets Any) _ _ 2 (zero_number (constant_of b)) (zero_number (constant_of a)) (has_x (Gets Any)) (has_y (Gets Any)))
 
-  zero_at : (t : Bool) → pair_words s left right (where_so t (zero_test T left right)) ≡ given (has_tests_of_zero T) (given t (plus (beside la rb (x_of (Gets Any)) (y_of (Gets Any))) 2))
+  zero_at : (t : Bool) → pair_words s left right (where_so t (zero_test rule.J8 T left right)) ≡ given (has_tests_of_zero T) (given t (plus (beside la rb (x_of (Gets Any)) (y_of (Gets Any))) 2))
   zero_at t = so_words s left right t _ _ (zero_words T) ∙ given_turned t (has_tests_of_zero T) _
 
   pair_any : (op : Op) → least_any (over_pair op) ≡ words_in (choices T (Bin op a b) s).any

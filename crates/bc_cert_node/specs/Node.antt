@@ -13,12 +13,13 @@ use Rattle.bc_cert_node.specs.declared.facts.Facts.{Facts}
 use Rattle.bc_cert_node.specs.declared.form.Form.{Form}
 use Rattle.bc_cert_node.specs.declared.form.Form.TheVariants as forms
 use Rattle.bc_cert_node.specs.declared.node.Node as code
-use Rattle.bc_cert_node.specs.declared.recipe.Takes.{Takes}
-use Rattle.bc_cert_node.specs.declared.recipe.Takes.TheVariants.{Call}
+use Rattle.bc_rules_defs.specs.declared.takes.Takes.{Takes}
+use Rattle.bc_rules_defs.specs.declared.takes.Takes.TheVariants.{Call}
 use Rattle.bc_cert_node.specs.declared.recipe.Recipe.{Recipe}
 use Rattle.bc_cert_node.specs.Costs.{cost_of}
 use Rattle.bc_cert_node.specs.Form.{is_plain}
-use Rattle.bc_cert_node.specs.Recipe.{aim_at, of_form, of_operand}
+use Rattle.bc_rules_defs.specs.Takes.{aim_at}
+use Rattle.bc_cert_node.specs.Recipe.{of_form, of_operand}
 
 pub record Node : Type 0 where
   pub table : Table

@@ -13,7 +13,9 @@ use Rattle.bc_rules_defs.specs.declared.rule.Mode.TheVariants.{Any, Push}
 use Rattle.bc_rules_defs.specs.declared.rule.Aim.{Aim}
 use Rattle.bc_rules_defs.specs.declared.rule.Aim.TheVariants.{Gets, Jumps}
 use Rattle.bc_rules_defs.specs.declared.rule.Rule.{Rule}
-use Rattle.bc_rules_defs.specs.declared.rule.Rule.TheVariants.{V2, V3, V4, V6, V7, V8, V9, V10, V11, V12, V13, V14, V15, V16, V17, V18, V19, V20, V21, V22, J1, J2, J3, J4, J5, J7, J8, J9}
+use Rattle.bc_rules_defs.specs.declared.rule.Rule.TheVariants.{V1, V2, V3, V4, V6, V7, V8, V9, V10, V11, V12, V13, V14, V15, V16, V17, V18, V19, V20, V21, V22, J1, J2, J3, J4, J5, J7, J8, J9}
+use Rattle.bc_rules_defs.specs.declared.takes.Takes.{Takes}
+use Rattle.bc_rules_defs.specs.Takes.{takes}
 use Rattle.bc_rules_defs.specs.Free.{direct_operand, jumps_at}
 use Rattle.bc_rules_defs.specs.Piece.{w, operand_words}
 use Rattle.bc_select_defs.specs.Choices.{zero_number, has_tests_of_zero}
@@ -21,8 +23,6 @@ use Rattle.bc_cert_defs.specs.declared.costs.Costs.{Costs}
 use Rattle.bc_cert_node.specs.declared.facts.Facts.{Facts}
 use Rattle.bc_cert_node.specs.declared.form.Form.{Form}
 use Rattle.bc_cert_node.specs.declared.form.Form.TheVariants as forms
-use Rattle.bc_cert_node.specs.declared.recipe.Takes.{Takes}
-use Rattle.bc_cert_node.specs.declared.recipe.Takes.TheVariants.{Nothing, First, Second, InOrder, Turned, Choice, Call}
 use Rattle.bc_cert_node.specs.declared.recipe.Recipe.{Recipe}
 
 abbrev pub words_of_operand : Option Operand → Option ℕ
@@ -40,19 +40,6 @@ facts_of e calls costs = record { operand = words_of_operand_of e; is_direct = i
 
 abbrev pub free : Facts → Facts → Bool
 free a b = not (a.calls || b.calls) || a.is_direct || b.is_direct
-
-abbrev pub first_or : {A : Type 0} → ℕ → A → A → A
-first_or part x y = cond (part == 0) x y
-
--- the aim for which a rule takes a part
-abbrev pub aim_at : Takes → ℕ → Option Aim
-aim_at Nothing part = None
-aim_at (First aim) part = first_or part (Some aim) None
-aim_at (Second aim) part = first_or part None (Some aim)
-aim_at (InOrder a b) part = first_or part (Some a) (Some b)
-aim_at (Turned a b) part = first_or part (Some a) (Some b)
-aim_at (Choice sense) part = first_or part (Some (Jumps sense)) (Some (Gets Any))
-aim_at Call part = Some (Gets Any)
 
 abbrev pub recipe : Takes → ℕ → Option Recipe
 recipe takes words = Some (record { takes = takes; words = words })
@@ -72,52 +59,56 @@ abbrev pub in_any : Mode → Option Recipe → Option Recipe
 in_any Any r = r
 in_any Push r = None
 
+-- what the table has, where the second part is not a 0
+abbrev pub by_table : Rule → Aim → ℕ → Option Recipe
+by_table r aim words = recipe (takes r aim false) words
+
 -- beside a 0; of two 0s the right one is dropped
-abbrev pub beside_zero : Facts → Facts → Aim → ℕ → Option Recipe
-beside_zero a b aim words = cond (zero_number b.constant) (recipe (First aim) words) (cond (zero_number a.constant) (recipe (Second aim) words) None)
+abbrev pub beside_zero : Rule → Facts → Facts → Aim → ℕ → Option Recipe
+beside_zero r a b aim words = cond (zero_number b.constant) (recipe (takes r aim true) words) (cond (zero_number a.constant) (by_table r aim words) None)
 
 abbrev pub without_zero : Op → Facts → Facts → Aim → Option Recipe
-without_zero Add a b aim = beside_zero a b aim 0
-without_zero Subtract a b aim = where_so (zero_number b.constant) (recipe (First aim) 0)
+without_zero Add a b aim = beside_zero V8 a b aim 0
+without_zero Subtract a b aim = where_so (zero_number b.constant) (recipe (takes V8 aim true) 0)
 without_zero _ a b aim = None
 
 abbrev pub less_number : Option ℕ → Aim → Option Recipe
 less_number None aim = None
-less_number (Some n) aim = recipe (First aim) (w (negated n))
+less_number (Some n) aim = by_table V9 aim (w (negated n))
 
 -- the rules of a value at an operator that have both parts
 abbrev pub both_parts : Rule → Op → ℕ → (are_free : Bool) → Option Recipe
-both_parts V12 op s f = recipe (InOrder (Gets Any) (Gets Push)) 1
-both_parts V13 op s f = where_so (is_some (mirror_of op)) (where_so f (recipe (Turned (Gets Push) (Gets Any)) 1))
-both_parts V14 op s f = only_at Subtract op (where_so f (recipe (Turned (Gets Push) (Gets Any)) 2))
-both_parts V15 op s f = where_so (is_some (mirror_of op)) (recipe (InOrder (Gets Any) (Gets Any)) (1 + 2 * w s))
-both_parts V16 op s f = where_so f (recipe (Turned (Gets Any) (Gets Any)) (1 + 2 * w s))
-both_parts V17 op s f = recipe (InOrder (Gets Any) (Gets Any)) (1 + 2 * w s + 2 * w (s + 1))
-both_parts V18 op s f = only_at Add op (recipe (InOrder (Gets Any) (Gets Any)) (2 * w s))
-both_parts V19 op s f = only_at Subtract op (recipe (InOrder (Gets Any) (Gets Any)) (1 + 2 * w s))
+both_parts V12 op s f = by_table V12 (Gets Any) 1
+both_parts V13 op s f = where_so (is_some (mirror_of op)) (where_so f (by_table V13 (Gets Any) 1))
+both_parts V14 op s f = only_at Subtract op (where_so f (by_table V14 (Gets Any) 2))
+both_parts V15 op s f = where_so (is_some (mirror_of op)) (by_table V15 (Gets Any) (1 + 2 * w s))
+both_parts V16 op s f = where_so f (by_table V16 (Gets Any) (1 + 2 * w s))
+both_parts V17 op s f = by_table V17 (Gets Any) (1 + 2 * w s + 2 * w (s + 1))
+both_parts V18 op s f = only_at Add op (by_table V18 (Gets Any) (2 * w s))
+both_parts V19 op s f = only_at Subtract op (by_table V19 (Gets Any) (1 + 2 * w s))
 both_parts _ op s f = None
 
 -- the rules of a value at an operator
 abbrev pub value_of_two : Rule → Mode → Op → ℕ → Facts → Facts → Option Recipe
-value_of_two V6 m op s a b = only_at Add op (adding (First (Gets m)) b.operand 0)
-value_of_two V7 m op s a b = only_at Add op (where_so (free a b) (adding (Second (Gets m)) a.operand 0))
+value_of_two V6 m op s a b = only_at Add op (adding (takes V6 (Gets m) false) b.operand 0)
+value_of_two V7 m op s a b = only_at Add op (where_so (free a b) (adding (takes V7 (Gets m) false) a.operand 0))
 value_of_two V8 m op s a b = without_zero op a b (Gets m)
 value_of_two V9 m op s a b = only_at Subtract op (less_number b.constant (Gets m))
-value_of_two V10 m op s a b = only_at Subtract op (adding (First (Gets m)) b.operand 2)
-value_of_two V11 m op s a b = only_at Subtract op (where_so (free a b) (adding (Second (Gets m)) a.operand 1))
+value_of_two V10 m op s a b = only_at Subtract op (adding (takes V10 (Gets m) false) b.operand 2)
+value_of_two V11 m op s a b = only_at Subtract op (where_so (free a b) (adding (takes V11 (Gets m) false) a.operand 1))
 value_of_two r m op s a b = in_any m (both_parts r op s (free a b))
 
-abbrev pub zero_test : Table → Facts → Facts → Option Recipe
-zero_test T a b = where_so (has_tests_of_zero T) (beside_zero a b (Gets Any) 2)
+abbrev pub zero_test : Rule → Table → Facts → Facts → Option Recipe
+zero_test r T a b = where_so (has_tests_of_zero T) (beside_zero r a b (Gets Any) 2)
 
 -- the rules of a test at an operator, but for J6
 abbrev pub test_of_two : Rule → Table → (sense : Bool) → Op → Facts → Facts → Option Recipe
-test_of_two J2 T sense op a b = only_at And op (where_so (not sense) (recipe (InOrder (Jumps false) (Jumps false)) 0))
-test_of_two J3 T sense op a b = only_at And op (where_so sense (recipe (InOrder (Jumps false) (Jumps true)) 0))
-test_of_two J4 T sense op a b = only_at Or op (where_so sense (recipe (InOrder (Jumps true) (Jumps true)) 0))
-test_of_two J5 T sense op a b = only_at Or op (where_so (not sense) (recipe (InOrder (Jumps true) (Jumps false)) 0))
-test_of_two J8 T sense op a b = only_at Equal op (zero_test T a b)
-test_of_two J9 T sense op a b = only_at NotEqual op (zero_test T a b)
+test_of_two J2 T sense op a b = only_at And op (where_so (not sense) (by_table J2 (Jumps sense) 0))
+test_of_two J3 T sense op a b = only_at And op (where_so sense (by_table J3 (Jumps sense) 0))
+test_of_two J4 T sense op a b = only_at Or op (where_so sense (by_table J4 (Jumps sense) 0))
+test_of_two J5 T sense op a b = only_at Or op (where_so (not sense) (by_table J5 (Jumps sense) 0))
+test_of_two J8 T sense op a b = only_at Equal op (zero_test J8 T a b)
+test_of_two J9 T sense op a b = only_at NotEqual op (zero_test J9 T a b)
 test_of_two _ T sense op a b = None
 
 abbrev pub of_two : Rule → Aim → Table → Op → ℕ → Facts → Facts → Option Recipe
@@ -125,33 +116,33 @@ of_two r (Gets m) T op s a b = value_of_two r m op s a b
 of_two r (Jumps sense) T op s a b = test_of_two r T sense op a b
 
 abbrev pub of_number : Rule → Aim → ℕ → Option Recipe
-of_number J7 (Jumps sense) n = recipe Nothing (cond (jumps_at sense n) 2 0)
+of_number J7 (Jumps sense) n = by_table J7 (Jumps sense) (cond (jumps_at sense n) 2 0)
 of_number _ _ n = None
 
 abbrev pub of_load : Rule → Aim → Option Recipe
-of_load V2 (Gets m) = recipe (First (Gets m)) 1
+of_load V2 (Gets m) = by_table V2 (Gets m) 1
 of_load _ _ = None
 
 abbrev pub of_neg : Rule → Aim → Option Recipe
-of_neg V3 (Gets m) = recipe (First (Gets m)) 1
+of_neg V3 (Gets m) = by_table V3 (Gets m) 1
 of_neg _ _ = None
 
 abbrev pub of_not : Rule → Aim → Option Recipe
-of_not V4 (Gets m) = recipe (First (Gets m)) 1
-of_not J1 (Jumps sense) = recipe (First (Jumps (not sense))) 0
+of_not V4 (Gets m) = by_table V4 (Gets m) 1
+of_not J1 (Jumps sense) = by_table J1 (Jumps sense) 0
 of_not _ _ = None
 
 abbrev pub of_cond : Rule → Aim → Option Recipe
-of_cond V20 (Gets Any) = recipe (Choice false) 2
-of_cond V21 (Gets Any) = recipe (Choice true) 2
+of_cond V20 (Gets Any) = by_table V20 (Gets Any) 2
+of_cond V21 (Gets Any) = by_table V21 (Gets Any) 2
 of_cond _ _ = None
 
 abbrev pub of_call : Rule → Aim → ℕ → Option Recipe
-of_call V22 (Gets Any) s = recipe Call (w s)
+of_call V22 (Gets Any) s = by_table V22 (Gets Any) (w s)
 of_call _ _ s = None
 
 abbrev pub of_valof : Rule → Aim → Option Recipe
-of_valof V22 (Gets Any) = recipe Nothing 0
+of_valof V22 (Gets Any) = by_table V22 (Gets Any) 0
 of_valof _ _ = None
 
 abbrev pub of_parts : Rule → Aim → Table → Op → ℕ → List Facts → Option Recipe
@@ -171,5 +162,5 @@ of_form r aim T s _ ps = None
 
 -- the node itself as operand, pushed
 abbrev pub of_operand : Aim → Option ℕ → Option Recipe
-of_operand (Gets Push) o = adding Nothing o 0
+of_operand (Gets Push) o = adding (takes V1 (Gets Push) false) o 0
 of_operand _ o = None

@@ -13,9 +13,11 @@ use crate::costs::LeastWords;
 use crate::facts::Facts;
 use crate::form::Form;
 use crate::node::{Node, lesser, pushes, sum, test_of_two, tests, value_of_two, values};
-use crate::recipe::{Recipe, Takes, makes, with_operand};
+use crate::recipe::{Recipe, makes, with_operand};
 use bc_rules_defs::{Aim, Mode, Rule, jumps};
 use bc_word::{Op, Word};
+
+const PUSH: Aim = Aim::Gets(Mode::Push);
 
 /// The two parts of a dyadic operator.
 #[derive(Clone, Copy)]
@@ -136,7 +138,10 @@ impl<'p> Node<'p> {
         ensures exact { result ≡ least_of (pair_node self.now pair.entry) (aims.Gets modes.Push) None (pushes_of (forms.Bin pair.entry.op)) }
         ensures few { IfSome result (λ n. n < 2 ^ 127 + 2 ^ 70) }
     {
-        let words = self.words_over_both(with_operand(Takes::Nothing, self.operand, 0), pair);
+        let words = self.words_over_both(
+            with_operand(Rule::V1.takes(PUSH, false), self.operand, 0),
+            pair,
+        );
         let words = lesser(words, self.value_by(Rule::V6, Mode::Push, pair));
         let words = lesser(words, self.value_by(Rule::V7, Mode::Push, pair));
         let words = lesser(words, self.value_by(Rule::V8, Mode::Push, pair));
@@ -197,9 +202,12 @@ impl<'p> Node<'p> {
     fn of_content(&self, part: &Facts) -> LeastWords
         ensures { result ≡ least_words_of (node_of self.now forms.Load (part.now ∷ [])) }
     {
-        let own = self.words_over(with_operand(Takes::Nothing, self.operand, 0), part);
-        let pushed = makes(Takes::First(Aim::Gets(Mode::Push)), 1);
-        let value = makes(Takes::First(Aim::Gets(Mode::Any)), 1);
+        let own = self.words_over(
+            with_operand(Rule::V1.takes(PUSH, false), self.operand, 0),
+            part,
+        );
+        let pushed = makes(Rule::V2.takes(PUSH, false), 1);
+        let value = makes(Rule::V2.takes(Aim::Gets(Mode::Any), false), 1);
         gather(
             Form::Load,
             lesser(own, self.words_over(pushed, part)),
@@ -218,10 +226,10 @@ impl<'p> Node<'p> {
         let on_true = if jumps(true, number) { 2 } else { 0 };
         gather(
             Form::Num(number),
-            self.words_alone(with_operand(Takes::Nothing, self.operand, 0)),
+            self.words_alone(with_operand(Rule::V1.takes(PUSH, false), self.operand, 0)),
             None,
-            self.words_alone(makes(Takes::Nothing, on_false)),
-            self.words_alone(makes(Takes::Nothing, on_true)),
+            self.words_alone(makes(Rule::J7.takes(Aim::Jumps(false), false), on_false)),
+            self.words_alone(makes(Rule::J7.takes(Aim::Jumps(true), false), on_true)),
         )
     }
 

@@ -12,4 +12,4 @@ pub use costs::LeastWords;
 pub use facts::{Facts, are_free, words_as_operand};
 pub use form::Form;
 pub use node::{Node, lesser};
-pub use recipe::{Recipe, Takes};
+pub use recipe::Recipe;

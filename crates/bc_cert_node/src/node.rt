@@ -9,8 +9,8 @@ ghost use Rattle.bc_cert_node.specs.Node.{node, recipe_by, words_of as words_of_
 use crate::costs::words_for;
 use crate::facts::{Facts, are_free};
 use crate::form::Form;
-use crate::recipe::{Recipe, Takes, makes, only, with_operand};
-use bc_rules_defs::{Aim, Mode, Rule, Table, jumps, number_words};
+use crate::recipe::{Recipe, makes, only, with_operand};
+use bc_rules_defs::{Aim, Mode, Rule, Table, Takes, jumps, number_words};
 use bc_word::{Op, Word, mirror};
 
 /// A node of a certificate, over what the rules ask of its parts.
@@ -27,8 +27,6 @@ pub struct Node<'p> {
 
 const ANY: Aim = Aim::Gets(Mode::Any);
 
-const PUSH: Aim = Aim::Gets(Mode::Push);
-
 impl<'p> Node<'p> {
     /// What a rule makes for an aim at this node, where it applies. The rules that go on from the node itself, `V0`
     /// and `J6`, are not among them.
@@ -37,7 +35,7 @@ impl<'p> Node<'p> {
     {
         match rule {
             Rule::V1 => match aim {
-                Aim::Gets(Mode::Push) => with_operand(Takes::Nothing, self.operand, 0),
+                Aim::Gets(Mode::Push) => with_operand(rule.takes(aim, false), self.operand, 0),
                 Aim::Gets(Mode::Any) | Aim::Jumps(_) => None,
             },
             _ => self.by_form(rule, aim),
@@ -47,25 +45,24 @@ impl<'p> Node<'p> {
     fn by_form(&self, rule: Rule, aim: Aim) -> Option<Recipe>
         ensures { result ≡ of_form rule aim self.now.table self.now.level self.now.form self.now.parts.now }
     {
+        let takes = rule.takes(aim, false);
         match self.form {
             Form::Num(n) => match (rule, aim) {
-                (Rule::J7, Aim::Jumps(sense)) => {
-                    makes(Takes::Nothing, if jumps(sense, n) { 2 } else { 0 })
-                }
+                (Rule::J7, Aim::Jumps(sense)) => makes(takes, if jumps(sense, n) { 2 } else { 0 }),
                 _ => None,
             },
             Form::Frame(_) | Form::Glob(_) | Form::Place(_) => None,
             Form::Load => match (rule, aim) {
-                (Rule::V2, Aim::Gets(_)) => makes(Takes::First(aim), 1),
+                (Rule::V2, Aim::Gets(_)) => makes(takes, 1),
                 _ => None,
             },
             Form::Neg => match (rule, aim) {
-                (Rule::V3, Aim::Gets(_)) => makes(Takes::First(aim), 1),
+                (Rule::V3, Aim::Gets(_)) => makes(takes, 1),
                 _ => None,
             },
             Form::Not => match (rule, aim) {
-                (Rule::V4, Aim::Gets(_)) => makes(Takes::First(aim), 1),
-                (Rule::J1, Aim::Jumps(sense)) => makes(Takes::First(Aim::Jumps(!sense)), 0),
+                (Rule::V4, Aim::Gets(_)) => makes(takes, 1),
+                (Rule::J1, Aim::Jumps(_)) => makes(takes, 0),
                 _ => None,
             },
             Form::Bin(op) => match self.parts {
@@ -76,18 +73,18 @@ impl<'p> Node<'p> {
                 _ => None,
             },
             Form::Cond => match (rule, aim) {
-                (Rule::V20, Aim::Gets(Mode::Any)) => makes(Takes::Choice(false), 2),
-                (Rule::V21, Aim::Gets(Mode::Any)) => makes(Takes::Choice(true), 2),
+                (Rule::V20, Aim::Gets(Mode::Any)) => makes(takes, 2),
+                (Rule::V21, Aim::Gets(Mode::Any)) => makes(takes, 2),
                 _ => None,
             },
             Form::Call(_) => match (rule, aim) {
                 (Rule::V22, Aim::Gets(Mode::Any)) => {
-                    makes(Takes::Call, number_words(u64::from(self.level)))
+                    makes(takes, number_words(u64::from(self.level)))
                 }
                 _ => None,
             },
             Form::Valof(_) => match (rule, aim) {
-                (Rule::V22, Aim::Gets(Mode::Any)) => makes(Takes::Nothing, 0),
+                (Rule::V22, Aim::Gets(Mode::Any)) => makes(takes, 0),
                 _ => None,
             },
         }
@@ -293,15 +290,15 @@ fn in_any(mode: Mode, recipe: Option<Recipe>) -> Option<Recipe>
     }
 }
 
-/// The part beside a 0; of two 0s the right one is dropped.
+/// A rule of the part beside a 0; of two 0s the right one is dropped.
 #[inline(always)]
-fn beside_zero(a: &Facts, b: &Facts, aim: Aim, words: u64) -> Option<Recipe>
-    ensures { result ≡ beside_by a.now b.now aim words }
+fn beside_zero(rule: Rule, a: &Facts, b: &Facts, aim: Aim, words: u64) -> Option<Recipe>
+    ensures { result ≡ beside_by rule a.now b.now aim words }
 {
     if b.is_zero() {
-        makes(Takes::First(aim), words)
+        makes(rule.takes(aim, true), words)
     } else if a.is_zero() {
-        makes(Takes::Second(aim), words)
+        makes(rule.takes(aim, false), words)
     } else {
         None
     }
@@ -313,8 +310,8 @@ fn without_zero(op: Op, a: &Facts, b: &Facts, aim: Aim) -> Option<Recipe>
     ensures { result ≡ without_by op a.now b.now aim }
 {
     match op {
-        Op::Add => beside_zero(a, b, aim, 0),
-        Op::Subtract => given(b.is_zero(), makes(Takes::First(aim), 0)),
+        Op::Add => beside_zero(Rule::V8, a, b, aim, 0),
+        Op::Subtract => given(b.is_zero(), makes(Rule::V8.takes(aim, true), 0)),
         _ => None,
     }
 }
@@ -326,7 +323,7 @@ fn less_number(number: Option<u16>, aim: Aim) -> Option<Recipe>
 {
     match number {
         Some(n) => makes(
-            Takes::First(aim),
+            Rule::V9.takes(aim, false),
             number_words(u64::from(Word::new(n).negated().get())),
         ),
         None => None,
@@ -348,23 +345,27 @@ pub fn value_of_two(
     let aim = Aim::Gets(mode);
     let free = are_free(a, b);
     match rule {
-        Rule::V6 => only(Op::Add, op, with_operand(Takes::First(aim), b.operand, 0)),
+        Rule::V6 => only(
+            Op::Add,
+            op,
+            with_operand(rule.takes(aim, false), b.operand, 0),
+        ),
         Rule::V7 => only(
             Op::Add,
             op,
-            given(free, with_operand(Takes::Second(aim), a.operand, 0)),
+            given(free, with_operand(rule.takes(aim, false), a.operand, 0)),
         ),
         Rule::V8 => without_zero(op, a, b, aim),
         Rule::V9 => only(Op::Subtract, op, less_number(b.constant, aim)),
         Rule::V10 => only(
             Op::Subtract,
             op,
-            with_operand(Takes::First(aim), b.operand, 2),
+            with_operand(rule.takes(aim, false), b.operand, 2),
         ),
         Rule::V11 => only(
             Op::Subtract,
             op,
-            given(free, with_operand(Takes::Second(aim), a.operand, 1)),
+            given(free, with_operand(rule.takes(aim, false), a.operand, 1)),
         ),
         _ => in_any(mode, both_parts(rule, op, level, free)),
     }
@@ -375,20 +376,19 @@ pub fn value_of_two(
 fn both_parts(rule: Rule, op: Op, level: u16, free: bool) -> Option<Recipe>
     ensures { result ≡ both_by rule op level free }
 {
-    let in_order = Takes::InOrder(ANY, ANY);
-    let pushed = Takes::Turned(PUSH, ANY);
+    let takes = rule.takes(ANY, false);
     let held = 2 * number_words(u64::from(level));
     let held_too = 2 * number_words(u64::from(level) + 1);
     let mirrored = mirror(op).is_some();
     match rule {
-        Rule::V12 => makes(Takes::InOrder(ANY, PUSH), 1),
-        Rule::V13 => given(mirrored, given(free, makes(pushed, 1))),
-        Rule::V14 => only(Op::Subtract, op, given(free, makes(pushed, 2))),
-        Rule::V15 => given(mirrored, makes(in_order, 1 + held)),
-        Rule::V16 => given(free, makes(Takes::Turned(ANY, ANY), 1 + held)),
-        Rule::V17 => makes(in_order, 1 + held + held_too),
-        Rule::V18 => only(Op::Add, op, makes(in_order, held)),
-        Rule::V19 => only(Op::Subtract, op, makes(in_order, 1 + held)),
+        Rule::V12 => makes(takes, 1),
+        Rule::V13 => given(mirrored, given(free, makes(takes, 1))),
+        Rule::V14 => only(Op::Subtract, op, given(free, makes(takes, 2))),
+        Rule::V15 => given(mirrored, makes(takes, 1 + held)),
+        Rule::V16 => given(free, makes(takes, 1 + held)),
+        Rule::V17 => makes(takes, 1 + held + held_too),
+        Rule::V18 => only(Op::Add, op, makes(takes, held)),
+        Rule::V19 => only(Op::Subtract, op, makes(takes, 1 + held)),
         _ => None,
     }
 }
@@ -405,26 +405,25 @@ pub fn test_of_two(
 ) -> Option<Recipe>
     ensures { result ≡ test_by rule table sense op a.now b.now }
 {
-    let no = Aim::Jumps(false);
-    let yes = Aim::Jumps(true);
+    let takes = rule.takes(Aim::Jumps(sense), false);
     match rule {
-        Rule::J2 => only(Op::And, op, given(!sense, makes(Takes::InOrder(no, no), 0))),
-        Rule::J3 => only(Op::And, op, given(sense, makes(Takes::InOrder(no, yes), 0))),
-        Rule::J4 => only(Op::Or, op, given(sense, makes(Takes::InOrder(yes, yes), 0))),
-        Rule::J5 => only(Op::Or, op, given(!sense, makes(Takes::InOrder(yes, no), 0))),
-        Rule::J8 => only(Op::Equal, op, of_zero(table, a, b)),
-        Rule::J9 => only(Op::NotEqual, op, of_zero(table, a, b)),
+        Rule::J2 => only(Op::And, op, given(!sense, makes(takes, 0))),
+        Rule::J3 => only(Op::And, op, given(sense, makes(takes, 0))),
+        Rule::J4 => only(Op::Or, op, given(sense, makes(takes, 0))),
+        Rule::J5 => only(Op::Or, op, given(!sense, makes(takes, 0))),
+        Rule::J8 => only(Op::Equal, op, of_zero(Rule::J8, table, a, b)),
+        Rule::J9 => only(Op::NotEqual, op, of_zero(Rule::J9, table, a, b)),
         _ => None,
     }
 }
 
 /// The rules of table 2, of a test against 0.
 #[inline(always)]
-fn of_zero(table: Table, a: &Facts, b: &Facts) -> Option<Recipe>
-    ensures { result ≡ zero_test table a.now b.now }
+fn of_zero(rule: Rule, table: Table, a: &Facts, b: &Facts) -> Option<Recipe>
+    ensures { result ≡ zero_test rule table a.now b.now }
 {
     match table {
         Table::One => None,
-        Table::Two => beside_zero(a, b, ANY, 2),
+        Table::Two => beside_zero(rule, a, b, ANY, 2),
     }
 }

@@ -1,59 +1,16 @@
 // What a rule makes at a node.
 
 ghost use Rattle.std.specs.Prelude.{◌≡◌, Some};
-ghost use Rattle.bc_cert_node.specs.Recipe.{aim_at, recipe as recipe_of_words, adding, only_at};
+ghost use Rattle.bc_cert_node.specs.Recipe.{recipe as recipe_of_words, adding, only_at};
 
-use bc_rules_defs::{Aim, Mode};
+use bc_rules_defs::Takes;
 use bc_word::{Op, Word};
-
-/// The parts of a node that a rule derives, each with its aim.
-#[derive(Clone, Copy)]
-pub enum Takes {
-    Nothing,
-    /// The first part alone.
-    First(Aim),
-    /// The second part alone.
-    Second(Aim),
-    /// Two parts, the first one first in the code.
-    InOrder(Aim, Aim),
-    /// Two parts, the second one first in the code; the first one's aim stands first here.
-    Turned(Aim, Aim),
-    /// A condition for this sense, and two values; where it is true, the last one stands before the other in the code.
-    Choice(bool),
-    /// All the parts of a call, each with its value.
-    Call,
-}
 
 /// What a rule makes at a node: the parts that it derives, and how many words it has beside theirs.
 #[derive(Clone, Copy)]
 pub struct Recipe {
     pub takes: Takes,
     pub words: u64,
-}
-
-impl Takes {
-    /// The aim for which a part is taken, if it is.
-    #[inline(always)]
-    pub fn aim_of(self, part: usize) -> Option<Aim>
-        ensures { result ≡ aim_at self part }
-    {
-        match self {
-            Takes::Nothing => None,
-            Takes::First(aim) => { if part == 0 { Some(aim) } else { None } }
-            Takes::Second(aim) => { if part == 0 { None } else { Some(aim) } }
-            Takes::InOrder(first, second) | Takes::Turned(first, second) => {
-                if part == 0 { Some(first) } else { Some(second) }
-            }
-            Takes::Choice(sense) => {
-                if part == 0 {
-                    Some(Aim::Jumps(sense))
-                } else {
-                    Some(Aim::Gets(Mode::Any))
-                }
-            }
-            Takes::Call => Some(Aim::Gets(Mode::Any)),
-        }
-    }
 }
 
 /// This, in so many words.

@@ -8,11 +8,11 @@ use Rattle.bc_rules_defs.specs.declared.rule.Aim.TheVariants.{Gets, Jumps}
 use Rattle.bc_rules_defs.specs.declared.rule.Rule.{Rule}
 use Rattle.bc_rules_defs.specs.declared.rule.Rule.TheVariants.{J1, J2, J3, J4, J5, J6, J7, J8, J9}
 use Rattle.bc_cert_defs.specs.declared.costs.Costs.{Costs}
-use Rattle.bc_cert_node.specs.declared.recipe.Takes.{Takes}
+use Rattle.bc_rules_defs.specs.declared.takes.Takes.{Takes}
+use Rattle.bc_rules_defs.specs.Takes.{aim_at}
 use Rattle.bc_cert_node.specs.declared.recipe.Recipe.{Recipe}
 use Rattle.bc_cert_node.specs.Costs.{are_costs}
 use Rattle.bc_cert_node.specs.Form.{is_plain}
-use Rattle.bc_cert_node.specs.Recipe.{aim_at}
 use Rattle.bc_cert_node.specs.Node.{Node, recipe_by, words_of, least_words_of}
 use Rattle.bc_cert_lines.specs.declared.chain.Chain.{Chain}
 use Rattle.bc_cert_lines.specs.declared.chain.Rules.{Rules}

@@ -8,8 +8,8 @@ use crate::mark::{Mark, Shown};
 use crate::place::Place;
 use bc_cert_defs::{CheckFault, Costs};
 use bc_cert_lines::{Chain, NodeLine, Rules};
-use bc_cert_node::{Node, Takes};
-use bc_rules_defs::{Aim, Mode, Rule};
+use bc_cert_node::Node;
+use bc_rules_defs::{Aim, Mode, Rule, Takes};
 
 const ANY: Aim = Aim::Gets(Mode::Any);
 

@@ -3,60 +3,15 @@
 ghost use Rattle.std.specs.Prelude.{◌≡◌, map, take, IfOk};
 ghost use Rattle.bc_rules_defs.specs.View.{derivation as tree, derivations};
 ghost use Rattle.bc_rules_defs.specs.Rules.{by, one as one_tree};
-ghost use Rattle.bc_cert_trees.specs.Derived.{order_of, two_turned, last_turned as last_two_turned, taken as taken_of, trees, chained as chained_of, derived as derived_of};
+ghost use Rattle.bc_cert_trees.specs.Derived.{two_turned, last_turned as last_two_turned, taken as taken_of, trees, chained as chained_of, derived as derived_of};
 
 use bc_cert_lines::{Chain, Rules};
-use bc_rules_defs::{Derivation, Rule};
+use bc_rules_defs::{Aim, Derivation, Mode, Rule, Takes};
 use bc_word::Memory;
 use std::alloc::Global;
 
-/// Which of its parts a rule derives, and in which order.
-#[derive(Clone, Copy)]
-pub enum Order {
-    Nothing,
-    First,
-    Second,
-    InOrder,
-    Turned,
-    /// The last two turned.
-    LastTurned,
-}
-
-/// Which parts a rule derives; the rules of a sum, a difference or a test with 0 derive the other part.
-fn order_for(rule: Rule, second_is_zero: bool) -> Order
-    ensures { result ≡ order_of rule second_is_zero }
-{
-    match rule {
-        Rule::V1 | Rule::J7 => Order::Nothing,
-        Rule::V2 | Rule::V3 | Rule::V4 | Rule::V6 | Rule::V9 | Rule::V10 | Rule::J1 => Order::First,
-        Rule::V7 | Rule::V11 => Order::Second,
-        Rule::V8 | Rule::J8 | Rule::J9 => {
-            if second_is_zero {
-                Order::First
-            } else {
-                Order::Second
-            }
-        }
-        Rule::V13 | Rule::V14 | Rule::V16 => Order::Turned,
-        Rule::V21 => Order::LastTurned,
-        Rule::V0
-        | Rule::V12
-        | Rule::V15
-        | Rule::V17
-        | Rule::V18
-        | Rule::V19
-        | Rule::V20
-        | Rule::V22
-        | Rule::J2
-        | Rule::J3
-        | Rule::J4
-        | Rule::J5
-        | Rule::J6
-        | Rule::A1
-        | Rule::A2
-        | Rule::A3 => Order::InOrder,
-    }
-}
+/// Which parts are derived is the same for each aim.
+const ANY: Aim = Aim::Gets(Mode::Any);
 
 /// Two parts turned round.
 #[tactic(auto, using(crate::proofs::Derived::two_seen, crate::proofs::Derived::not_two_seen))]
@@ -89,20 +44,20 @@ fn first(mut parts: Vec<Derivation>) -> Vec<Derivation>
     parts
 }
 
-/// The parts that are derived.
-pub fn taken(order: Order, mut parts: Vec<Derivation>) -> Vec<Derivation>
-    ensures { map tree result.items ≡ taken_of order (map tree parts.items) }
+/// The parts that are derived, in the order of the code.
+pub fn taken(takes: Takes, mut parts: Vec<Derivation>) -> Vec<Derivation>
+    ensures { map tree result.items ≡ taken_of takes (map tree parts.items) }
 {
-    match order {
-        Order::Nothing => {
+    match takes {
+        Takes::Nothing => {
             parts.truncate(0);
             parts
         }
-        Order::First => first(parts),
-        Order::Second => first(turned(parts)),
-        Order::InOrder => parts,
-        Order::Turned => turned(parts),
-        Order::LastTurned => last_turned(parts),
+        Takes::First(_) => first(parts),
+        Takes::Second(_) => first(turned(parts)),
+        Takes::InOrder(_, _) | Takes::Choice(false) | Takes::Call => parts,
+        Takes::Turned(_, _) => turned(parts),
+        Takes::Choice(true) => last_turned(parts),
     }
 }
 
@@ -160,7 +115,7 @@ pub fn derived(
             chained(
                 alloc,
                 chain,
-                taken(order_for(chain.rule, second_is_zero), parts),
+                taken(chain.rule.takes(ANY, second_is_zero), parts),
             )
         }
         Rules::Taken | Rules::Wrong => Ok(by_rule(Rule::V1, Vec::new(alloc))),

@@ -10,11 +10,11 @@ use Rattle.bc_rules_defs.specs.declared.rule.Aim.{Aim}
 use Rattle.bc_rules_defs.specs.declared.rule.Aim.TheVariants.{Gets}
 use Rattle.bc_rules_defs.specs.declared.rule.Rule.TheVariants.{V1, J6}
 use Rattle.bc_rules_defs.specs.Free.{is_zero, without_zero}
+use Rattle.bc_rules_defs.specs.Takes.{beside}
 use Rattle.bc_rules_defs.specs.Rules.{Derives, v0, v1, v2, v3, v4, v6, v7, v8, v9, v10, v11, v12, v13, v14, v15, v16, v17, v18, v19, v20, v21, v22, v22_valof, j1, j2, j3, j4, j5, j6, j7, j8, j9, DerivesAll, no_more, one_more, RootDerives, value, test, a1, a2, a3, Tree, by, no_part, one, end_with, shape, shapes, root_shape}
 use Rattle.bc_select_defs.specs.Least.{top}
-use Rattle.bc_cert_write.specs.declared.slot.Slot.TheVariants as slots
 use Rattle.bc_cert_write.specs.Shown.{Shown, ended, below_bare, all_bare, bare, rules_of_value, rules_at, below, all_shown, shown, root_shown}
-use Rattle.bc_cert_write.specs.Walked.{first, top_of, is_v0, is_j6, behind, own, at_slot, behind_arguments, behind_value, behind_test, chain_of_value, chain_of, rules_of, below_with, all_with, whole_with, root_with}
+use Rattle.bc_cert_write.specs.Walked.{first, top_of, is_v0, is_j6, behind, own, at_slot, first_slot, second_slot, behind_arguments, behind_value, behind_test, chain_of_value, chain_of, rules_of, below_with, all_with, whole_with, root_with}
 use Rattle.bc_cert_write.specs.Nodes.{shown_at}
 
 both : (xs ys us vs : List Shown) → xs ≡ us → ys ≡ vs → xs ++ ys ≡ us ++ vs
@@ -113,7 +113,7 @@ whole {e = e} d s h =
 
 -- of two operands the one beside a 0
 dropped : {T : Table} {c : Exp} {aim : Aim} (z : Bool) (a b : Exp) (d : Derives T c aim) (s : ℕ) → cond z (Some a) (Some b) ≡ Some c → whole_with shown_at c s (Some (shape d)) ≡ shown d s
-    → whole_with shown_at a s (at_slot (cond z slots.First slots.Nowhere) (one (shape d))) ++ whole_with shown_at b s (at_slot (cond z slots.Nowhere slots.First) (one (shape d))) ≡ cond z (shown d s ++ bare b s) (bare a s ++ shown d s)
+    → whole_with shown_at a s (at_slot (first_slot (beside (Gets Any) z)) (one (shape d))) ++ whole_with shown_at b s (at_slot (second_slot (beside (Gets Any) z)) (one (shape d))) ≡ cond z (shown d s ++ bare b s) (bare a s ++ shown d s)
 dropped {c = c} true a b d s h k =
     let i : a ≡ c = cc in
     both _ _ _ _ (ap (λ e. whole_with shown_at e s (Some (shape d))) i ∙ k) (bare_whole b s)

@@ -5,9 +5,14 @@ use Rattle.bc_core.specs.Tree.{Exp, Num, Frame, Glob, Place, Load, Neg, Not, Bin
 use Rattle.bc_core.specs.Level.{side_level}
 use Rattle.bc_word.specs.Words.{number_of}
 use Rattle.bc_rules_defs.specs.declared.derivation.Derivation.{Derivation}
+use Rattle.bc_rules_defs.specs.declared.rule.Mode.TheVariants.{Any}
+use Rattle.bc_rules_defs.specs.declared.rule.Aim.TheVariants.{Gets}
 use Rattle.bc_rules_defs.specs.declared.rule.Rule.{Rule}
-use Rattle.bc_rules_defs.specs.declared.rule.Rule.TheVariants.{V0, V6, V7, V8, V9, V10, V11, V13, V14, V16, V21, J6, J8, J9, A1, A2}
+use Rattle.bc_rules_defs.specs.declared.rule.Rule.TheVariants.{V0, J6}
+use Rattle.bc_rules_defs.specs.declared.takes.Takes.{Takes}
+use Rattle.bc_rules_defs.specs.declared.takes.Takes.TheVariants as taken
 use Rattle.bc_rules_defs.specs.Free.{is_zero}
+use Rattle.bc_rules_defs.specs.Takes.{takes}
 use Rattle.bc_rules_defs.specs.Rules.{Tree, Trees, by, no_part, part}
 use Rattle.bc_rules_defs.specs.View.{derivation}
 use Rattle.bc_cert_write.specs.declared.chain.Chain.{Chain}
@@ -66,52 +71,41 @@ abbrev pub placed : (Rule → Slot) → Option Tree → Option Tree
 placed slot None = None
 placed slot (Some (by r xs)) = at_slot (slot r) xs
 
--- where the tree of the one part stands, the trees of the two operands where the right one is a 0 or not, and those
--- of the two values of `->`
-abbrev pub only_slot : Rule → Slot
-only_slot r = slots.First
+-- where the tree of a node's first, second or third part stands among those of its rule's parts
+abbrev pub first_slot : Takes → Slot
+first_slot taken.Nothing = slots.Nowhere
+first_slot (taken.First aim) = slots.First
+first_slot (taken.Second aim) = slots.Nowhere
+first_slot (taken.InOrder f g) = slots.First
+first_slot (taken.Turned f g) = slots.Second
+first_slot (taken.Choice sense) = slots.First
+first_slot taken.Call = slots.First
 
-abbrev pub left_slot : (zero : Bool) → Rule → Slot
-left_slot zero V7 = slots.Nowhere
-left_slot zero V11 = slots.Nowhere
-left_slot zero V8 = cond zero slots.First slots.Nowhere
-left_slot zero J8 = cond zero slots.First slots.Nowhere
-left_slot zero J9 = cond zero slots.First slots.Nowhere
-left_slot zero V13 = slots.Second
-left_slot zero V14 = slots.Second
-left_slot zero V16 = slots.Second
-left_slot zero _ = slots.First
+abbrev pub second_slot : Takes → Slot
+second_slot taken.Nothing = slots.Nowhere
+second_slot (taken.First aim) = slots.Nowhere
+second_slot (taken.Second aim) = slots.First
+second_slot (taken.InOrder f g) = slots.Second
+second_slot (taken.Turned f g) = slots.First
+second_slot (taken.Choice false) = slots.Second
+second_slot (taken.Choice true) = slots.Third
+second_slot taken.Call = slots.Second
 
-abbrev pub right_slot : (zero : Bool) → Rule → Slot
-right_slot zero V6 = slots.Nowhere
-right_slot zero V9 = slots.Nowhere
-right_slot zero V10 = slots.Nowhere
-right_slot zero V8 = cond zero slots.Nowhere slots.First
-right_slot zero J8 = cond zero slots.Nowhere slots.First
-right_slot zero J9 = cond zero slots.Nowhere slots.First
-right_slot zero V7 = slots.First
-right_slot zero V11 = slots.First
-right_slot zero V13 = slots.First
-right_slot zero V14 = slots.First
-right_slot zero V16 = slots.First
-right_slot zero _ = slots.Second
+abbrev pub third_slot : Takes → Slot
+third_slot (taken.Choice false) = slots.Third
+third_slot (taken.Choice true) = slots.Second
+third_slot taken.Call = slots.Third
+third_slot _ = slots.Nowhere
 
-abbrev pub this_slot : Rule → Slot
-this_slot V21 = slots.Third
-this_slot _ = slots.Second
+-- the same by the rule, where the second part is a 0 or not
+abbrev pub first_place : (zero : Bool) → Rule → Slot
+first_place zero r = first_slot (takes r (Gets Any) zero)
 
-abbrev pub that_slot : Rule → Slot
-that_slot V21 = slots.Second
-that_slot _ = slots.Third
+abbrev pub second_place : (zero : Bool) → Rule → Slot
+second_place zero r = second_slot (takes r (Gets Any) zero)
 
-abbrev pub value_slot : Rule → Slot
-value_slot A2 = slots.Second
-value_slot _ = slots.First
-
-abbrev pub address_slot : Rule → Slot
-address_slot A1 = slots.Nowhere
-address_slot A2 = slots.First
-address_slot _ = slots.Second
+abbrev pub third_place : Rule → Slot
+third_place r = third_slot (takes r (Gets Any) false)
 
 -- the trees behind those of arguments
 abbrev pub behind_arguments : Args → Trees → Trees
@@ -124,16 +118,16 @@ ended_with f ns e s x = ns ++ f e s x ∷ []
 
 abbrev mutual
   pub below_with : {X : Type 0} → (Exp → ℕ → Option Tree → X) → Exp → ℕ → Option Tree → List X
-  below_with f (Load e) s y = ended_with f (below_with f e s (own (placed only_slot y))) e s (placed only_slot y)
-  below_with f (Neg e) s y = ended_with f (below_with f e s (own (placed only_slot y))) e s (placed only_slot y)
-  below_with f (Not e) s y = ended_with f (below_with f e s (own (placed only_slot y))) e s (placed only_slot y)
-  below_with f (Bin op a b) s y = ended_with f (below_with f a (s + 1) (own (placed (left_slot (is_zero b)) y))) a (s + 1)
-      (placed (left_slot (is_zero b)) y) ++ ended_with f (below_with f b (s + 1) (own (placed (right_slot (is_zero b)) y))) b (s + 1)
-      (placed (right_slot (is_zero b)) y)
+  below_with f (Load e) s y = ended_with f (below_with f e s (own (placed (first_place false) y))) e s (placed (first_place false) y)
+  below_with f (Neg e) s y = ended_with f (below_with f e s (own (placed (first_place false) y))) e s (placed (first_place false) y)
+  below_with f (Not e) s y = ended_with f (below_with f e s (own (placed (first_place false) y))) e s (placed (first_place false) y)
+  below_with f (Bin op a b) s y = ended_with f (below_with f a (s + 1) (own (placed (first_place (is_zero b)) y))) a (s + 1)
+      (placed (first_place (is_zero b)) y) ++ ended_with f (below_with f b (s + 1) (own (placed (second_place (is_zero b)) y))) b (s + 1)
+      (placed (second_place (is_zero b)) y)
   below_with f (Cond c x z) s y =
-      (ended_with f (below_with f c s (own (placed only_slot y))) c s (placed only_slot y)
-      ++ ended_with f (below_with f x s (own (placed this_slot y))) x s (placed this_slot y))
-      ++ ended_with f (below_with f z s (own (placed that_slot y))) z s (placed that_slot y)
+      (ended_with f (below_with f c s (own (placed (first_place false) y))) c s (placed (first_place false) y)
+      ++ ended_with f (below_with f x s (own (placed (second_place false) y))) x s (placed (second_place false) y))
+      ++ ended_with f (below_with f z s (own (placed third_place y))) z s (placed third_place y)
   below_with f (Call es e) s y = all_with f es (s + 2) (parts y)
       ++ ended_with f (below_with f e (s + 2 + count es) (own (first (behind_arguments es (parts y))))) e (s + 2 + count es)
       (first (behind_arguments es (parts y)))
@@ -150,7 +144,8 @@ whole_with f e s x = ended_with f (below_with f e s (own x)) e s x
 abbrev pub root_with : {X : Type 0} → (Exp → ℕ → Option Tree → X) → Root → Tree → List X
 root_with f (Value s e) x = whole_with f e s (Some x)
 root_with f (Test s sense e) x = whole_with f e s (Some x)
-root_with f (Assign s v a) x = whole_with f v (side_level a s) (placed value_slot (Some x)) ++ whole_with f a (side_level a s) (placed address_slot (Some x))
+root_with f (Assign s v a) x =
+    whole_with f v (side_level a s) (placed (first_place false) (Some x)) ++ whole_with f a (side_level a s) (placed (second_place false) (Some x))
 
 -- the rules at one node
 abbrev pub behind_value : Option Rule → Chain

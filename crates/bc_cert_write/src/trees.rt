@@ -2,12 +2,15 @@
 
 ghost use Rattle.std.specs.Prelude.{◌≡◌, drop};
 ghost use Rattle.bc_rules_defs.specs.Rules.{by};
-ghost use Rattle.bc_rules_defs.specs.View.{derivation, derivations};
-ghost use Rattle.bc_cert_write.specs.Walked.{tree_of, first, parts as parts_of, top_of, is_v0 as is_v0_of, is_j6 as is_j6_of, behind, own as own_of, at_slot as slot_of, chain_of, chain_of_value, behind_value, behind_test, placed, only_slot, left_slot as left_of, right_slot as right_of, this_slot as this_of, that_slot as that_of, value_slot as value_of, address_slot as address_of};
+ghost use Rattle.bc_rules_defs.specs.View.{derivations};
+ghost use Rattle.bc_cert_write.specs.Walked.{tree_of, first, parts as parts_of, top_of, is_v0 as is_v0_of, is_j6 as is_j6_of, behind, own as own_of, at_slot as slot_of, chain_of, chain_of_value, behind_value, behind_test, placed, first_place, second_place, third_place};
 
 use crate::chain::Chain;
-use crate::slot::{Slot, address_slot, left_slot, right_slot, that_slot, this_slot, value_slot};
-use bc_rules_defs::{Derivation, Rule};
+use crate::slot::{Slot, first_slot, second_slot, third_slot};
+use bc_rules_defs::{Aim, Derivation, Mode, Rule};
+
+/// Where the trees of parts stand is the same for each aim.
+const ANY: Aim = Aim::Gets(Mode::Any);
 
 /// The tree at an index.
 #[tactic(auto, using(crate::proofs::Seen::tree_at))]
@@ -161,73 +164,35 @@ fn rules_over(rule: Rule, trees: &[Derivation]) -> Chain
     }
 }
 
-/// The tree of the only part.
+/// The tree of a node's first part, where the second one is a 0 or not.
 #[tactic(auto, using(crate::proofs::Seen::placed_seen))]
-pub fn only(tree: Option<&Derivation>) -> Option<&Derivation>
-    ensures { tree_of result ≡ placed only_slot (tree_of tree.entry) }
+pub fn first_part(tree: Option<&Derivation>, zero: bool) -> Option<&Derivation>
+    ensures { tree_of result ≡ placed (first_place zero) (tree_of tree.entry) }
 {
     match tree {
-        Some(own) => at_slot(&own.parts, Slot::First),
+        Some(own) => at_slot(&own.parts, first_slot(own.rule.takes(ANY, zero))),
         None => None,
     }
 }
 
-/// The tree of the left operand, where the right one is a 0 or not.
+/// The tree of the second part, where it is a 0 or not.
 #[tactic(auto, using(crate::proofs::Seen::placed_seen))]
-pub fn left(tree: Option<&Derivation>, zero: bool) -> Option<&Derivation>
-    ensures { tree_of result ≡ placed (left_of zero) (tree_of tree.entry) }
+pub fn second_part(tree: Option<&Derivation>, zero: bool) -> Option<&Derivation>
+    ensures { tree_of result ≡ placed (second_place zero) (tree_of tree.entry) }
 {
     match tree {
-        Some(own) => at_slot(&own.parts, left_slot(zero, own.rule)),
+        Some(own) => at_slot(&own.parts, second_slot(own.rule.takes(ANY, zero))),
         None => None,
     }
 }
 
-/// The tree of the right operand, where it is a 0 or not.
+/// The tree of the third part.
 #[tactic(auto, using(crate::proofs::Seen::placed_seen))]
-pub fn right(tree: Option<&Derivation>, zero: bool) -> Option<&Derivation>
-    ensures { tree_of result ≡ placed (right_of zero) (tree_of tree.entry) }
+pub fn third_part(tree: Option<&Derivation>) -> Option<&Derivation>
+    ensures { tree_of result ≡ placed third_place (tree_of tree.entry) }
 {
     match tree {
-        Some(own) => at_slot(&own.parts, right_slot(zero, own.rule)),
+        Some(own) => at_slot(&own.parts, third_slot(own.rule.takes(ANY, false))),
         None => None,
     }
-}
-
-/// The tree of what `->` gives where the condition is true.
-#[tactic(auto, using(crate::proofs::Seen::placed_seen))]
-pub fn this(tree: Option<&Derivation>) -> Option<&Derivation>
-    ensures { tree_of result ≡ placed this_of (tree_of tree.entry) }
-{
-    match tree {
-        Some(own) => at_slot(&own.parts, this_slot(own.rule)),
-        None => None,
-    }
-}
-
-/// The tree of what `->` gives where the condition is false.
-#[tactic(auto, using(crate::proofs::Seen::placed_seen))]
-pub fn that(tree: Option<&Derivation>) -> Option<&Derivation>
-    ensures { tree_of result ≡ placed that_of (tree_of tree.entry) }
-{
-    match tree {
-        Some(own) => at_slot(&own.parts, that_slot(own.rule)),
-        None => None,
-    }
-}
-
-/// The tree of the value of an assignment.
-#[tactic(auto, using(crate::proofs::Seen::placed_seen))]
-pub fn value(tree: &Derivation) -> Option<&Derivation>
-    ensures { tree_of result ≡ placed value_of (Some (derivation tree.now)) }
-{
-    at_slot(&tree.parts, value_slot(tree.rule))
-}
-
-/// The tree of the address of an assignment.
-#[tactic(auto, using(crate::proofs::Seen::placed_seen))]
-pub fn address(tree: &Derivation) -> Option<&Derivation>
-    ensures { tree_of result ≡ placed address_of (Some (derivation tree.now)) }
-{
-    at_slot(&tree.parts, address_slot(tree.rule))
 }

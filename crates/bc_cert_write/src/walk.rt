@@ -1,6 +1,6 @@
 //! The nodes of a root in order, each with the rules that a tree has there.
 
-ghost use Rattle.std.specs.Prelude.{◌≡◌, ◌≤◌, ◌+◌, ◌*◌, ◌^◌, ◌++◌, OnOk, IfOk, drop};
+ghost use Rattle.std.specs.Prelude.{◌≡◌, ◌≤◌, ◌+◌, ◌*◌, ◌^◌, ◌++◌, OnOk, IfOk, drop, false};
 ghost use Rattle.bc_core.specs.Tree.{count};
 ghost use Rattle.bc_core.specs.Level.{side_level as side_level_of};
 ghost use Rattle.bc_core.specs.View.{exp, args, root as root_of};
@@ -8,11 +8,11 @@ ghost use Rattle.bc_core.specs.WellFormed.{nodes as nodes_in, nodes_of_args};
 ghost use Rattle.bc_select_defs.specs.Nodes.{root_nodes};
 ghost use Rattle.bc_rules_defs.specs.Free.{is_zero as is_zero_of};
 ghost use Rattle.bc_rules_defs.specs.View.{derivation, derivations};
-ghost use Rattle.bc_cert_write.specs.Walked.{tree_of, first, parts as parts_of, mark, placed, only_slot, left_slot, right_slot, this_slot, that_slot, value_slot, address_slot, behind_arguments, below_with, all_with, whole_with, root_with};
+ghost use Rattle.bc_cert_write.specs.Walked.{tree_of, first, parts as parts_of, mark, placed, first_place, second_place, third_place, behind_arguments, below_with, all_with, whole_with, root_with};
 
 use crate::form::without_parts;
 use crate::mark::Mark;
-use crate::trees::{address, at, left, only, own, parts, right, rules_at, that, this, value};
+use crate::trees::{at, first_part, own, parts, rules_at, second_part, third_part};
 use bc_core::{CoreExp, Root, operand};
 use bc_rules_defs::{Derivation, is_zero};
 use bc_word::Memory;
@@ -29,13 +29,13 @@ fn pair(
 ) -> Result<(), Memory>
     requires { level + 2 * (1 + nodes_in (exp a.now) + nodes_in (exp b.now)) ≤ 2 ^ 40 }
     ensures { OnOk result (marks.new.items ≡ marks.old.items
-        ++ (whole_with mark (exp a.now) (level + 1) (placed (left_slot (is_zero_of (exp b.now))) (tree_of own.entry))
-        ++ whole_with mark (exp b.now) (level + 1) (placed (right_slot (is_zero_of (exp b.now))) (tree_of own.entry)))) }
+        ++ (whole_with mark (exp a.now) (level + 1) (placed (first_place (is_zero_of (exp b.now))) (tree_of own.entry))
+        ++ whole_with mark (exp b.now) (level + 1) (placed (second_place (is_zero_of (exp b.now))) (tree_of own.entry)))) }
 {
     let zero = is_zero(b);
     let other = own;
-    lay(a, level + 1, left(own, zero), marks)?;
-    lay(b, level + 1, right(other, zero), marks)
+    lay(a, level + 1, first_part(own, zero), marks)?;
+    lay(b, level + 1, second_part(other, zero), marks)
 }
 
 /// The condition of `->` and its two values.
@@ -50,15 +50,15 @@ fn triple(
 ) -> Result<(), Memory>
     requires { level + 2 * (1 + nodes_in (exp c.now) + nodes_in (exp x.now) + nodes_in (exp y.now)) ≤ 2 ^ 40 }
     ensures { OnOk result (marks.new.items ≡ marks.old.items
-        ++ ((whole_with mark (exp c.now) level (placed only_slot (tree_of own.entry))
-        ++ whole_with mark (exp x.now) level (placed this_slot (tree_of own.entry)))
-        ++ whole_with mark (exp y.now) level (placed that_slot (tree_of own.entry)))) }
+        ++ ((whole_with mark (exp c.now) level (placed (first_place false) (tree_of own.entry))
+        ++ whole_with mark (exp x.now) level (placed (second_place false) (tree_of own.entry)))
+        ++ whole_with mark (exp y.now) level (placed third_place (tree_of own.entry)))) }
 {
     let second = own;
     let third = own;
-    lay(c, level, only(own), marks)?;
-    lay(x, level, this(second), marks)?;
-    lay(y, level, that(third), marks)
+    lay(c, level, first_part(own, false), marks)?;
+    lay(x, level, second_part(second, false), marks)?;
+    lay(y, level, third_part(third), marks)
 }
 
 /// The arguments of a call, with the first of these trees.
@@ -116,9 +116,9 @@ fn below(
         | CoreExp::Glob(_)
         | CoreExp::Place(_)
         | CoreExp::Valof(_) => Ok(()),
-        CoreExp::Load(part) => lay(part, level, only(own), marks),
-        CoreExp::Neg(part) => lay(part, level, only(own), marks),
-        CoreExp::Not(part) => lay(part, level, only(own), marks),
+        CoreExp::Load(part) => lay(part, level, first_part(own, false), marks),
+        CoreExp::Neg(part) => lay(part, level, first_part(own, false), marks),
+        CoreExp::Not(part) => lay(part, level, first_part(own, false), marks),
         CoreExp::Bin(_, a, b) => pair(a, b, level, own, marks),
         CoreExp::Cond(c, x, y) => triple(c, x, y, level, own, marks),
         CoreExp::Call(arguments, routine) => call(arguments, routine, level, parts(own), marks),
@@ -170,11 +170,11 @@ fn sides(
 ) -> Result<(), Memory>
     requires { level + 2 * (nodes_in (exp value_side.now) + nodes_in (exp address_side.now)) ≤ 2 ^ 40 }
     ensures { OnOk result (marks.new.items ≡ marks.old.items
-        ++ (whole_with mark (exp value_side.now) level (placed value_slot (Some (derivation tree.now)))
-        ++ whole_with mark (exp address_side.now) level (placed address_slot (Some (derivation tree.now))))) }
+        ++ (whole_with mark (exp value_side.now) level (placed (first_place false) (Some (derivation tree.now)))
+        ++ whole_with mark (exp address_side.now) level (placed (second_place false) (Some (derivation tree.now))))) }
 {
-    lay(value_side, level, value(tree), marks)?;
-    lay(address_side, level, address(tree), marks)
+    lay(value_side, level, first_part(Some(tree), false), marks)?;
+    lay(address_side, level, second_part(Some(tree), false), marks)
 }
 
 /// The nodes of a root, with the rules of its tree. There is room for so many from the start.

@@ -1,8 +1,8 @@
 //! The rules of a derivation at the nodes of its root.
 
-use crate::parts::{ANY, At, PUSH, count, parts, uses_of};
+use crate::parts::{ANY, At, PUSH, count, drops, parts, uses_of};
 use bc_core::{Root, operand};
-use bc_rules_defs::{Aim, Derivation, Mode, Rule};
+use bc_rules_defs::{Aim, Derivation, Mode, Rule, Takes};
 use bc_word::Memory;
 use std::alloc::Global;
 
@@ -123,6 +123,21 @@ fn wait<'e>(
     Ok(())
 }
 
+/// Puts the derivations of the parts that are taken on the stack.
+fn wait_taken<'e>(
+    alloc: Global,
+    takes: Takes,
+    parts: &[At<'e>],
+    given: &'e [Derivation],
+    waiting: &mut Vec<Step<'e>>,
+) -> Result<(), Memory> {
+    let uses = uses_of(alloc, takes, parts.len())?;
+    for (index, used) in uses.iter().enumerate() {
+        wait(waiting, parts.get(used.part), used.aim, given.get(index))?;
+    }
+    Ok(())
+}
+
 /// Puts the derivations below a step on the stack.
 fn below<'e>(alloc: Global, step: Step<'e>, waiting: &mut Vec<Step<'e>>) -> Result<(), Memory> {
     let given = step.derivation.parts.as_slice();
@@ -131,12 +146,8 @@ fn below<'e>(alloc: Global, step: Step<'e>, waiting: &mut Vec<Step<'e>>) -> Resu
         Rule::J6 => wait(waiting, Some(&step.at), ANY, given.first()),
         rule => {
             let parts = parts(alloc, step.at)?;
-            let uses = uses_of(alloc, rule, step.aim, step.at.e)?;
-            for (index, used) in uses.iter().enumerate() {
-                let part = parts.as_slice().get(used.part);
-                wait(waiting, part, used.aim, given.get(index))?;
-            }
-            Ok(())
+            let takes = rule.takes(step.aim, drops(step.at.e));
+            wait_taken(alloc, takes, parts.as_slice(), given, waiting)
         }
     }
 }
@@ -151,22 +162,15 @@ fn first_steps<'e>(
     let tops = tops(alloc, root)?;
     let given = derivation.parts.as_slice();
     let value = tops.first();
-    let address = tops.get(1);
     match root {
         Root::Value { .. } => wait(&mut waiting, value, ANY, Some(derivation))?,
         Root::Test { sense, .. } => {
             wait(&mut waiting, value, Aim::Jumps(*sense), Some(derivation))?
         }
-        Root::Assign { .. } => match derivation.rule {
-            Rule::A2 => {
-                wait(&mut waiting, address, ANY, given.first())?;
-                wait(&mut waiting, value, ANY, given.get(1))?;
-            }
-            _ => {
-                wait(&mut waiting, value, ANY, given.first())?;
-                wait(&mut waiting, address, ANY, given.get(1))?;
-            }
-        },
+        Root::Assign { .. } => {
+            let takes = derivation.rule.takes(ANY, false);
+            wait_taken(alloc, takes, tops.as_slice(), given, &mut waiting)?
+        }
     }
     Ok(waiting)
 }

@@ -1,7 +1,7 @@
-//! The parts of an expression, and which of them a rule derives.
+//! The parts of an expression, and which of them are derived.
 
 use bc_core::CoreExp;
-use bc_rules_defs::{Aim, Mode, Rule, is_zero};
+use bc_rules_defs::{Aim, Mode, Takes, is_zero};
 use bc_word::Memory;
 use std::alloc::Global;
 
@@ -114,7 +114,7 @@ pub fn parts<'e>(alloc: Global, of: At<'e>) -> Result<Vec<At<'e>>, Memory> {
     Ok(found)
 }
 
-/// That a rule derives a part, for an aim.
+/// That a part is derived, for an aim.
 #[derive(Clone, Copy)]
 pub struct Use {
     pub part: usize,
@@ -131,57 +131,33 @@ fn uses(alloc: Global, list: &[(usize, Aim)]) -> Result<Vec<Use>, Memory> {
     Ok(found)
 }
 
-/// The part of an operator beside a 0; the second 0 is dropped first.
-fn beside_zero(e: &CoreExp) -> usize {
+/// Whether the second operand of an operator is a 0.
+pub fn drops(e: &CoreExp) -> bool {
     match e {
-        CoreExp::Bin(_, _, right) => usize::from(!is_zero(right)),
-        _ => 0,
+        CoreExp::Bin(_, _, right) => is_zero(right),
+        _ => false,
     }
 }
 
-/// The parts that a rule of values derives.
-fn value_uses(alloc: Global, rule: Rule, aim: Aim, e: &CoreExp) -> Result<Vec<Use>, Memory> {
-    match rule {
-        Rule::V2 | Rule::V3 | Rule::V4 | Rule::V6 | Rule::V9 | Rule::V10 => uses(
-            alloc,
-            &[(0, aim)],
-        ),
-        Rule::V7 | Rule::V11 => uses(alloc, &[(1, aim)]),
-        Rule::V8 => uses(alloc, &[(beside_zero(e), aim)]),
-        Rule::V12 => uses(alloc, &[(0, ANY), (1, PUSH)]),
-        Rule::V13 | Rule::V14 => uses(alloc, &[(1, ANY), (0, PUSH)]),
-        Rule::V15 | Rule::V17 | Rule::V18 | Rule::V19 => uses(alloc, &[(0, ANY), (1, ANY)]),
-        Rule::V16 => uses(alloc, &[(1, ANY), (0, ANY)]),
-        Rule::V20 => uses(alloc, &[(0, Aim::Jumps(false)), (1, ANY), (2, ANY)]),
-        Rule::V21 => uses(alloc, &[(0, Aim::Jumps(true)), (2, ANY), (1, ANY)]),
-        _ => Ok(Vec::new(alloc)),
-    }
-}
-
-/// The parts that a call derives, all as values.
-fn call_uses(alloc: Global, e: &CoreExp) -> Result<Vec<Use>, Memory> {
+/// All of so many parts, as values.
+fn all_used(alloc: Global, parts: usize) -> Result<Vec<Use>, Memory> {
     let mut found = Vec::new(alloc);
-    if let CoreExp::Call(arguments, _) = e {
-        for part in 0..=arguments.len() {
-            found.push(Use { part, aim: ANY })?;
-        }
+    for part in 0..parts {
+        found.push(Use { part, aim: ANY })?;
     }
     Ok(found)
 }
 
-/// The parts that a rule derives at an expression, for which aims, in the order of its code. V0 and J6, which derive the expression
-/// itself, have none. Memory is answered where a growth was refused.
-pub fn uses_of(alloc: Global, rule: Rule, aim: Aim, e: &CoreExp) -> Result<Vec<Use>, Memory> {
-    let yes = Aim::Jumps(true);
-    let no = Aim::Jumps(false);
-    match (rule, aim) {
-        (Rule::V22, _) => call_uses(alloc, e),
-        (Rule::J1, Aim::Jumps(sense)) => uses(alloc, &[(0, Aim::Jumps(!sense))]),
-        (Rule::J2, _) => uses(alloc, &[(0, no), (1, no)]),
-        (Rule::J3, _) => uses(alloc, &[(0, no), (1, yes)]),
-        (Rule::J4, _) => uses(alloc, &[(0, yes), (1, yes)]),
-        (Rule::J5, _) => uses(alloc, &[(0, yes), (1, no)]),
-        (Rule::J8 | Rule::J9, _) => uses(alloc, &[(beside_zero(e), ANY)]),
-        _ => value_uses(alloc, rule, aim, e),
+/// Which of so many parts are taken, for which aims, in the order of the code. Memory is answered where a growth was refused.
+pub fn uses_of(alloc: Global, takes: Takes, parts: usize) -> Result<Vec<Use>, Memory> {
+    match takes {
+        Takes::Nothing => uses(alloc, &[]),
+        Takes::First(aim) => uses(alloc, &[(0, aim)]),
+        Takes::Second(aim) => uses(alloc, &[(1, aim)]),
+        Takes::InOrder(first, second) => uses(alloc, &[(0, first), (1, second)]),
+        Takes::Turned(first, second) => uses(alloc, &[(1, second), (0, first)]),
+        Takes::Choice(false) => uses(alloc, &[(0, Aim::Jumps(false)), (1, ANY), (2, ANY)]),
+        Takes::Choice(true) => uses(alloc, &[(0, Aim::Jumps(true)), (2, ANY), (1, ANY)]),
+        Takes::Call => all_used(alloc, parts),
     }
 }
