@@ -3,14 +3,15 @@
 //! What puts a command together is a function apart that is never inlined, so that what it needs does not lie on the stack
 //! while the blocks within are translated.
 ghost use Rattle.std.specs.Prelude.{◌≡◌, ◌+◌, ◌++◌, ◌∷◌, [], map, IfOk};
-ghost use Rattle.bc_core.specs.Commands.{If, Test, While, Repeat, RepeatWhile, For, SwitchOn};
+ghost use Rattle.bc_core.specs.Commands.{Call, Goto, If, Nested, ResultIs, Test, While, Repeat, RepeatWhile, For, SwitchOn};
+ghost use Rattle.bc_core.specs.Tree.{Call as call_of};
 ghost use Rattle.bc_core.specs.View.{variable, declarations as declarations_of, command as command_of, items as items_of, block_of as core_block_of};
 ghost use Rattle.bc_parse_tree.specs.View.{exp_view, exps_view, command_view, block_view, declaration_view, declarations_view, definition_view, definitions_view, entries_view, label_view, labels_view, item_view, items_view};
 ghost use Rattle.bc_scope_defs.specs.Source.{label_number as label_number_of};
 ghost use Rattle.bc_scope_defs.specs.Scoping.{in_entries, in_declaration, in_declarations, in_list, in_for, cells_in, level_behind};
-ghost use Rattle.bc_scope_defs.specs.Scope.{behind_labels};
+ghost use Rattle.bc_scope_defs.specs.Scope.{behind_labels, meant_by};
 ghost use Rattle.bc_scope_defs.specs.Numbering.{labels_of, labels_in as labels_in_of, behind_entries, behind, behind_all, behind_block, behind_declarations, behind_definitions, behind_declaration, behind_definition as behind_definition_of, behind_items, behind_item, behind_command};
-ghost use Rattle.bc_scope_defs.specs.Translation.{forms, forms_of_all, initials as initials_of, core_declaration, core_declarations, core_block, core_items, core_command, block_of as block_of_one};
+ghost use Rattle.bc_scope_defs.specs.Translation.{forms, forms_of_all, initials as initials_of, core_declaration, core_declarations, core_block, core_items, core_command, core_arguments, block_of as block_of_one};
 ghost use Rattle.bc_core.specs.Level.{level_in_for};
 ghost use Rattle.bc_scope_names.specs.View.{meant_view, scope_view, Declares};
 ghost use Rattle.bc_scope_translate.specs.Next.{next_numbers};
@@ -552,6 +553,58 @@ fn counted_loop<'t, 's>(
     Ok(counting(start, limit, by, body))
 }
 
+/// A call, whose value is dropped.
+#[inline(never)]
+fn called<'t, 's>(
+    scope: &Scope<'s>,
+    at: &mut NextNumbers<'t, 's>,
+    routine: &'t Exp<'s>,
+    values: &'t [Exp<'s>],
+) -> Result<CoreCommand, Memory>
+    ensures { Translates command_of result (Call
+        (call_of (core_arguments (scope_view scope.now) (behind (next_numbers at.old) (exp_view routine.now)) (exps_view values.now))
+        (forms (scope_view scope.now) (next_numbers at.old) (exp_view routine.now)).content)) at.new
+        (behind_all (behind (next_numbers at.old) (exp_view routine.now)) (exps_view values.now)) }
+{
+    Ok(CoreCommand::Call(call(scope, at, routine, values)?))
+}
+
+/// RESULTIS.
+#[inline(never)]
+fn given<'t, 's>(
+    scope: &Scope<'s>,
+    at: &mut NextNumbers<'t, 's>,
+    tree: &'t Exp<'s>,
+) -> Result<CoreCommand, Memory>
+    ensures { Translates command_of result (ResultIs (forms (scope_view scope.now) (next_numbers at.old) (exp_view tree.now)).content) at.new
+        (behind (next_numbers at.old) (exp_view tree.now)) }
+{
+    Ok(CoreCommand::ResultIs(value(scope, at, tree)?))
+}
+
+/// GOTO.
+fn jump(scope: &Scope<'_>, name: &[u8]) -> Result<CoreCommand, Memory>
+    ensures { IfOk result (λ c. command_of c ≡ Goto (label_number_of (meant_by (scope_view scope.now) name.now))) }
+{
+    let number = short(label_number(scope.meant_by(name)))?;
+    Ok(CoreCommand::Goto(number))
+}
+
+/// A block as a command.
+#[inline(never)]
+#[cycle(blocks)]
+fn inner_block<'t, 's>(
+    scope: &mut Scope<'s>,
+    at: &mut NextNumbers<'t, 's>,
+    tree: &'t Block<'s>,
+    level: u64,
+) -> Result<CoreCommand, Memory>
+    ensures { TranslatesWithin command_of result (Nested (core_block (scope_view scope.old) (next_numbers at.old) (block_view tree.now) level)) at.new
+        (behind_block (next_numbers at.old) (block_view tree.now)) scope.old scope.new }
+{
+    Ok(nested(block(scope, at, tree, level)?))
+}
+
 /// A command.
 #[cycle(blocks)]
 fn command<'t, 's>(
@@ -565,20 +618,15 @@ fn command<'t, 's>(
 {
     match tree {
         Command::Assign(places, values) => assigned(scope, at, places, values),
-        Command::Call(routine, values) => {
-            Ok(CoreCommand::Call(call(scope, at, routine, values)?))
-        }
-        Command::Block(tree) => Ok(nested(block(scope, at, tree, level)?)),
+        Command::Call(routine, values) => called(scope, at, routine, values),
+        Command::Block(tree) => inner_block(scope, at, tree, level),
         Command::Break => Ok(CoreCommand::Break),
         Command::Loop => Ok(CoreCommand::Loop),
         Command::EndCase => Ok(CoreCommand::EndCase),
         Command::Return => Ok(CoreCommand::Return),
         Command::Finish => Ok(CoreCommand::Finish),
-        Command::ResultIs(result) => Ok(CoreCommand::ResultIs(value(scope, at, result)?)),
-        Command::Goto(name) => {
-            let number = short(label_number(scope.meant_by(name)))?;
-            Ok(CoreCommand::Goto(number))
-        }
+        Command::ResultIs(result) => given(scope, at, result),
+        Command::Goto(name) => jump(scope, name),
         Command::Repeat(tree) => endless_loop(scope, at, tree, level),
         Command::RepeatWhile(tree, test) => tested_loop(scope, at, tree, true, test, level),
         Command::RepeatUntil(tree, test) => tested_loop(scope, at, tree, false, test, level),

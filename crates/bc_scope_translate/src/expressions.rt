@@ -1,10 +1,11 @@
 //! The translation of expressions. What stands in a VALOF is passed by: it is found apart.
 ghost use Rattle.std.specs.Prelude.{◌≡◌, IfOk};
-ghost use Rattle.bc_core.specs.Tree.{Call};
+ghost use Rattle.bc_core.specs.Tree.{Call, Place, Valof};
 ghost use Rattle.bc_core.specs.View.{exp, args};
-ghost use Rattle.bc_parse_tree.specs.View.{exp_view, exps_view};
-ghost use Rattle.bc_scope_defs.specs.Numbering.{behind, behind_all};
-ghost use Rattle.bc_scope_defs.specs.Translation.{forms, core_arguments};
+ghost use Rattle.bc_parse_tree.specs.View.{exp_view, exps_view, block_view};
+ghost use Rattle.bc_scope_defs.specs.Numbering.{behind, behind_all, behind_block};
+ghost use Rattle.bc_scope_defs.specs.Scope.{behind_place, behind_valof};
+ghost use Rattle.bc_scope_defs.specs.Translation.{forms, core_arguments, plain};
 ghost use Rattle.bc_scope_names.specs.View.{scope_view};
 ghost use Rattle.bc_scope_translate.specs.Next.{next_numbers};
 ghost use Rattle.bc_scope_translate.specs.Seen.{Translates, formed_view};
@@ -12,7 +13,7 @@ ghost use Rattle.bc_scope_translate.specs.Seen.{Translates, formed_view};
 use crate::forms::{Formed, of_dyadic, of_monadic, of_name};
 use crate::numbering::NextNumbers;
 use bc_core::CoreExp;
-use bc_parse_tree::Exp;
+use bc_parse_tree::{Block, Exp};
 use bc_scope_names::{Scope, operator, short};
 use bc_word::{Memory, Word};
 
@@ -21,6 +22,25 @@ fn called(values: Vec<CoreExp>, routine: Box<CoreExp>) -> CoreExp
     ensures { exp result ≡ Call (args values.items) (exp routine.value) }
 {
     CoreExp::Call(values, routine)
+}
+
+/// A string or a TABLE, which is a place.
+fn place(at: &mut NextNumbers<'_, '_>) -> Result<Formed, Memory>
+    ensures { Translates formed_view result (plain (Place (next_numbers at.old).place)) at.new (behind_place (next_numbers at.old)) }
+{
+    let numbers = at.count()?;
+    *at = NextNumbers::new(numbers.behind_place()?);
+    Ok(Formed::Plain(CoreExp::Place(short(numbers.place)?)))
+}
+
+/// A VALOF, whose body is passed by.
+fn valof<'t, 's>(at: &mut NextNumbers<'t, 's>, body: &'t Block<'s>) -> Result<Formed, Memory>
+    ensures { Translates formed_view result (plain (Valof (next_numbers at.old).valof)) at.new
+        (behind_block (behind_valof (next_numbers at.old)) (block_view body.now)) }
+{
+    let numbers = at.count()?;
+    *at = NextNumbers::behind_body(numbers.behind_valof()?, body);
+    Ok(Formed::Plain(CoreExp::Valof(short(numbers.valof)?)))
 }
 
 /// An expression at these numbers, which are then those behind it.
@@ -38,24 +58,16 @@ pub fn expression<'t, 's>(
         Exp::Number(number) | Exp::Character(number) => Ok(Formed::Plain(CoreExp::Num(*number))),
         Exp::True => Ok(Formed::Plain(CoreExp::Num(Word::new(65535)))),
         Exp::False => Ok(Formed::Plain(CoreExp::Num(Word::new(0)))),
-        Exp::String(_) | Exp::Table(_) => {
-            let numbers = at.count()?;
-            *at = NextNumbers::new(numbers.behind_place()?);
-            Ok(Formed::Plain(CoreExp::Place(short(numbers.place)?)))
-        }
-        Exp::Valof(body) => {
-            let numbers = at.count()?;
-            *at = NextNumbers::behind_body(numbers.behind_valof()?, body);
-            Ok(Formed::Plain(CoreExp::Valof(short(numbers.valof)?)))
-        }
+        Exp::String(_) | Exp::Table(_) => place(at),
+        Exp::Valof(body) => valof(at, body),
         Exp::Monadic(sign, operand) => {
             let operand = expression(scope, at, operand)?;
             of_monadic(scope.alloc(), *sign, operand)
         }
         Exp::Dyadic(sign, left, right) => {
-            let left = value(scope, at, left)?;
-            let right = value(scope, at, right)?;
-            of_dyadic(scope.alloc(), operator(*sign), left, right)
+            let left = boxed(scope, at, left)?;
+            let right = boxed(scope, at, right)?;
+            Ok(of_dyadic(operator(*sign), left, right))
         }
         Exp::Condition { test, this, that } => {
             let test = boxed(scope, at, test)?;

@@ -106,19 +106,12 @@ pub fn of_monadic(alloc: Global, sign: Monadic, operand: Formed) -> Result<Forme
 }
 
 /// Two operands, without an operator for `l ! r`.
-pub fn of_dyadic(
-    alloc: Global,
-    op: Option<Op>,
-    left: CoreExp,
-    right: CoreExp,
-) -> Result<Formed, Memory>
-    ensures { IfOk result (λ f. formed_view f ≡ form_of_dyadic op (exp left) (exp right)) }
+pub fn of_dyadic(op: Option<Op>, left: Box<CoreExp>, right: Box<CoreExp>) -> Formed
+    ensures { formed_view result ≡ form_of_dyadic op (exp left.value) (exp right.value) }
 {
-    let left = Box::new(alloc, left)?;
-    let right = Box::new(alloc, right)?;
     match op {
-        None => Ok(Formed::Cell(CoreExp::Bin(Op::Add, left, right))),
-        Some(op) => Ok(Formed::Plain(CoreExp::Bin(op, left, right))),
+        None => Formed::Cell(CoreExp::Bin(Op::Add, left, right)),
+        Some(op) => Formed::Plain(CoreExp::Bin(op, left, right)),
     }
 }
 
