@@ -6,7 +6,7 @@ use Rattle.bc_rules_defs.specs.Rules.{RootDerives, root_shape}
 use Rattle.bc_rules_defs.specs.Code.{root_code, root_cost}
 use Rattle.bc_rules_defs.specs.Entry.{Entry}
 use Rattle.bc_select_defs.specs.Least.{RootIsLeast, RootHasLeastParts}
-use Rattle.bc_select_defs.specs.LeastOf.{least_derivation}
+use Rattle.bc_select_defs.specs.LeastDerivation.{least_derivation}
 use Rattle.bc_cert_defs.specs.Verdict.{Judged}
 use Rattle.bc_cert_defs.specs.Against.{StandsIn, Fit}
 use Rattle.bc_cert_laws.specs.Written.{with_bodies}

@@ -6,7 +6,7 @@ use Rattle.bc_core.specs.Tree.{Root}
 use Rattle.bc_scope_defs.specs.Translation.{core_of}
 use Rattle.bc_rules_defs.specs.declared.rule.Table.TheVariants.{Two}
 use Rattle.bc_rules_defs.specs.Code.{root_cost}
-use Rattle.bc_select_defs.specs.LeastOf.{least_derivation}
+use Rattle.bc_select_defs.specs.LeastDerivation.{least_derivation}
 use Rattle.bc_gen_roots.specs.Roots.{in_code, roots_of}
 use Rattle.bc_gen_roots.specs.Laws.{fixed_words}
 

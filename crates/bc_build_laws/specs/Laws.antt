@@ -4,7 +4,7 @@ use Rattle.std.specs.List.{AllByRecursion}
 use Rattle.bc_core.specs.Tree.{Exp, Call, Root, Value, Test, Assign}
 use Rattle.bc_core.specs.Commands.{Core}
 use Rattle.bc_select_defs.specs.Nodes.{root_in_order, root_nodes}
-use Rattle.bc_select_defs.specs.LeastOf.{least_derivation}
+use Rattle.bc_select_defs.specs.LeastDerivation.{least_derivation}
 use Rattle.bc_parse_tree.specs.Tree.{Declarations}
 use Rattle.bc_parse_tree.specs.Height.{declarations_height}
 use Rattle.bc_parse_tree.specs.Size.{declarations_size}

@@ -13,7 +13,7 @@ use Rattle.bc_rules_defs.specs.declared.piece.Piece.{Piece}
 use Rattle.bc_rules_defs.specs.declared.piece.Piece.TheVariants.{Item, Body}
 use Rattle.bc_rules_defs.specs.Rules.{RootDerives, value, test, a1, a2, a3}
 use Rattle.bc_rules_defs.specs.Names.{rule_letter, rule_number}
-use Rattle.bc_select_defs.specs.LeastOf.{least_words_of}
+use Rattle.bc_select_defs.specs.LeastDerivation.{least_words_of}
 use Rattle.bc_text.specs.Printed.{printed}
 use Rattle.bc_cert_write.specs.Shown.{Shown}
 

@@ -2,7 +2,6 @@ use crate::complaint::Fault;
 use crate::notes::Notes;
 use crate::operands::{is_plain, is_too_long, take_out};
 use bc_convert_tokens::Source;
-use bc_word::Memory;
 
 /// What was read of a chain of relations: where it begins, the indices around its last operand, and what is to be put behind it.
 #[derive(Clone, Copy)]
@@ -29,70 +28,59 @@ pub enum ChainState {
 impl Chain {
     /// Joins a relation whose operator stands at the index behind the last operand. `is_inner` says whether the chain is an
     /// operand of an operator that binds more tightly than `&`.
-    pub fn join(
-        self,
-        source: Source<'_>,
-        notes: &mut Notes,
-        is_inner: bool,
-    ) -> Result<ChainState, Memory> {
+    pub fn join(self, source: Source<'_>, notes: &mut Notes, is_inner: bool) -> ChainState {
         if is_plain(source, self.from, self.to) {
             self.join_plain(source, notes, is_inner)
         } else if self.state == ChainState::Single && is_plain(source, self.at, self.from) {
             self.keep(source, notes)
         } else {
-            notes.complain(source, self.at, Fault::CallInChain)?;
-            Ok(self.state)
+            notes.complain(source, self.at, Fault::CallInChain);
+            self.state
         }
     }
 
     /// Joins a relation behind an operand that may be worked out twice.
-    fn join_plain(
-        self,
-        source: Source<'_>,
-        notes: &mut Notes,
-        is_inner: bool,
-    ) -> Result<ChainState, Memory> {
-        let middle = notes.rendered(source, self.from, self.to)?;
+    fn join_plain(self, source: Source<'_>, notes: &mut Notes, is_inner: bool) -> ChainState {
+        let middle = notes.rendered(source, self.from, self.to);
         if is_too_long(middle.as_slice()) {
-            notes.complain(source, self.from, Fault::TooLongToRepeat)?;
-            return Ok(self.state);
+            notes.complain(source, self.from, Fault::TooLongToRepeat);
+            return self.state;
         }
-        self.link(source, notes, middle.as_slice())?;
+        self.link(source, notes, middle.as_slice());
         self.open(notes, is_inner)
     }
 
     /// Puts `&` and the middle in front of the operator.
-    fn link(self, source: Source<'_>, notes: &mut Notes, middle: &[u8]) -> Result<(), Memory> {
+    fn link(self, source: Source<'_>, notes: &mut Notes, middle: &[u8]) {
         let gap: &[u8] = if source.gap(self.to).is_empty() {
             b""
         } else {
             b" "
         };
-        notes.put_all_before(self.to, &[gap, middle, b")&("])?;
+        notes.put_all_before(self.to, &[gap, middle, b")&("]);
         notes.take_gap(source, self.to);
-        Ok(())
     }
 
     /// Puts the opening bracket in front of the chain, where none stands there yet.
-    fn open(self, notes: &mut Notes, is_inner: bool) -> Result<ChainState, Memory> {
+    fn open(self, notes: &mut Notes, is_inner: bool) -> ChainState {
         match (self.state, is_inner) {
             (ChainState::Single, false) => {
-                notes.put_before(self.at, b"(")?;
-                Ok(ChainState::Joined)
+                notes.put_before(self.at, b"(");
+                ChainState::Joined
             }
             (ChainState::Single, true) => {
-                notes.put_before(self.at, b"((")?;
-                Ok(ChainState::Wrapped)
+                notes.put_before(self.at, b"((");
+                ChainState::Wrapped
             }
-            (state, _) => Ok(state),
+            (state, _) => state,
         }
     }
 
     /// Keeps the value of the middle in a variable of a VALOF.
-    fn keep(self, source: Source<'_>, notes: &mut Notes) -> Result<ChainState, Memory> {
-        let middle = notes.rendered(source, self.from, self.to)?;
-        let name = notes.fresh_name(source)?;
-        self.put_name(source, notes, name.as_slice())?;
+    fn keep(self, source: Source<'_>, notes: &mut Notes) -> ChainState {
+        let middle = notes.rendered(source, self.from, self.to);
+        let name = notes.fresh_name(source);
+        self.put_name(source, notes, name.as_slice());
         let texts: [&[u8]; 5] = [
             b"; RESULTIS (",
             middle.as_slice(),
@@ -100,23 +88,23 @@ impl Chain {
             name.as_slice(),
             b"(VALOF $( LET ",
         ];
-        notes.put_all_before(self.at, &texts)?;
-        Ok(ChainState::Valof)
+        notes.put_all_before(self.at, &texts);
+        ChainState::Valof
     }
 
     /// Puts a variable in the place of the middle.
-    fn put_name(self, source: Source<'_>, notes: &mut Notes, name: &[u8]) -> Result<(), Memory> {
-        take_out(source, notes, self.from.saturating_add(1), self.to)?;
+    fn put_name(self, source: Source<'_>, notes: &mut Notes, name: &[u8]) {
+        take_out(source, notes, self.from.saturating_add(1), self.to);
         notes.clear(self.from);
-        notes.replace(self.from, name)?;
-        self.link(source, notes, name)
+        notes.replace(self.from, name);
+        self.link(source, notes, name);
     }
 }
 
 /// Puts behind a chain what its state wants.
-pub fn close_chain(notes: &mut Notes, end: usize, state: ChainState) -> Result<(), Memory> {
+pub fn close_chain(notes: &mut Notes, end: usize, state: ChainState) {
     match state {
-        ChainState::Single => Ok(()),
+        ChainState::Single => {}
         ChainState::Joined => notes.put_behind(end, b")"),
         ChainState::Wrapped => notes.put_behind(end, b"))"),
         ChainState::Valof => notes.put_behind(end, b") $))"),

@@ -1,7 +1,6 @@
 use crate::notes::Notes;
 use crate::operands::Operand;
 use bc_convert_tokens::Source;
-use bc_word::Memory;
 
 /// Makes of an assignment to a byte a call of PUTBYTE, whose closing bracket is still to come: `%` stands at the second
 /// index, and the sign that assigns at the third.
@@ -11,27 +10,21 @@ pub fn put_byte_of(
     at: usize,
     percent: usize,
     assign: usize,
-) -> Result<(), Memory> {
-    notes.put_before(at, b"PUTBYTE(")?;
-    notes.replace(percent, b",")?;
+) {
+    notes.put_before(at, b"PUTBYTE(");
+    notes.replace(percent, b",");
     notes.take_gap(source, assign);
-    notes.replace(assign, b",")
+    notes.replace(assign, b",");
 }
 
 /// Makes of an assignment with an operator one without: the operator stands behind the left side, the sign that assigns
 /// behind the operator, and the right side ends at the last index.
-pub fn put_compound(
-    source: Source<'_>,
-    notes: &mut Notes,
-    at: usize,
-    left: Operand,
-    end: usize,
-) -> Result<(), Memory> {
+pub fn put_compound(source: Source<'_>, notes: &mut Notes, at: usize, left: Operand, end: usize) {
     let operator = left.end;
     let behind = operator.saturating_add(2);
-    let sign = notes.rendered(source, operator, operator.saturating_add(1))?;
+    let sign = notes.rendered(source, operator, operator.saturating_add(1));
     match left.byte {
-        None => put_cell(source, notes, at, operator)?,
+        None => put_cell(source, notes, at, operator),
         Some(percent) => {
             put_byte(
                 source,
@@ -41,29 +34,23 @@ pub fn put_compound(
                     percent,
                     operator,
                 },
-            )?;
-            notes.put_behind(end, b")")?;
+            );
+            notes.put_behind(end, b")");
         }
     }
-    notes.put_all_behind(behind, &[b" ", sign.as_slice()])?;
+    notes.put_all_behind(behind, &[b" ", sign.as_slice()]);
     if source.gap(behind).is_empty() {
-        notes.put_behind(behind, b" ")?;
+        notes.put_behind(behind, b" ");
     }
-    Ok(())
 }
 
 /// Puts the sign that assigns in the place of an operator, and behind it the left side, which is no byte.
-fn put_cell(
-    source: Source<'_>,
-    notes: &mut Notes,
-    at: usize,
-    operator: usize,
-) -> Result<(), Memory> {
+fn put_cell(source: Source<'_>, notes: &mut Notes, at: usize, operator: usize) {
     let assign = operator.saturating_add(1);
-    let whole = notes.rendered(source, at, operator)?;
-    notes.replace(operator, b":=")?;
-    notes.replace(assign, b" ")?;
-    notes.put_behind(assign.saturating_add(1), whole.as_slice())
+    let whole = notes.rendered(source, at, operator);
+    notes.replace(operator, b":=");
+    notes.replace(assign, b" ");
+    notes.put_behind(assign.saturating_add(1), whole.as_slice());
 }
 
 /// A byte on the left side of an assignment with an operator: where it begins, and where its `%` and the operator stand.
@@ -75,14 +62,14 @@ struct Byte {
 }
 
 /// Makes of a byte the beginning of a call of PUTBYTE, and of the operator behind it a call of GETBYTE.
-fn put_byte(source: Source<'_>, notes: &mut Notes, byte: Byte) -> Result<(), Memory> {
+fn put_byte(source: Source<'_>, notes: &mut Notes, byte: Byte) {
     let assign = byte.operator.saturating_add(1);
-    let string = notes.rendered(source, byte.at, byte.percent)?;
-    let place = notes.rendered(source, byte.percent.saturating_add(1), byte.operator)?;
-    put_byte_of(source, notes, byte.at, byte.percent, byte.operator)?;
-    notes.replace(assign, b" GETBYTE(")?;
+    let string = notes.rendered(source, byte.at, byte.percent);
+    let place = notes.rendered(source, byte.percent.saturating_add(1), byte.operator);
+    put_byte_of(source, notes, byte.at, byte.percent, byte.operator);
+    notes.replace(assign, b" GETBYTE(");
     notes.put_all_behind(
         assign.saturating_add(1),
         &[string.as_slice(), b", ", place.as_slice(), b")"],
-    )
+    );
 }

@@ -76,7 +76,7 @@ pub enum Fault {
 }
 
 /// What is told of each fault, and what is to be done by hand, in their order.
-const WORDS: [(&str, &str); 35] = [
+static WORDS: [(&str, &str); 35] = [
     (
         "no jump leaves a routine here",
         "let each routine on the way back look at a flag, in place of LEVEL and LONGJUMP",

@@ -27,13 +27,12 @@ pub struct Conversion {
 }
 
 /// Labels that are used as values.
-fn find_label_values(source: Source<'_>, notes: &mut Notes) -> Result<(), Memory> {
+fn find_label_values(source: Source<'_>, notes: &mut Notes) {
     for index in 0..source.tokens.len() {
         if is_label_value(source, notes, index) {
-            notes.complain(source, index, Fault::LabelAsValue)?;
+            notes.complain(source, index, Fault::LabelAsValue);
         }
     }
-    Ok(())
 }
 
 /// Whether the token at an index is a label's name as a value.
@@ -55,62 +54,48 @@ fn has_label(source: Source<'_>, labels: &[usize], index: usize) -> bool {
 }
 
 /// Jumps past a declaration behind commands, to a label that now stands in the block of that.
-fn find_parted_jumps(source: Source<'_>, notes: &mut Notes) -> Result<(), Memory> {
+fn find_parted_jumps(source: Source<'_>, notes: &mut Notes) {
     for index in 0..source.tokens.len() {
         if notes.is_parted(source, index) {
-            notes.complain(source, index, Fault::LabelInBlock)?;
+            notes.complain(source, index, Fault::LabelInBlock);
         }
     }
-    Ok(())
 }
 
 /// Calls of WRITEF that may not do here what they are to do with the header that the source gets.
-fn tell_formats(
-    source: Source<'_>,
-    notes: &mut Notes,
-    options: Options<'_>,
-    header: Header,
-) -> Result<(), Memory> {
+fn tell_formats(source: Source<'_>, notes: &mut Notes, options: Options<'_>, header: Header) {
     if matches!(header, Header::Further) {
-        return Ok(());
+        return;
     }
     for index in 0..source.tokens.len() {
         let format = index.saturating_add(2);
         match (format_at(source, index, options.library), options.header) {
-            (Some(Format::Further), Some(_)) => notes.complain(source, index, Fault::FurtherCall)?,
-            (Some(Format::Hidden), None) => notes.complain(source, format, Fault::HiddenFormat)?,
+            (Some(Format::Further), Some(_)) => notes.complain(source, index, Fault::FurtherCall),
+            (Some(Format::Hidden), None) => notes.complain(source, format, Fault::HiddenFormat),
             _ => {}
         }
     }
-    Ok(())
 }
 
 /// The first token that wants EXTHDR, in a source that gets a header of its own.
-fn tell_want(source: Source<'_>, notes: &mut Notes, options: Options<'_>) -> Result<(), Memory> {
+fn tell_want(source: Source<'_>, notes: &mut Notes, options: Options<'_>) {
     for index in 0..source.tokens.len() {
         if let Some(Format::Further) = format_at(source, index, options.library) {
             return notes.complain(source, index, Fault::NoHeader);
         }
     }
-    Ok(())
 }
 
 /// What there is to tell of the library, where something becomes of the source.
-fn tell_library(
-    source: Source<'_>,
-    notes: &mut Notes,
-    options: Options<'_>,
-    program: Program,
-) -> Result<(), Memory> {
+fn tell_library(source: Source<'_>, notes: &mut Notes, options: Options<'_>, program: Program) {
     if !notes.has_changes() {
-        return Ok(());
+        return;
     }
     let header = options.header.unwrap_or(program.header());
-    tell_formats(source, notes, options, header)?;
-    if program.gets_library || gets_header_alone(source) {
-        return Ok(());
+    tell_formats(source, notes, options, header);
+    if !program.gets_library && !gets_header_alone(source) {
+        tell_want(source, notes, options);
     }
-    tell_want(source, notes, options)
 }
 
 /// What is found in a source whose tokens are told apart, which shows this dialect by itself.
@@ -126,7 +111,7 @@ fn found(
         &mut notes,
         options,
         shown_with(source, shown, options),
-    )?;
+    );
     Ok(notes)
 }
 
@@ -139,24 +124,19 @@ fn shown_with(source: Source<'_>, shown: Dialect, options: Options<'_>) -> Progr
 }
 
 /// Writes down what is found in a source of a program.
-fn find(
-    source: Source<'_>,
-    notes: &mut Notes,
-    options: Options<'_>,
-    program: Program,
-) -> Result<(), Memory> {
+fn find(source: Source<'_>, notes: &mut Notes, options: Options<'_>, program: Program) {
     let dialect = program.dialect;
     let header = options.header.unwrap_or(program.header());
-    respell(source, notes, dialect, options, header)?;
+    respell(source, notes, dialect, options, header);
     let walk = Walk {
         source,
         dialect,
         depth: MOST_DEPTH,
     };
-    items(walk, notes, 0, source.tokens.len())?;
-    find_label_values(source, notes)?;
-    find_parted_jumps(source, notes)?;
-    tell_library(source, notes, options, program)
+    items(walk, notes, 0, source.tokens.len());
+    find_label_values(source, notes);
+    find_parted_jumps(source, notes);
+    tell_library(source, notes, options, program);
 }
 
 /// What is found in a text: what becomes of its tokens, and what can't be converted.

@@ -3,7 +3,6 @@ use crate::names::is_first_free;
 use crate::notes::Notes;
 use crate::numbers::value_of_number;
 use bc_convert_tokens::{Kind, Source};
-use bc_word::Memory;
 
 /// The names of a definition: where the first one stands, how many they are, with a comma between each two, and where the
 /// sign behind them stands.
@@ -37,24 +36,17 @@ impl Values {
 }
 
 /// Gives each name of a definition a definition of its own: the commas between their values stand at these indices.
-pub fn put_values(
-    source: Source<'_>,
-    notes: &mut Notes,
-    values: Values,
-    commas: &[usize],
-) -> Result<(), Memory> {
+pub fn put_values(source: Source<'_>, notes: &mut Notes, values: Values, commas: &[usize]) {
     let mut name = values.first;
     for comma in commas {
         let sign = name.saturating_add(1);
         name = name.saturating_add(2);
-        let text = notes.rendered(source, name, name.saturating_add(1))?;
-        notes.take_out(source, sign)?;
-        notes.take_out(source, name)?;
-        notes.replace(*comma, b" AND ")?;
-        notes.put_behind(comma.saturating_add(1), text.as_slice())?;
-        notes.put_behind(comma.saturating_add(1), b" =")?;
+        let text = notes.rendered(source, name, name.saturating_add(1));
+        notes.take_out(source, sign);
+        notes.take_out(source, name);
+        notes.replace(*comma, b" AND ");
+        notes.put_all_behind(comma.saturating_add(1), &[text.as_slice(), b" ="]);
     }
-    Ok(())
 }
 
 /// What the next entry without a number counts on from.
@@ -110,12 +102,12 @@ pub fn put_entry(
     word: usize,
     index: usize,
     last: Option<Last>,
-) -> Result<Option<Last>, Memory> {
+) -> Option<Last> {
     let behind = index.saturating_add(1);
     let is_global = source.kind(word) == Kind::Global;
     if is_global && last.is_none() {
-        notes.complain(source, index, Fault::FirstGlobal)?;
-        return Ok(None);
+        notes.complain(source, index, Fault::FirstGlobal);
+        return None;
     }
     let next = if source.kind(word) == Kind::Static {
         Last::Number(0)
@@ -123,29 +115,19 @@ pub fn put_entry(
         counted_on(last)
     };
     let sign: &[u8] = if is_global { b":" } else { b"=" };
-    notes.put_behind(behind, sign)?;
-    put_next(source, notes, behind, next)?;
-    Ok(Some(next))
+    notes.put_behind(behind, sign);
+    put_next(source, notes, behind, next);
+    Some(next)
 }
 
 /// Puts a value that is counted on behind a token.
-fn put_next(
-    source: Source<'_>,
-    notes: &mut Notes,
-    behind: usize,
-    next: Last,
-) -> Result<(), Memory> {
-    let alloc = notes.alloc();
+fn put_next(source: Source<'_>, notes: &mut Notes, behind: usize, next: Last) {
     match next {
-        Last::Number(number) => {
-            let digits = format!(in alloc; "{number}")?;
-            notes.put_behind(behind, digits.as_bytes())
-        }
+        Last::Number(number) => notes.put_number_behind(behind, number),
         Last::Value { from, to, more } => {
-            let text = notes.rendered(source, from, to)?;
-            let digits = format!(in alloc; "+{more}")?;
-            notes.put_behind(behind, text.as_slice())?;
-            notes.put_behind(behind, digits.as_bytes())
+            let text = notes.rendered(source, from, to);
+            notes.put_all_behind(behind, &[text.as_slice(), b"+"]);
+            notes.put_number_behind(behind, more);
         }
     }
 }

@@ -3,7 +3,6 @@ use crate::notes::Notes;
 use crate::numbers::value_of_number;
 use crate::operands::{is_plain, is_too_long};
 use bc_convert_tokens::{Kind, Source};
-use bc_word::Memory;
 
 /// The index of the number or the character that ABS at an index stands in front of, a sign aside; `None` where it stands in front
 /// of something else.
@@ -23,18 +22,12 @@ fn magnitude(source: Source<'_>, at: usize) -> Option<usize> {
 }
 
 /// Writes down where ABS stands between two indices with no number behind it: there a constant is wanted.
-pub fn tell_absolutes(
-    source: Source<'_>,
-    notes: &mut Notes,
-    from: usize,
-    to: usize,
-) -> Result<(), Memory> {
+pub fn tell_absolutes(source: Source<'_>, notes: &mut Notes, from: usize, to: usize) {
     for index in from..to {
         if source.kind(index) == Kind::Abs && magnitude(source, index).is_none() {
-            notes.complain(source, index, Fault::ConstantAbs)?;
+            notes.complain(source, index, Fault::ConstantAbs);
         }
     }
-    Ok(())
 }
 
 /// Whether an index stands where a constant is wanted: behind VEC, or behind TABLE and any number of its elements. What stands
@@ -84,27 +77,16 @@ fn is_of_constant(kind: Kind) -> bool {
 }
 
 /// Takes out ABS at an index, and the sign, if one stands in front of the number at another one.
-fn drop_absolute(
-    source: Source<'_>,
-    notes: &mut Notes,
-    at: usize,
-    number: usize,
-) -> Result<(), Memory> {
+fn drop_absolute(source: Source<'_>, notes: &mut Notes, at: usize, number: usize) {
     for index in at..number {
-        notes.replace(index, b"")?;
+        notes.replace(index, b"");
         notes.take_gap(source, index.saturating_add(1));
     }
-    Ok(())
 }
 
 /// Writes down that ABS stands at an index, and its operand behind it up to another one: the operand is worked out twice where
 /// it holds no call, and else kept in a variable of a VALOF. Of a number its sign goes.
-pub fn put_absolute(
-    source: Source<'_>,
-    notes: &mut Notes,
-    at: usize,
-    end: usize,
-) -> Result<(), Memory> {
+pub fn put_absolute(source: Source<'_>, notes: &mut Notes, at: usize, end: usize) {
     let start = at.saturating_add(1);
     match magnitude(source, at) {
         Some(number) if number.saturating_add(1) == end => drop_absolute(source, notes, at, number),
@@ -115,49 +97,44 @@ pub fn put_absolute(
 }
 
 /// Keeps the operand of ABS in a variable of a VALOF.
-fn put_kept(source: Source<'_>, notes: &mut Notes, at: usize, end: usize) -> Result<(), Memory> {
+fn put_kept(source: Source<'_>, notes: &mut Notes, at: usize, end: usize) {
     let start = at.saturating_add(1);
-    let name = notes.fresh_name(source)?;
+    let name = notes.fresh_name(source);
     let name = name.as_slice();
-    notes.replace(at, b"(VALOF $( LET ")?;
-    notes.put_all_behind(start, &[name, b" ="])?;
-    notes.put_behind(end, b"; RESULTIS ")?;
-    put_choice(notes, end, name)?;
-    notes.put_all_behind(end, &[b" ", name, b" $))"])
+    notes.replace(at, b"(VALOF $( LET ");
+    notes.put_all_behind(start, &[name, b" ="]);
+    notes.put_behind(end, b"; RESULTIS ");
+    put_choice(notes, end, name);
+    notes.put_all_behind(end, &[b" ", name, b" $))"]);
 }
 
 /// Has the operand of ABS worked out twice, where its text isn't too long.
-fn put_twice(source: Source<'_>, notes: &mut Notes, at: usize, end: usize) -> Result<(), Memory> {
+fn put_twice(source: Source<'_>, notes: &mut Notes, at: usize, end: usize) {
     let start = at.saturating_add(1);
-    let bare = notes.rendered(source, start, end)?;
+    let bare = notes.rendered(source, start, end);
     if is_too_long(bare.as_slice()) {
         return notes.complain(source, at, Fault::TooLongToRepeat);
     }
     if matches!(source.kind(start), Kind::Add | Kind::Not) {
-        notes.put_before(start, b"(")?;
-        notes.put_behind(end, b")")?;
+        notes.put_before(start, b"(");
+        notes.put_behind(end, b")");
     }
-    put_choice_of(source, notes, at, end)
+    put_choice_of(source, notes, at, end);
 }
 
 /// Puts the choice between the operand of ABS and its negative in the place of both.
-fn put_choice_of(
-    source: Source<'_>,
-    notes: &mut Notes,
-    at: usize,
-    end: usize,
-) -> Result<(), Memory> {
+fn put_choice_of(source: Source<'_>, notes: &mut Notes, at: usize, end: usize) {
     let start = at.saturating_add(1);
-    let text = notes.rendered(source, start, end)?;
-    notes.replace(at, b"(")?;
-    put_choice(notes, start, text.as_slice())?;
+    let text = notes.rendered(source, start, end);
+    notes.replace(at, b"(");
+    put_choice(notes, start, text.as_slice());
     if source.gap(start).is_empty() {
-        notes.put_behind(start, b" ")?;
+        notes.put_behind(start, b" ");
     }
-    notes.put_behind(end, b")")
+    notes.put_behind(end, b")");
 }
 
 /// Puts behind a token the test whether a value is negative, and the value that it has then without its sign.
-fn put_choice(notes: &mut Notes, end: usize, value: &[u8]) -> Result<(), Memory> {
-    notes.put_all_behind(end, &[value, b"<0 -> -", value, b","])
+fn put_choice(notes: &mut Notes, end: usize, value: &[u8]) {
+    notes.put_all_behind(end, &[value, b"<0 -> -", value, b","]);
 }

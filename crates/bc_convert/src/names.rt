@@ -1,6 +1,6 @@
 use crate::formats::gets_header_alone;
 use crate::library::library_name;
-use crate::numbers::value_of_number;
+use crate::numbers::{decimal, value_of_number};
 use crate::options::{Options, Renaming};
 use bc_convert_tokens::{Dialect, Kind, Source};
 use bc_word::Memory;
@@ -12,7 +12,7 @@ fn meets(one: &[u8], other: &[u8]) -> bool {
 }
 
 /// A byte of a name, a dot in place of an underline.
-fn dotted(byte: u8) -> u8 {
+pub fn dotted(byte: u8) -> u8 {
     if byte == b'_' { b'.' } else { byte }
 }
 
@@ -23,9 +23,9 @@ fn is_first(source: Source<'_>, index: usize) -> bool {
 }
 
 /// How many other names meet the one at an index: those without an underline, and of the others those that come before it.
-fn rank(source: Source<'_>, index: usize) -> usize {
+fn rank(source: Source<'_>, index: usize) -> u32 {
     let bytes = source.bytes(index);
-    let mut rank: usize = 0;
+    let mut rank: u32 = 0;
     let mut is_behind = false;
     for other in 0..source.tokens.len() {
         let name = source.bytes(other);
@@ -48,14 +48,13 @@ fn has_name(source: Source<'_>, bytes: &[u8]) -> bool {
 }
 
 /// A name with dots for its underlines, and behind it a number, if it is not 1.
-fn with_dots(alloc: Global, bytes: &[u8], number: usize) -> Result<Vec<u8>, Memory> {
+fn with_dots(alloc: Global, bytes: &[u8], number: u32) -> Result<Vec<u8>, Memory> {
     let mut text = Vec::new(alloc);
     for byte in bytes {
         text.push(dotted(*byte))?;
     }
     if number != 1 {
-        let digits = format!(in alloc; "{number}")?;
-        text.extend_from_slice(digits.as_bytes())?;
+        text.extend_from_slice(decimal(alloc, i64::from(number))?.as_bytes())?;
     }
     Ok(text)
 }
@@ -65,7 +64,7 @@ fn with_dots(alloc: Global, bytes: &[u8], number: usize) -> Result<Vec<u8>, Memo
 fn without_underlines(alloc: Global, source: Source<'_>, index: usize) -> Result<Vec<u8>, Memory> {
     let bytes = source.bytes(index);
     let mut left = rank(source, index);
-    let mut number: usize = 1;
+    let mut number: u32 = 1;
     for _ in 0..source.tokens.len() {
         if left == 0 {
             break;
@@ -121,20 +120,32 @@ pub fn name_change(
     dialect: Dialect,
     options: Options<'_>,
 ) -> Result<Option<Vec<u8>>, Memory> {
-    let bytes = source.bytes(index);
-    if let Some(new) = renamed(options.library, bytes) {
+    if let Some(new) = new_name(source, index, dialect, options) {
         return Ok(Some(Vec::from_slice(alloc, new)?));
     }
-    if let Some(new) = for_library(source, index, dialect) {
-        return Ok(Some(Vec::from_slice(alloc, new)?));
-    }
-    if is_first_free(source, index) {
-        return Ok(Some(Vec::from_slice(alloc, b"200")?));
-    }
-    if bytes.contains(&b'_') {
+    if source.bytes(index).contains(&b'_') {
         return Ok(Some(without_underlines(alloc, source, index)?));
     }
     Ok(None)
+}
+
+/// The same, where another name is chosen for it.
+fn new_name<'o>(
+    source: Source<'_>,
+    index: usize,
+    dialect: Dialect,
+    options: Options<'o>,
+) -> Option<&'o [u8]> {
+    if let Some(new) = renamed(options.library, source.bytes(index)) {
+        return Some(new);
+    }
+    if let Some(new) = for_library(source, index, dialect) {
+        return Some(new);
+    }
+    if is_first_free(source, index) {
+        return Some(b"200");
+    }
+    None
 }
 
 /// Whether the name at an index is declared somewhere: behind LET, AND, FOR or a comma among these, as a parameter, or with

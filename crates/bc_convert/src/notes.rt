@@ -1,4 +1,5 @@
 use crate::complaint::{Complaint, Fault};
+use crate::numbers::decimal;
 use bc_convert_edits::Replacement;
 use bc_convert_tokens::{Kind, Source, is_name_byte};
 use bc_word::Memory;
@@ -26,6 +27,20 @@ impl Slot {
     fn is_untouched(&self) -> bool {
         self.before.is_empty() && self.instead.is_none() && self.after.is_empty() && !self.takes_gap
     }
+
+    /// Puts bytes in front of all that was put there before.
+    fn put_before(&mut self, alloc: Global, bytes: &[u8]) -> Result<(), Memory> {
+        let mut whole = Vec::from_slice(alloc, bytes)?;
+        whole.extend_from_slice(self.before.as_slice())?;
+        self.before = whole;
+        Ok(())
+    }
+
+    /// Puts bytes in the token's place.
+    fn replace(&mut self, alloc: Global, bytes: &[u8]) -> Result<(), Memory> {
+        self.instead = Some(Vec::from_slice(alloc, bytes)?);
+        Ok(())
+    }
 }
 
 /// A list from an index on, with a declaration behind commands that begins a block up to the end of the list.
@@ -36,7 +51,8 @@ pub struct LateBlock {
     pub to: usize,
 }
 
-/// What was found in a source so far: what becomes of each token, and what can't be converted.
+/// What was found in a source so far: what becomes of each token, and what can't be converted. That an allocation was refused is kept
+/// until all is found: then nothing was.
 #[derive(Drop)]
 pub struct Notes {
     alloc: Global,
@@ -45,9 +61,10 @@ pub struct Notes {
     labels: Vec<usize>,
     destinations: Vec<usize>,
     blocks: Vec<LateBlock>,
-    fresh: usize,
+    fresh: u32,
     /// The index behind the last nest that is too deep.
     told_until: usize,
+    is_refused: bool,
 }
 
 impl Notes {
@@ -66,6 +83,7 @@ impl Notes {
             blocks: Vec::new(alloc),
             fresh: 0,
             told_until: 0,
+            is_refused: false,
         })
     }
 
@@ -74,50 +92,72 @@ impl Notes {
         self.alloc
     }
 
+    /// Writes down that an allocation was refused.
+    pub fn refuse(&mut self) {
+        self.is_refused = true;
+    }
+
+    /// What was made, if no allocation was refused; else that is written down.
+    pub fn made<T: Drop>(&mut self, made: Result<T, Memory>) -> Option<T> {
+        match made {
+            Ok(value) => Some(value),
+            Err(_) => {
+                self.refuse();
+                None
+            }
+        }
+    }
+
     /// Puts bytes in front of a token and of all that was put there before.
-    pub fn put_before(&mut self, index: usize, bytes: &[u8]) -> Result<(), Memory> {
+    pub fn put_before(&mut self, index: usize, bytes: &[u8]) {
         if index < self.slots.len() {
             let slot = &mut self.slots[index];
-            let mut whole = Vec::from_slice(self.alloc, bytes)?;
-            whole.extend_from_slice(slot.before.as_slice())?;
-            slot.before = whole;
+            if slot.put_before(self.alloc, bytes).is_err() {
+                self.refuse();
+            }
         }
-        Ok(())
     }
 
     /// Puts bytes behind the token in front of an index and behind all that was put there before.
-    pub fn put_behind(&mut self, end: usize, bytes: &[u8]) -> Result<(), Memory> {
+    pub fn put_behind(&mut self, end: usize, bytes: &[u8]) {
         if 0 < end && end <= self.slots.len() {
             let slot = &mut self.slots[end - 1];
-            slot.after.extend_from_slice(bytes)?;
+            if slot.after.extend_from_slice(bytes).is_err() {
+                self.refuse();
+            }
         }
-        Ok(())
     }
 
     /// Puts these in front of a token and of all that was put there before, each in front of the one before it.
-    pub fn put_all_before(&mut self, index: usize, texts: &[&[u8]]) -> Result<(), Memory> {
+    pub fn put_all_before(&mut self, index: usize, texts: &[&[u8]]) {
         for bytes in texts {
-            self.put_before(index, bytes)?;
+            self.put_before(index, bytes);
         }
-        Ok(())
     }
 
     /// Puts these behind the token in front of an index and behind all that was put there before, in their order.
-    pub fn put_all_behind(&mut self, end: usize, texts: &[&[u8]]) -> Result<(), Memory> {
+    pub fn put_all_behind(&mut self, end: usize, texts: &[&[u8]]) {
         for bytes in texts {
-            self.put_behind(end, bytes)?;
+            self.put_behind(end, bytes);
         }
-        Ok(())
+    }
+
+    /// Puts a number behind the token in front of an index and behind all that was put there before.
+    pub fn put_number_behind(&mut self, end: usize, number: u32) {
+        let digits = decimal(self.alloc, i64::from(number));
+        if let Some(digits) = self.made(digits) {
+            self.put_behind(end, digits.as_bytes());
+        }
     }
 
     /// Puts bytes in the place of a token.
-    pub fn replace(&mut self, index: usize, bytes: &[u8]) -> Result<(), Memory> {
+    pub fn replace(&mut self, index: usize, bytes: &[u8]) {
         if index < self.slots.len() {
-            let whole = Vec::from_slice(self.alloc, bytes)?;
             let slot = &mut self.slots[index];
-            slot.instead = Some(whole);
+            if slot.replace(self.alloc, bytes).is_err() {
+                self.refuse();
+            }
         }
-        Ok(())
     }
 
     /// Takes out the blanks in front of a token, where no comment and no line break is among them.
@@ -138,47 +178,57 @@ impl Notes {
     }
 
     /// Takes out a token and the blanks in front of it.
-    pub fn take_out(&mut self, source: Source<'_>, index: usize) -> Result<(), Memory> {
+    pub fn take_out(&mut self, source: Source<'_>, index: usize) {
         self.clear(index);
-        self.replace(index, &[])?;
+        self.replace(index, &[]);
         self.take_gap(source, index);
-        Ok(())
     }
 
     /// The text of the tokens from an index up to another one as it is to be, a blank where any blanks stand.
-    pub fn rendered(&self, source: Source<'_>, from: usize, to: usize) -> Result<Vec<u8>, Memory> {
+    pub fn rendered(&mut self, source: Source<'_>, from: usize, to: usize) -> Vec<u8> {
         let mut whole = Vec::new(self.alloc);
+        if self.render(source, from, to, &mut whole).is_err() {
+            self.refuse();
+        }
+        whole
+    }
+
+    /// Puts that text behind another one.
+    fn render(
+        &self,
+        source: Source<'_>,
+        from: usize,
+        to: usize,
+        whole: &mut Vec<u8>,
+    ) -> Result<(), Memory> {
         for index in from..to {
             if let Some(slot) = self.slots.get(index) {
                 if index != from && !source.gap(index).is_empty() && !slot.takes_gap {
                     whole.push(b' ')?;
                 }
-                put_token(&mut whole, slot, source.bytes(index))?;
+                put_token(whole, slot, source.bytes(index))?;
             }
         }
-        Ok(whole)
+        Ok(())
     }
 
     /// Writes down that what begins at a token can't be converted. A nest that is too deep is written down once: where it was found
     /// first.
-    pub fn complain(
-        &mut self,
-        source: Source<'_>,
-        index: usize,
-        fault: Fault,
-    ) -> Result<(), Memory> {
+    pub fn complain(&mut self, source: Source<'_>, index: usize, fault: Fault) {
         if fault == Fault::TooDeep {
             if index < self.told_until {
-                return Ok(());
+                return;
             }
             self.told_until = nest_end(source, index);
         }
-        self.complaints.push(Complaint {
+        let complaint = Complaint {
             start: source.start(index),
             end: source.end(index),
             fault,
-        })?;
-        Ok(())
+        };
+        if self.complaints.push(complaint).is_err() {
+            self.refuse();
+        }
     }
 
     /// Whether something becomes of a token.
@@ -187,21 +237,24 @@ impl Notes {
     }
 
     /// Writes down that a label stands at an index.
-    pub fn note_label(&mut self, index: usize) -> Result<(), Memory> {
-        self.labels.push(index)?;
-        Ok(())
+    pub fn note_label(&mut self, index: usize) {
+        if self.labels.push(index).is_err() {
+            self.refuse();
+        }
     }
 
     /// Writes down that a GOTO's destination stands at an index.
-    pub fn note_destination(&mut self, index: usize) -> Result<(), Memory> {
-        self.destinations.push(index)?;
-        Ok(())
+    pub fn note_destination(&mut self, index: usize) {
+        if self.destinations.push(index).is_err() {
+            self.refuse();
+        }
     }
 
     /// Writes down that a declaration behind commands begins a block.
-    pub fn note_block(&mut self, block: LateBlock) -> Result<(), Memory> {
-        self.blocks.push(block)?;
-        Ok(())
+    pub fn note_block(&mut self, block: LateBlock) {
+        if self.blocks.push(block).is_err() {
+            self.refuse();
+        }
     }
 
     /// Whether the GOTO with its destination at an index stands in front of a declaration behind commands, and its label behind it
@@ -235,8 +288,19 @@ impl Notes {
         self.labels.contains(&index) || self.destinations.contains(&index)
     }
 
-    /// A name that the source doesn't have.
-    pub fn fresh_name(&mut self, source: Source<'_>) -> Result<Vec<u8>, Memory> {
+    /// A name that the source doesn't have; an empty one where an allocation is refused.
+    pub fn fresh_name(&mut self, source: Source<'_>) -> Vec<u8> {
+        match self.next_name(source) {
+            Ok(name) => name,
+            Err(_) => {
+                self.refuse();
+                Vec::new(self.alloc)
+            }
+        }
+    }
+
+    /// The name with the next number that makes it one that the source doesn't have.
+    fn next_name(&mut self, source: Source<'_>) -> Result<Vec<u8>, Memory> {
         for _ in 0..source.tokens.len() {
             self.fresh = self.fresh.saturating_add(1);
             let name = self.numbered()?;
@@ -249,24 +313,40 @@ impl Notes {
 
     /// The name with the number that is next.
     fn numbered(&self) -> Result<Vec<u8>, Memory> {
-        let number = self.fresh;
-        let name = format!(in self.alloc; "TEMP.{number}")?;
-        Ok(Vec::from_slice(self.alloc, name.as_bytes())?)
+        let digits = decimal(self.alloc, i64::from(self.fresh))?;
+        let mut name = Vec::from_slice(self.alloc, b"TEMP.")?;
+        name.extend_from_slice(digits.as_bytes())?;
+        Ok(name)
     }
 
     /// The replacements, one for each token that something becomes of, and what can't be converted.
+    ///
+    /// `Memory` comes where an allocation was refused, at once or before.
     pub fn finished(
         self,
         source: Source<'_>,
     ) -> Result<(Vec<Replacement>, Vec<Complaint>), Memory> {
-        let mut replacements = Vec::new(self.alloc);
-        for (index, slot) in self.slots.iter().enumerate() {
-            if !slot.is_untouched() {
-                replacements.push(replacement(self.alloc, source, index, slot)?)?;
-            }
+        if self.is_refused {
+            return Err(Memory);
         }
+        let replacements = replacements(self.alloc, source, self.slots.as_slice())?;
         Ok((replacements, self.complaints))
     }
+}
+
+/// A replacement for each token that something becomes of.
+fn replacements(
+    alloc: Global,
+    source: Source<'_>,
+    slots: &[Slot],
+) -> Result<Vec<Replacement>, Memory> {
+    let mut replacements = Vec::new(alloc);
+    for (index, slot) in slots.iter().enumerate() {
+        if !slot.is_untouched() {
+            replacements.push(replacement(alloc, source, index, slot)?)?;
+        }
+    }
+    Ok(replacements)
 }
 
 /// What becomes of a token, as a replacement.
@@ -277,10 +357,7 @@ fn replacement(
     slot: &Slot,
 ) -> Result<Replacement, Memory> {
     let mut text = Vec::new(alloc);
-    put_token(&mut text, slot, source.bytes(index))?;
-    if needs_blank(text.as_slice(), source, index) {
-        text.push(b' ')?;
-    }
+    put_apart(&mut text, source, index, slot)?;
     let start = source.start(index);
     let gap = source.gap(index).len();
     Ok(Replacement {
@@ -292,6 +369,20 @@ fn replacement(
         end: source.end(index),
         text,
     })
+}
+
+/// A token with what stands around it, and a blank where it would run into what comes next.
+fn put_apart(
+    text: &mut Vec<u8>,
+    source: Source<'_>,
+    index: usize,
+    slot: &Slot,
+) -> Result<(), Memory> {
+    put_token(text, slot, source.bytes(index))?;
+    if needs_blank(text.as_slice(), source, index) {
+        text.push(b' ')?;
+    }
+    Ok(())
 }
 
 /// Whether a new text would run into the byte behind the token.

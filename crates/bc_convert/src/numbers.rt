@@ -9,7 +9,7 @@ pub enum NumberChange {
     /// It stays as it is.
     Kept,
     /// It is written otherwise.
-    Written(Vec<u8>),
+    Written(String),
     /// It can't be written.
     Fault(Fault),
 }
@@ -62,6 +62,20 @@ fn is_plain(bytes: &[u8]) -> bool {
     !has_old_base && !bytes.contains(&b'_')
 }
 
+/// A number in decimal digits, with a sign where it is negative.
+pub fn decimal(alloc: Global, number: i64) -> Result<String, Memory> {
+    Ok(format!(in alloc; "{number}")?)
+}
+
+/// A number as this dialect writes one of this base: in hexadecimal, octal or decimal digits.
+fn written(alloc: Global, base: u32, value: u32) -> Result<String, Memory> {
+    match base {
+        16 => Ok(format!(in alloc; "#X{value:X}")?),
+        8 => Ok(format!(in alloc; "#{value:o}")?),
+        _ => decimal(alloc, i64::from(value)),
+    }
+}
+
 /// What becomes of the number at an index: binary ones are written in decimal digits, the others in their base.
 pub fn number_change(
     alloc: Global,
@@ -69,19 +83,10 @@ pub fn number_change(
     index: usize,
 ) -> Result<NumberChange, Memory> {
     let bytes = source.bytes(index);
-    let value = match value_of_number(source, index) {
-        Ok(value) => value,
-        Err(Fault::NumberTooLarge) => return Ok(NumberChange::Fault(Fault::NumberTooLarge)),
-        Err(fault) if !is_plain(bytes) => return Ok(NumberChange::Fault(fault)),
-        Err(_) => return Ok(NumberChange::Kept),
-    };
-    if is_plain(bytes) {
-        return Ok(NumberChange::Kept);
+    match value_of_number(source, index) {
+        Err(Fault::NumberTooLarge) => Ok(NumberChange::Fault(Fault::NumberTooLarge)),
+        _ if is_plain(bytes) => Ok(NumberChange::Kept),
+        Err(fault) => Ok(NumberChange::Fault(fault)),
+        Ok(value) => Ok(NumberChange::Written(written(alloc, base_of(bytes).0, value)?)),
     }
-    let text = match base_of(bytes).0 {
-        16 => format!(in alloc; "#X{value:X}")?,
-        8 => format!(in alloc; "#{value:o}")?,
-        _ => format!(in alloc; "{value}")?,
-    };
-    Ok(NumberChange::Written(Vec::from_slice(alloc, text.as_bytes())?))
 }

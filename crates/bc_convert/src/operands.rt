@@ -1,6 +1,5 @@
 use crate::notes::Notes;
 use bc_convert_tokens::{Kind, Source};
-use bc_word::Memory;
 
 /// How an operand was read: the index behind it, and where it is a byte of a string as a whole the index of its `%`, whose
 /// change is not written down yet.
@@ -18,13 +17,12 @@ impl Operand {
 }
 
 /// Writes down that an operand is the value of a byte, where it is one.
-pub fn finish(notes: &mut Notes, at: usize, operand: Operand) -> Result<(), Memory> {
+pub fn finish(notes: &mut Notes, at: usize, operand: Operand) {
     if let Some(percent) = operand.byte {
-        notes.put_before(at, b"GETBYTE(")?;
-        notes.replace(percent, b",")?;
-        notes.put_behind(operand.end, b")")?;
+        notes.put_before(at, b"GETBYTE(");
+        notes.replace(percent, b",");
+        notes.put_behind(operand.end, b")");
     }
-    Ok(())
 }
 
 /// Whether a token and the one behind it stand side by side.
@@ -73,14 +71,8 @@ pub fn is_too_long(text: &[u8]) -> bool {
 }
 
 /// Takes out the tokens between two indices.
-pub fn take_out(
-    source: Source<'_>,
-    notes: &mut Notes,
-    from: usize,
-    to: usize,
-) -> Result<(), Memory> {
+pub fn take_out(source: Source<'_>, notes: &mut Notes, from: usize, to: usize) {
     for index in from..to {
-        notes.take_out(source, index)?;
+        notes.take_out(source, index);
     }
-    Ok(())
 }

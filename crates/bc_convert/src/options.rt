@@ -66,20 +66,18 @@ fn add_line<'o>(names: &mut NameList<'o>, start: usize, line: &'o [u8]) -> Resul
         return Ok(());
     }
     let renaming = Renaming { old, new };
-    let fault = match fault_of(names.list.as_slice(), renaming) {
-        None => {
-            names.list.push(renaming)?;
-            return Ok(());
+    match fault_of(names.list.as_slice(), renaming) {
+        None => names.list.push(renaming)?,
+        Some(fault) => {
+            let blanks = line.len().saturating_sub(line.trim_ascii_start().len());
+            let start = start.saturating_add(blanks);
+            names.complaints.push(Complaint {
+                start,
+                end: start.saturating_add(old.len()),
+                fault,
+            })?;
         }
-        Some(fault) => fault,
-    };
-    let blanks = line.len().saturating_sub(line.trim_ascii_start().len());
-    let start = start.saturating_add(blanks);
-    names.complaints.push(Complaint {
-        start,
-        end: start.saturating_add(old.len()),
-        fault,
-    })?;
+    }
     Ok(())
 }
 

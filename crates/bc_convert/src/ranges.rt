@@ -1,5 +1,5 @@
 use crate::notes::Notes;
-use crate::numbers::value_of_number;
+use crate::numbers::{decimal, value_of_number};
 use crate::quoted::character_of;
 use crate::spelling::inside;
 use bc_convert_tokens::{Kind, Source};
@@ -49,53 +49,50 @@ fn put_constant(
         Ok(byte) if is_character && (byte.is_ascii_alphanumeric() || byte == b' ') => {
             text.extend_from_slice(&[b'\'', byte, b'\''])?;
         }
-        _ => {
-            let digits = format!(in alloc; "{value}")?;
-            text.extend_from_slice(digits.as_bytes())?;
-        }
+        _ => text.extend_from_slice(decimal(alloc, value)?.as_bytes())?,
     }
     Ok(())
 }
 
 /// The cases between two constants, each with CASE and a colon around it, and CASE in front of the last one; `None` where they
-/// are no range of at most 256.
+/// are no constants, or no range of at most 256.
 pub fn cases_between(
     alloc: Global,
-    first: CaseConstant,
-    last: CaseConstant,
+    first: Option<CaseConstant>,
+    last: Option<CaseConstant>,
 ) -> Result<Option<Vec<u8>>, Memory> {
-    let distance = last.value.saturating_sub(first.value);
-    if distance < 0 || distance > 255 {
-        return Ok(None);
+    match (first, last) {
+        (Some(first), Some(last)) if is_range(first, last) => Ok(Some(cases(alloc, first, last)?)),
+        _ => Ok(None),
     }
+}
+
+/// Whether two constants are a range of at most 256.
+fn is_range(first: CaseConstant, last: CaseConstant) -> bool {
+    let distance = last.value.saturating_sub(first.value);
+    0 <= distance && distance <= 255
+}
+
+/// The cases of such a range.
+fn cases(alloc: Global, first: CaseConstant, last: CaseConstant) -> Result<Vec<u8>, Memory> {
+    let is_character = first.is_character && last.is_character;
     let mut text = Vec::new(alloc);
     for value in first.value..last.value {
         if value != first.value {
             text.extend_from_slice(b" CASE ")?;
-            put_constant(
-                alloc,
-                &mut text,
-                value,
-                first.is_character && last.is_character,
-            )?;
+            put_constant(alloc, &mut text, value, is_character)?;
         }
         text.push(b':')?;
     }
     text.extend_from_slice(b" CASE")?;
-    Ok(Some(text))
+    Ok(text)
 }
 
 /// Puts bytes in the place of a token, and a blank behind them where none stands there.
-pub fn replace_apart(
-    source: Source<'_>,
-    notes: &mut Notes,
-    index: usize,
-    bytes: &[u8],
-) -> Result<(), Memory> {
-    notes.replace(index, bytes)?;
+pub fn replace_apart(source: Source<'_>, notes: &mut Notes, index: usize, bytes: &[u8]) {
+    notes.replace(index, bytes);
     let next = index.saturating_add(1);
     if source.gap(next).is_empty() {
-        notes.put_behind(next, b" ")?;
+        notes.put_behind(next, b" ");
     }
-    Ok(())
 }

@@ -1,8 +1,8 @@
 use crate::complaint::Fault;
 use crate::formats::gets_header;
-use crate::names::{is_declared, name_change};
+use crate::names::{dotted, is_declared, name_change};
 use crate::notes::Notes;
-use crate::numbers::{NumberChange, number_change};
+use crate::numbers::{NumberChange, decimal, number_change};
 use crate::options::{Header, Options};
 use crate::quoted::{Respelled, inside_respelled};
 use bc_convert_tokens::{Dialect, Kind, Source, reserved, span};
@@ -17,15 +17,14 @@ pub fn respell(
     dialect: Dialect,
     options: Options<'_>,
     header: Header,
-) -> Result<(), Memory> {
+) {
     for index in 0..source.tokens.len() {
         match source.kind(index) {
-            Kind::Name => respell_name(source, notes, index, dialect, options)?,
-            Kind::Text => respell_string(source, notes, index, header)?,
-            kind => respell_further(source, notes, index, kind, dialect)?,
+            Kind::Name => respell_name(source, notes, index, dialect, options),
+            Kind::Text => respell_string(source, notes, index, header),
+            kind => respell_further(source, notes, index, kind, dialect),
         }
     }
-    Ok(())
 }
 
 /// What becomes of a token that is neither a name nor a string.
@@ -35,7 +34,7 @@ fn respell_further(
     index: usize,
     kind: Kind,
     dialect: Dialect,
-) -> Result<(), Memory> {
+) {
     match kind {
         Kind::Number => respell_number(source, notes, index),
         Kind::Character => respell_character(source, notes, index),
@@ -84,25 +83,26 @@ fn respell_name(
     index: usize,
     dialect: Dialect,
     options: Options<'_>,
-) -> Result<(), Memory> {
+) {
     if source.kind(index.saturating_add(1)) == Kind::OpenRound
         && let Some(fault) = routine_fault(source.bytes(index))
         && !is_declared(source, index)
     {
-        notes.complain(source, index, fault)?;
+        notes.complain(source, index, fault);
     }
-    if let Some(new) = name_change(notes.alloc(), source, index, dialect, options)? {
-        notes.replace(index, new.as_slice())?;
+    let change = name_change(notes.alloc(), source, index, dialect, options);
+    if let Some(Some(new)) = notes.made(change) {
+        notes.replace(index, new.as_slice());
     }
-    Ok(())
 }
 
 /// What becomes of a number.
-fn respell_number(source: Source<'_>, notes: &mut Notes, index: usize) -> Result<(), Memory> {
-    match number_change(notes.alloc(), source, index)? {
-        NumberChange::Kept => Ok(()),
-        NumberChange::Written(text) => notes.replace(index, text.as_slice()),
-        NumberChange::Fault(fault) => notes.complain(source, index, fault),
+fn respell_number(source: Source<'_>, notes: &mut Notes, index: usize) {
+    let change = number_change(notes.alloc(), source, index);
+    match notes.made(change) {
+        None | Some(NumberChange::Kept) => {}
+        Some(NumberChange::Written(text)) => notes.replace(index, text.as_bytes()),
+        Some(NumberChange::Fault(fault)) => notes.complain(source, index, fault),
     }
 }
 
@@ -121,12 +121,7 @@ fn quoted(alloc: Global, sign: u8, inside: &[u8]) -> Result<Vec<u8>, Memory> {
 }
 
 /// What becomes of a string: the library's header has its name here where it stands behind GET.
-fn respell_string(
-    source: Source<'_>,
-    notes: &mut Notes,
-    index: usize,
-    header: Header,
-) -> Result<(), Memory> {
+fn respell_string(source: Source<'_>, notes: &mut Notes, index: usize, header: Header) {
     if gets_header(source, index) {
         let name: &[u8] = match header {
             Header::Further => b"\"EXTHDR\"",
@@ -134,66 +129,67 @@ fn respell_string(
         };
         return replace_if_other(source, notes, index, name);
     }
-    match inside_respelled(notes.alloc(), inside(source.bytes(index)))? {
-        Err(fault) => notes.complain(source, index, fault),
-        Ok(Respelled { count, .. }) if count > 255 => notes.complain(
+    match respelled(source, notes, index) {
+        Some(respelled) if respelled.count > 255 => notes.complain(
             source,
             index,
             Fault::StringTooLong,
         ),
-        Ok(Respelled { inside: text, .. }) => {
-            let whole = quoted(notes.alloc(), b'"', text.as_slice())?;
-            replace_if_other(source, notes, index, whole.as_slice())
-        }
+        Some(respelled) => put_quoted(source, notes, index, b'"', respelled.inside.as_slice()),
+        None => {}
     }
 }
 
 /// What becomes of a character constant: one that can't be seen is written as a number.
-fn respell_character(source: Source<'_>, notes: &mut Notes, index: usize) -> Result<(), Memory> {
-    match inside_respelled(notes.alloc(), inside(source.bytes(index)))? {
-        Err(fault) => notes.complain(source, index, fault),
-        Ok(Respelled { count, .. }) if count != 1 => notes.complain(
+fn respell_character(source: Source<'_>, notes: &mut Notes, index: usize) {
+    match respelled(source, notes, index) {
+        Some(respelled) if respelled.count != 1 => notes.complain(
             source,
             index,
             Fault::NotOneCharacter,
         ),
-        Ok(
-            Respelled {
-                numbered: Some(byte),
-                ..
-            },
-        ) if !byte.is_ascii_graphic() && byte != b' ' => {
-            let digits = format!(in notes.alloc(); "{byte}")?;
-            notes.replace(index, digits.as_bytes())
+        Some(respelled) => match respelled.numbered {
+            Some(byte) if !byte.is_ascii_graphic() && byte != b' ' => {
+                let digits = decimal(notes.alloc(), i64::from(byte));
+                if let Some(digits) = notes.made(digits) {
+                    notes.replace(index, digits.as_bytes());
+                }
+            }
+            _ => put_quoted(source, notes, index, b'\'', respelled.inside.as_slice()),
+        },
+        None => {}
+    }
+}
+
+/// What stands between the signs at an index, as this dialect writes it. What is wrong with it is written down.
+fn respelled(source: Source<'_>, notes: &mut Notes, index: usize) -> Option<Respelled> {
+    let inside = inside_respelled(notes.alloc(), inside(source.bytes(index)));
+    match notes.made(inside)? {
+        Ok(respelled) => Some(respelled),
+        Err(fault) => {
+            notes.complain(source, index, fault);
+            None
         }
-        Ok(Respelled { inside: text, .. }) => {
-            let whole = quoted(notes.alloc(), b'\'', text.as_slice())?;
-            replace_if_other(source, notes, index, whole.as_slice())
-        }
+    }
+}
+
+/// Puts bytes between two signs in the place of a token that is spelled otherwise.
+fn put_quoted(source: Source<'_>, notes: &mut Notes, index: usize, sign: u8, inside: &[u8]) {
+    let whole = quoted(notes.alloc(), sign, inside);
+    if let Some(whole) = notes.made(whole) {
+        replace_if_other(source, notes, index, whole.as_slice());
     }
 }
 
 /// Puts bytes in the place of a token that is spelled otherwise.
-fn replace_if_other(
-    source: Source<'_>,
-    notes: &mut Notes,
-    index: usize,
-    bytes: &[u8],
-) -> Result<(), Memory> {
-    if source.bytes(index) == bytes {
-        return Ok(());
+fn replace_if_other(source: Source<'_>, notes: &mut Notes, index: usize, bytes: &[u8]) {
+    if source.bytes(index) != bytes {
+        notes.replace(index, bytes);
     }
-    notes.replace(index, bytes)
 }
 
 /// What becomes of a reserved word or a sign.
-fn respell_sign(
-    source: Source<'_>,
-    notes: &mut Notes,
-    index: usize,
-    kind: Kind,
-    dialect: Dialect,
-) -> Result<(), Memory> {
+fn respell_sign(source: Source<'_>, notes: &mut Notes, index: usize, kind: Kind, dialect: Dialect) {
     let bytes = source.bytes(index);
     if let Some(word) = reserved(bytes, dialect.has_small_words)
         && kind != Kind::Header
@@ -209,21 +205,24 @@ fn respell_sign(
         Kind::CloseRound => replace_if_other(source, notes, index, b")"),
         Kind::OpenSection => respell_section(source, notes, index, b"$("),
         Kind::CloseSection => respell_section(source, notes, index, b"$)"),
-        _ => Ok(()),
+        _ => {}
     }
 }
 
 /// What becomes of a section bracket, whose tag has dots in place of underlines.
-fn respell_section(
-    source: Source<'_>,
-    notes: &mut Notes,
-    index: usize,
-    sign: &[u8],
-) -> Result<(), Memory> {
+fn respell_section(source: Source<'_>, notes: &mut Notes, index: usize, sign: &[u8]) {
     let bytes = source.bytes(index);
-    let mut whole = Vec::from_slice(notes.alloc(), sign)?;
-    for byte in span(bytes, 2, bytes.len()) {
-        whole.push(if *byte == b'_' { b'.' } else { *byte })?;
+    let whole = with_dotted(notes.alloc(), sign, span(bytes, 2, bytes.len()));
+    if let Some(whole) = notes.made(whole) {
+        replace_if_other(source, notes, index, whole.as_slice());
     }
-    replace_if_other(source, notes, index, whole.as_slice())
+}
+
+/// A sign, and a tag behind it with dots for its underlines.
+fn with_dotted(alloc: Global, sign: &[u8], tag: &[u8]) -> Result<Vec<u8>, Memory> {
+    let mut whole = Vec::from_slice(alloc, sign)?;
+    for byte in tag {
+        whole.push(dotted(*byte))?;
+    }
+    Ok(whole)
 }

@@ -10,7 +10,6 @@ use crate::notes::{LateBlock, Notes};
 use crate::operands::{Operand, finish, is_adjacent, is_compound, is_plain, level_at};
 use crate::ranges::{case_constant, cases_between, replace_apart};
 use bc_convert_tokens::{Dialect, Kind, Source, is_name_byte};
-use bc_word::Memory;
 
 /// How deep the parts of a source may nest: each part counts for some of its own.
 pub const MOST_DEPTH: usize = 3000;
@@ -82,7 +81,7 @@ fn begins_item(source: Source<'_>, from: usize, at: usize) -> bool {
 /// The items of a list, from one index up to another one. A declaration behind commands gets a block of its own, which goes
 /// to the end of the list.
 #[cycle(walk)]
-pub fn items(walk: Walk<'_>, notes: &mut Notes, from: usize, to: usize) -> Result<(), Memory> {
+pub fn items(walk: Walk<'_>, notes: &mut Notes, from: usize, to: usize) {
     if walk.depth == 0 {
         return notes.complain(walk.source, from, Fault::TooDeep);
     }
@@ -91,35 +90,28 @@ pub fn items(walk: Walk<'_>, notes: &mut Notes, from: usize, to: usize) -> Resul
     let mut has_commands = false;
     for _ in from..to {
         if at >= to {
-            return Ok(());
+            return;
         }
         if begins_item(source, from, at) {
             let kind = source.kind(at);
             if has_commands && begins_declaration(kind) {
-                put_block(source, notes, from, at, to)?;
+                put_block(source, notes, from, at, to);
                 has_commands = false;
             }
             has_commands = has_commands || !is_no_command(kind);
         }
-        at = item(walk.deeper(), notes, at, to)?;
+        at = item(walk.deeper(), notes, at, to);
     }
-    Ok(())
 }
 
 /// Puts the items of a list from an index on between brackets of their own, where the list is one of commands.
-fn put_block(
-    source: Source<'_>,
-    notes: &mut Notes,
-    from: usize,
-    at: usize,
-    to: usize,
-) -> Result<(), Memory> {
+fn put_block(source: Source<'_>, notes: &mut Notes, from: usize, at: usize, to: usize) {
     match is_block(source, from) {
-        None => Ok(()),
+        None => {}
         Some(false) => notes.complain(source, at, Fault::LateDeclaration),
         Some(true) => {
-            notes.note_block(LateBlock { from, at, to })?;
-            notes.put_before(at, b"$( ")?;
+            notes.note_block(LateBlock { from, at, to });
+            notes.put_before(at, b"$( ");
             notes.put_before(to, b"$) ")
         }
     }
@@ -127,10 +119,10 @@ fn put_block(
 
 /// The part of an item that begins at an index. Gives the index behind it.
 #[cycle(walk)]
-fn item(walk: Walk<'_>, notes: &mut Notes, at: usize, to: usize) -> Result<usize, Memory> {
+fn item(walk: Walk<'_>, notes: &mut Notes, at: usize, to: usize) -> usize {
     if walk.depth == 0 {
-        notes.complain(walk.source, at, Fault::TooDeep)?;
-        return Ok(to);
+        notes.complain(walk.source, at, Fault::TooDeep);
+        return to;
     }
     let source = walk.source;
     let next = behind(at, to);
@@ -140,35 +132,35 @@ fn item(walk: Walk<'_>, notes: &mut Notes, at: usize, to: usize) -> Result<usize
         Kind::Case => cases(walk.deeper(), notes, next, to),
         Kind::Goto => destination(source, notes, next, to),
         Kind::Header => header(source, notes, at, to),
-        Kind::Get => Ok(behind(next, to)),
+        Kind::Get => behind(next, to),
         Kind::OpenSection => bracket(walk.deeper(), notes, at, to),
         Kind::Name if source.kind(next) == Kind::Colon => {
-            notes.note_label(at)?;
-            Ok(behind(next, to))
+            notes.note_label(at);
+            behind(next, to)
         }
         kind if kind.can_be_operand() => command(walk.deeper(), notes, at, to),
-        _ => Ok(next),
+        _ => next,
     }
 }
 
 /// What stands between brackets. Gives the index behind the closing one.
 #[cycle(walk)]
-fn bracket(walk: Walk<'_>, notes: &mut Notes, at: usize, to: usize) -> Result<usize, Memory> {
+fn bracket(walk: Walk<'_>, notes: &mut Notes, at: usize, to: usize) -> usize {
     if walk.depth == 0 {
-        notes.complain(walk.source, at, Fault::TooDeep)?;
-        return Ok(to);
+        notes.complain(walk.source, at, Fault::TooDeep);
+        return to;
     }
     let source = walk.source;
     if source.partner(at) >= source.tokens.len() {
-        notes.complain(source, at, Fault::OpenBracket)?;
+        notes.complain(source, at, Fault::OpenBracket);
     }
     let closing = inside_end(source, at, to);
-    items(walk.deeper(), notes, behind(at, to), closing)?;
-    Ok(behind(closing, to))
+    items(walk.deeper(), notes, behind(at, to), closing);
+    behind(closing, to)
 }
 
 /// SECTION or NEEDS with its names, which become a comment.
-fn header(source: Source<'_>, notes: &mut Notes, at: usize, to: usize) -> Result<usize, Memory> {
+fn header(source: Source<'_>, notes: &mut Notes, at: usize, to: usize) -> usize {
     let mut end = behind(at, to);
     for _ in at..to {
         let next = behind(end, to);
@@ -179,18 +171,13 @@ fn header(source: Source<'_>, notes: &mut Notes, at: usize, to: usize) -> Result
             break;
         }
     }
-    notes.put_before(at, b"/* ")?;
-    notes.put_behind(end, b" */")?;
-    Ok(end)
+    notes.put_before(at, b"/* ");
+    notes.put_behind(end, b" */");
+    end
 }
 
 /// A GOTO's destination, which is to be a name alone.
-fn destination(
-    source: Source<'_>,
-    notes: &mut Notes,
-    at: usize,
-    to: usize,
-) -> Result<usize, Memory> {
+fn destination(source: Source<'_>, notes: &mut Notes, at: usize, to: usize) -> usize {
     let next = behind(at, to);
     let goes_on = !source.is_separated(next)
         && matches!(
@@ -198,47 +185,42 @@ fn destination(
             Kind::OpenRound | Kind::Bang | Kind::Percent
         );
     if source.kind(at) == Kind::Name && !goes_on && level_at(source, next) == 0 {
-        notes.note_destination(at)?;
-        return Ok(next);
+        notes.note_destination(at);
+        return next;
     }
-    notes.complain(source, at, Fault::GotoOfValue)?;
-    Ok(at)
+    notes.complain(source, at, Fault::GotoOfValue);
+    at
 }
 
 /// A definition behind LET or AND, up to the body of a routine or a single value.
 #[cycle(walk)]
-fn definition(walk: Walk<'_>, notes: &mut Notes, at: usize, to: usize) -> Result<usize, Memory> {
+fn definition(walk: Walk<'_>, notes: &mut Notes, at: usize, to: usize) -> usize {
     if walk.depth == 0 {
-        notes.complain(walk.source, at, Fault::TooDeep)?;
-        return Ok(to);
+        notes.complain(walk.source, at, Fault::TooDeep);
+        return to;
     }
     let source = walk.source;
     let next = behind(at, to);
     if source.kind(at) != Kind::Name {
-        return Ok(at);
+        return at;
     }
     if source.kind(next) == Kind::OpenRound {
         let closing = inside_end(source, next, to);
-        return Ok(behind(behind(closing, to), to));
+        return behind(behind(closing, to), to);
     }
     let values = Values::of(source, at, to);
     if values.count == 1 || source.kind(values.equal) != Kind::Equal {
-        return Ok(behind(values.equal, to));
+        return behind(values.equal, to);
     }
     definitions(walk.deeper(), notes, values, to)
 }
 
 /// The values of a definition of several names. Where one is a vector, each name gets a definition of its own.
 #[cycle(walk)]
-fn definitions(
-    walk: Walk<'_>,
-    notes: &mut Notes,
-    values: Values,
-    to: usize,
-) -> Result<usize, Memory> {
+fn definitions(walk: Walk<'_>, notes: &mut Notes, values: Values, to: usize) -> usize {
     if walk.depth == 0 {
-        notes.complain(walk.source, values.equal, Fault::TooDeep)?;
-        return Ok(to);
+        notes.complain(walk.source, values.equal, Fault::TooDeep);
+        return to;
     }
     let source = walk.source;
     let mut commas = Vec::new(notes.alloc());
@@ -249,17 +231,20 @@ fn definitions(
             has_vector = true;
             start = behind(start, to);
         }
-        start = expression(walk.deeper(), notes, 1, start, to)?;
+        start = expression(walk.deeper(), notes, 1, start, to);
         if source.kind(start) != Kind::Comma || commas.len().saturating_add(1) >= values.count {
             break;
         }
-        commas.push(start)?;
+        if commas.push(start).is_err() {
+            notes.refuse();
+            break;
+        }
         start = behind(start, to);
     }
     if has_vector {
-        put_values(source, notes, values, commas.as_slice())?;
+        put_values(source, notes, values, commas.as_slice());
     }
-    Ok(start)
+    start
 }
 
 /// Whether an entry without a value ends in front of an index.
@@ -271,15 +256,15 @@ fn ends_entry(source: Source<'_>, index: usize, closing: usize) -> bool {
 
 /// GLOBAL, MANIFEST or STATIC with its entries. Gives the index behind the closing bracket.
 #[cycle(walk)]
-fn entries(walk: Walk<'_>, notes: &mut Notes, at: usize, to: usize) -> Result<usize, Memory> {
+fn entries(walk: Walk<'_>, notes: &mut Notes, at: usize, to: usize) -> usize {
     if walk.depth == 0 {
-        notes.complain(walk.source, at, Fault::TooDeep)?;
-        return Ok(to);
+        notes.complain(walk.source, at, Fault::TooDeep);
+        return to;
     }
     let source = walk.source;
     let opening = behind(at, to);
     if source.kind(opening) != Kind::OpenSection {
-        return Ok(opening);
+        return opening;
     }
     let closing = inside_end(source, opening, to);
     let mut entry = behind(opening, to);
@@ -291,181 +276,157 @@ fn entries(walk: Walk<'_>, notes: &mut Notes, at: usize, to: usize) -> Result<us
         let next = behind(entry, closing);
         if source.kind(entry) != Kind::Name {
             if source.kind(entry) == Kind::Comma {
-                notes.replace(entry, b";")?;
+                notes.replace(entry, b";");
             }
             entry = next;
         } else if matches!(source.kind(next), Kind::Equal | Kind::Colon) {
             let start = behind(next, closing);
-            let end = expression(walk.deeper(), notes, 2, start, closing)?;
-            tell_absolutes(source, notes, start, end)?;
+            let end = expression(walk.deeper(), notes, 2, start, closing);
+            tell_absolutes(source, notes, start, end);
             last = continued(source, start, end);
             entry = end.max(start);
         } else {
             if ends_entry(source, next, closing) {
-                last = put_entry(source, notes, at, entry, last)?;
+                last = put_entry(source, notes, at, entry, last);
             }
             entry = next;
         }
     }
-    Ok(behind(closing, to))
+    behind(closing, to)
 }
 
 /// The constants of a CASE. Gives the index behind them.
 #[cycle(walk)]
-fn cases(walk: Walk<'_>, notes: &mut Notes, at: usize, to: usize) -> Result<usize, Memory> {
+fn cases(walk: Walk<'_>, notes: &mut Notes, at: usize, to: usize) -> usize {
     if walk.depth == 0 {
-        notes.complain(walk.source, at, Fault::TooDeep)?;
-        return Ok(to);
+        notes.complain(walk.source, at, Fault::TooDeep);
+        return to;
     }
     let source = walk.source;
     let mut start = at;
     for _ in at..to {
-        let mut end = expression(walk.deeper(), notes, 2, start, to)?;
+        let mut end = expression(walk.deeper(), notes, 2, start, to);
         if source.kind(end) == Kind::To {
             let from = behind(end, to);
-            let last = expression(walk.deeper(), notes, 2, from, to)?;
-            put_range(source, notes, (start, end), (from, last))?;
+            let last = expression(walk.deeper(), notes, 2, from, to);
+            put_range(source, notes, (start, end), (from, last));
             end = last;
         }
-        tell_absolutes(source, notes, start, end)?;
+        tell_absolutes(source, notes, start, end);
         if source.kind(end) != Kind::Comma {
-            return Ok(end);
+            return end;
         }
-        replace_apart(source, notes, end, b": CASE")?;
+        replace_apart(source, notes, end, b": CASE");
         start = behind(end, to);
     }
-    Ok(start)
+    start
 }
 
 /// Writes out the cases of a range, whose constants stand between these indices.
-fn put_range(
-    source: Source<'_>,
-    notes: &mut Notes,
-    first: (usize, usize),
-    last: (usize, usize),
-) -> Result<(), Memory> {
-    let constants = (
-        case_constant(source, first.0, first.1),
-        case_constant(source, last.0, last.1),
-    );
-    if let (Some(low), Some(high)) = constants
-        && let Some(text) = cases_between(notes.alloc(), low, high)?
-    {
-        notes.take_gap(source, first.1);
-        return replace_apart(source, notes, first.1, text.as_slice());
+fn put_range(source: Source<'_>, notes: &mut Notes, first: (usize, usize), last: (usize, usize)) {
+    let low = case_constant(source, first.0, first.1);
+    let high = case_constant(source, last.0, last.1);
+    let text = cases_between(notes.alloc(), low, high);
+    match notes.made(text) {
+        Some(Some(text)) => {
+            notes.take_gap(source, first.1);
+            replace_apart(source, notes, first.1, text.as_slice());
+        }
+        _ => notes.complain(source, first.0, Fault::CaseRange),
     }
-    notes.complain(source, first.0, Fault::CaseRange)
 }
 
 /// What begins with an operand: an assignment, a call, or expressions with commas between them. Gives the index behind it.
 #[cycle(walk)]
-fn command(walk: Walk<'_>, notes: &mut Notes, at: usize, to: usize) -> Result<usize, Memory> {
+fn command(walk: Walk<'_>, notes: &mut Notes, at: usize, to: usize) -> usize {
     if walk.depth == 0 {
-        notes.complain(walk.source, at, Fault::TooDeep)?;
-        return Ok(to);
+        notes.complain(walk.source, at, Fault::TooDeep);
+        return to;
     }
     let source = walk.source;
-    let left = operand(walk.deeper(), notes, at, to, false)?;
+    let left = operand(walk.deeper(), notes, at, to, false);
     if is_compound(source, left.end) {
         return compound(walk.deeper(), notes, at, left, to);
     }
     if matches!(source.kind(left.end), Kind::Assign | Kind::Underline) {
         return assignment(walk.deeper(), notes, at, left, to);
     }
-    finish(notes, at, left)?;
-    let mut end = operators(walk.deeper(), notes, 0, at, left.end, to)?;
+    finish(notes, at, left);
+    let mut end = operators(walk.deeper(), notes, 0, at, left.end, to);
     let mut has_byte = left.byte.is_some();
     for _ in at..to {
         if source.kind(end) != Kind::Comma || end >= to {
             break;
         }
         let start = behind(end, to);
-        let further = operand(walk.deeper(), notes, start, to, false)?;
+        let further = operand(walk.deeper(), notes, start, to, false);
         has_byte = has_byte || further.byte.is_some();
-        finish(notes, start, further)?;
-        end = operators(walk.deeper(), notes, 0, start, further.end, to)?;
+        finish(notes, start, further);
+        end = operators(walk.deeper(), notes, 0, start, further.end, to);
     }
     if is_compound(source, end) {
-        notes.complain(source, end, Fault::OperatorInList)?;
+        notes.complain(source, end, Fault::OperatorInList);
         end = behind(behind(end, to), to);
     } else if has_byte && source.kind(end) == Kind::Assign {
-        notes.complain(source, at, Fault::ByteInList)?;
+        notes.complain(source, at, Fault::ByteInList);
     }
-    Ok(end.max(behind(at, to)))
+    end.max(behind(at, to))
 }
 
 /// An assignment to what was read, whose sign stands behind it.
 #[cycle(walk)]
-fn assignment(
-    walk: Walk<'_>,
-    notes: &mut Notes,
-    at: usize,
-    left: Operand,
-    to: usize,
-) -> Result<usize, Memory> {
+fn assignment(walk: Walk<'_>, notes: &mut Notes, at: usize, left: Operand, to: usize) -> usize {
     if walk.depth == 0 {
-        notes.complain(walk.source, at, Fault::TooDeep)?;
-        return Ok(to);
+        notes.complain(walk.source, at, Fault::TooDeep);
+        return to;
     }
     let source = walk.source;
     let start = behind(left.end, to);
     if let Some(percent) = left.byte {
-        let end = expression(walk.deeper(), notes, 1, start, to)?;
-        put_byte_of(source, notes, at, percent, left.end)?;
-        notes.put_behind(end, b")")?;
-        return Ok(end);
+        let end = expression(walk.deeper(), notes, 1, start, to);
+        put_byte_of(source, notes, at, percent, left.end);
+        notes.put_behind(end, b")");
+        return end;
     }
-    Ok(start)
+    start
 }
 
 /// An assignment with an operator to what was read, whose operator stands behind it.
 #[cycle(walk)]
-fn compound(
-    walk: Walk<'_>,
-    notes: &mut Notes,
-    at: usize,
-    left: Operand,
-    to: usize,
-) -> Result<usize, Memory> {
+fn compound(walk: Walk<'_>, notes: &mut Notes, at: usize, left: Operand, to: usize) -> usize {
     if walk.depth == 0 {
-        notes.complain(walk.source, at, Fault::TooDeep)?;
-        return Ok(to);
+        notes.complain(walk.source, at, Fault::TooDeep);
+        return to;
     }
     let source = walk.source;
     let start = behind(behind(left.end, to), to);
-    let right = operand(walk.deeper(), notes, start, to, false)?;
-    finish(notes, start, right)?;
-    let end = operators(walk.deeper(), notes, 1, start, right.end, to)?;
+    let right = operand(walk.deeper(), notes, start, to, false);
+    finish(notes, start, right);
+    let end = operators(walk.deeper(), notes, 1, start, right.end, to);
     if !is_plain(source, at, left.end) {
-        notes.complain(source, at, Fault::CallOnTheLeft)?;
-        return Ok(end);
+        notes.complain(source, at, Fault::CallOnTheLeft);
+        return end;
     }
     if end != right.end || matches!(source.kind(start), Kind::Add | Kind::Not) {
-        notes.put_before(start, b"(")?;
-        notes.put_behind(end, b")")?;
+        notes.put_before(start, b"(");
+        notes.put_behind(end, b")");
     }
-    put_compound(source, notes, at, left, end)?;
-    Ok(end)
+    put_compound(source, notes, at, left, end);
+    end
 }
 
 /// The expression that begins at an index, without operators that bind more loosely than a level. Gives the index behind it.
 #[cycle(walk)]
-fn expression(
-    walk: Walk<'_>,
-    notes: &mut Notes,
-    level: u8,
-    at: usize,
-    to: usize,
-) -> Result<usize, Memory> {
+fn expression(walk: Walk<'_>, notes: &mut Notes, level: u8, at: usize, to: usize) -> usize {
     if walk.depth == 0 {
-        notes.complain(walk.source, at, Fault::TooDeep)?;
-        return Ok(to);
+        notes.complain(walk.source, at, Fault::TooDeep);
+        return to;
     }
-    let left = operand(walk.deeper(), notes, at, to, false)?;
+    let left = operand(walk.deeper(), notes, at, to, false);
     if left.end <= at {
-        return Ok(at);
+        return at;
     }
-    finish(notes, at, left)?;
+    finish(notes, at, left);
     operators(walk.deeper(), notes, level, at, left.end, to)
 }
 
@@ -479,10 +440,10 @@ fn operators(
     at: usize,
     from: usize,
     to: usize,
-) -> Result<usize, Memory> {
+) -> usize {
     if walk.depth == 0 {
-        notes.complain(walk.source, at, Fault::TooDeep)?;
-        return Ok(to);
+        notes.complain(walk.source, at, Fault::TooDeep);
+        return to;
     }
     let source = walk.source;
     let mut end = from;
@@ -494,14 +455,14 @@ fn operators(
         }
         let start = behind(end, to);
         let next = if operator == 1 {
-            choice(walk.deeper(), notes, start, to)?
+            choice(walk.deeper(), notes, start, to)
         } else {
-            expression(walk.deeper(), notes, operator.saturating_add(1), start, to)?
+            expression(walk.deeper(), notes, operator.saturating_add(1), start, to)
         };
         if operator == 7 {
             let state = match chain {
                 None => ChainState::Single,
-                Some(chain) => chain.join(source, notes, level > 4)?,
+                Some(chain) => chain.join(source, notes, level > 4),
             };
             chain = Some(Chain {
                 at,
@@ -510,73 +471,67 @@ fn operators(
                 state,
             });
         } else if operator < 7 {
-            close(notes, end, chain)?;
+            close(notes, end, chain);
             chain = None;
         }
         end = next;
     }
-    close(notes, end, chain)?;
-    Ok(end)
+    close(notes, end, chain);
+    end
 }
 
 /// Closes what was read of a chain of relations.
-fn close(notes: &mut Notes, end: usize, chain: Option<Chain>) -> Result<(), Memory> {
+fn close(notes: &mut Notes, end: usize, chain: Option<Chain>) {
     match chain {
-        None => Ok(()),
+        None => {}
         Some(chain) => close_chain(notes, end, chain.state),
     }
 }
 
 /// The two parts behind `->`.
 #[cycle(walk)]
-fn choice(walk: Walk<'_>, notes: &mut Notes, at: usize, to: usize) -> Result<usize, Memory> {
+fn choice(walk: Walk<'_>, notes: &mut Notes, at: usize, to: usize) -> usize {
     if walk.depth == 0 {
-        notes.complain(walk.source, at, Fault::TooDeep)?;
-        return Ok(to);
+        notes.complain(walk.source, at, Fault::TooDeep);
+        return to;
     }
-    let end = expression(walk.deeper(), notes, 1, at, to)?;
+    let end = expression(walk.deeper(), notes, 1, at, to);
     if walk.source.kind(end) != Kind::Comma {
-        return Ok(end);
+        return end;
     }
     expression(walk.deeper(), notes, 1, behind(end, to), to)
 }
 
 /// The operand that begins at an index; with calls alone behind it, where `calls_only` says so, and else with `!` and `%` too.
 #[cycle(walk)]
-fn operand(
-    walk: Walk<'_>,
-    notes: &mut Notes,
-    at: usize,
-    to: usize,
-    calls_only: bool,
-) -> Result<Operand, Memory> {
+fn operand(walk: Walk<'_>, notes: &mut Notes, at: usize, to: usize, calls_only: bool) -> Operand {
     if walk.depth == 0 || at >= to {
-        return Ok(Operand::plain(at));
+        return Operand::plain(at);
     }
     let source = walk.source;
     let next = behind(at, to);
     match source.kind(at) {
         Kind::Add => {
-            drop_plus(source, notes, at)?;
-            Ok(Operand::plain(expression(walk.deeper(), notes, 9, next, to)?))
+            drop_plus(source, notes, at);
+            Operand::plain(expression(walk.deeper(), notes, 9, next, to))
         }
-        Kind::Not => Ok(Operand::plain(expression(walk.deeper(), notes, 6, next, to)?)),
-        Kind::Abs => Ok(Operand::plain(absolute(walk.deeper(), notes, at, to)?)),
+        Kind::Not => Operand::plain(expression(walk.deeper(), notes, 6, next, to)),
+        Kind::Abs => Operand::plain(absolute(walk.deeper(), notes, at, to)),
         Kind::Bang | Kind::Address | Kind::Content => {
-            let inner = operand(walk.deeper(), notes, next, to, false)?;
-            finish(notes, next, inner)?;
-            Ok(Operand::plain(inner.end))
+            let inner = operand(walk.deeper(), notes, next, to, false);
+            finish(notes, next, inner);
+            Operand::plain(inner.end)
         }
         Kind::Valof if source.kind(next) == Kind::OpenSection => {
-            Ok(Operand::plain(bracket(walk.deeper(), notes, next, to)?))
+            Operand::plain(bracket(walk.deeper(), notes, next, to))
         }
-        Kind::Valof | Kind::Table => Ok(Operand::plain(next)),
+        Kind::Valof | Kind::Table => Operand::plain(next),
         Kind::OpenRound => {
-            let end = bracket(walk.deeper(), notes, at, to)?;
+            let end = bracket(walk.deeper(), notes, at, to);
             selected(walk.deeper(), notes, at, end, to, calls_only)
         }
         kind if kind.can_be_operand() => selected(walk.deeper(), notes, at, next, to, calls_only),
-        _ => Ok(Operand::plain(at)),
+        _ => Operand::plain(at),
     }
 }
 
@@ -586,9 +541,9 @@ fn ends_a_word(bytes: &[u8]) -> bool {
 }
 
 /// Takes out a sign that is `+`, where it is no operator between two operands.
-fn drop_plus(source: Source<'_>, notes: &mut Notes, at: usize) -> Result<(), Memory> {
+fn drop_plus(source: Source<'_>, notes: &mut Notes, at: usize) {
     if source.bytes(at) != b"+".as_slice() {
-        return Ok(());
+        return;
     }
     let runs_on = at > 0 && source.gap(at).is_empty() && ends_a_word(source.bytes(at - 1));
     let blank: &[u8] = if runs_on { b" " } else { b"" };
@@ -623,9 +578,9 @@ fn selected(
     from: usize,
     to: usize,
     calls_only: bool,
-) -> Result<Operand, Memory> {
+) -> Operand {
     if walk.depth == 0 {
-        return Ok(Operand::plain(from));
+        return Operand::plain(from);
     }
     let source = walk.source;
     let mut whole = Operand::plain(from);
@@ -636,22 +591,22 @@ fn selected(
         }
         let kind = source.kind(here);
         if kind == Kind::OpenRound {
-            finish(notes, at, whole)?;
-            whole = Operand::plain(bracket(walk.deeper(), notes, here, to)?);
+            finish(notes, at, whole);
+            whole = Operand::plain(bracket(walk.deeper(), notes, here, to));
         } else if calls_only {
             break;
         } else if is_star_subscript(walk, here) && is_number_alone(source, at, here) {
-            notes.complain(source, here, Fault::StarProduct)?;
+            notes.complain(source, here, Fault::StarProduct);
             break;
         } else if is_star_subscript(walk, here) {
-            finish(notes, at, whole)?;
-            notes.replace(here, b"!")?;
-            whole = Operand::plain(bracket(walk.deeper(), notes, behind(here, to), to)?);
+            finish(notes, at, whole);
+            notes.replace(here, b"!");
+            whole = Operand::plain(bracket(walk.deeper(), notes, behind(here, to), to));
         } else if kind == Kind::Bang || kind == Kind::Percent {
-            finish(notes, at, whole)?;
+            finish(notes, at, whole);
             let start = behind(here, to);
-            let inner = operand(walk.deeper(), notes, start, to, true)?;
-            finish(notes, start, inner)?;
+            let inner = operand(walk.deeper(), notes, start, to, true);
+            finish(notes, start, inner);
             let byte = if kind == Kind::Percent {
                 Some(here)
             } else {
@@ -665,22 +620,22 @@ fn selected(
             break;
         }
     }
-    Ok(whole)
+    whole
 }
 
 /// ABS and its operand.
 #[cycle(walk)]
-fn absolute(walk: Walk<'_>, notes: &mut Notes, at: usize, to: usize) -> Result<usize, Memory> {
+fn absolute(walk: Walk<'_>, notes: &mut Notes, at: usize, to: usize) -> usize {
     if walk.depth == 0 {
-        notes.complain(walk.source, at, Fault::TooDeep)?;
-        return Ok(to);
+        notes.complain(walk.source, at, Fault::TooDeep);
+        return to;
     }
     let source = walk.source;
     let start = behind(at, to);
-    let end = expression(walk.deeper(), notes, 10, start, to)?;
+    let end = expression(walk.deeper(), notes, 10, start, to);
     if end <= start {
-        return Ok(start);
+        return start;
     }
-    put_absolute(source, notes, at, end)?;
-    Ok(end)
+    put_absolute(source, notes, at, end);
+    end
 }

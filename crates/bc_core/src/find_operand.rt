@@ -65,7 +65,8 @@ fn sum(left: &CoreExp, right: &CoreExp) -> Option<Operand>
     }
 }
 
-fn content(operand: Option<Operand>) -> Option<Operand>
+/// The content of the cell at an operand, if one instruction can take it.
+pub fn content(operand: Option<Operand>) -> Option<Operand>
     ensures { result ≡ content_of operand }
 {
     let operand = operand?;

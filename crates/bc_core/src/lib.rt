@@ -15,6 +15,6 @@ pub use command::{
 };
 pub use copies::{copy, copy_expression};
 pub use expression::{CoreExp, Root};
-pub use find_operand::{constant, operand};
+pub use find_operand::{constant, content, operand};
 pub use operands::Operand;
 pub use sections::Core;

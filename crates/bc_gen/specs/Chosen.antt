@@ -1,6 +1,6 @@
 -- The choice of the roots' code: each root's derivation of least words, by the second table.
 use Rattle.bc_rules_defs.specs.declared.rule.Table.TheVariants.{Two}
-use Rattle.bc_select_defs.specs.LeastOf.{least_derivation}
+use Rattle.bc_select_defs.specs.LeastDerivation.{least_derivation}
 use Rattle.bc_gen_defs.specs.Bodies.{Coding, coding_of}
 
 unfoldable pub coding : Coding

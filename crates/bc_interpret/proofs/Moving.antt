@@ -1,6 +1,5 @@
 -- What steps and runs of steps keep.
 use Rattle.std.proofs.Common.{◌≡◌, ℕ, suc, ◌+◌, ◌<◌, ◌≤◌, List, [], refl, ap, subst, arith, ◌∙◌}
-use Rattle.std.specs.Prelude.{Result, Ok, IfOk}
 use Rattle.bc_machine_defs.specs.Streams.{Content}
 use Rattle.bc_machine_defs.specs.StreamCalls.{output_of}
 use Rattle.bc_core.specs.Map.{Placed}
@@ -46,9 +45,6 @@ use Rattle.bc_interpret.specs.Moving.{HasProgram, at_of, weight_of, StepIs, left
 
 no_streams : Content
 no_streams = record { inputs = []; outputs = []; input = 0; output = 0 }
-
-pub ok_is : {A E : Type 0} (r : Result A E) (x : A) (P : A → Type 0) → r ≡ Ok x → IfOk r P → P x
-ok_is r x P e h = subst (λ q. IfOk q P) e h
 
 -- what comes of a step is what was left
 through : (program : List Placed) (n : ℕ) (w : Work) (rests : List Rest) (old : State) (streams : Content) (o : Outcome machine.At) → step program (at_of w rests).work (at_of w rests).rests (state_of old streams) ≡ o → old.turns < n → left_of program n w rests old streams ≡ result_of (followed o (meant (calls program n)))

@@ -1,10 +1,10 @@
 -- Worked examples: which wild access an expression without call fails by.
-use Rattle.std.specs.Prelude.{◌≡◌, ℕ, false, [], ◌∷◌, List, refl}
-use Rattle.bc_word.specs.declared.operator.Op.TheVariants.{Add, Divide, And}
-use Rattle.bc_core.specs.Tree.{Exp, Num, Frame, Load, Neg, Bin, Cond, Valof}
+use Rattle.std.specs.Prelude.{◌≡◌, ℕ, [], ◌∷◌, List, refl}
+use Rattle.bc_word.specs.declared.operator.Op.TheVariants.{Add, Divide}
+use Rattle.bc_core.specs.Tree.{Exp, Num, Frame, Load, Bin, Cond}
 use Rattle.bc_core.specs.Store.{Cell, Dead, Unset, Set}
 use Rattle.bc_interpret_defs.specs.Causes as causes
-use Rattle.bc_interpret_defs.specs.Quiet.{Sight, Worth, Is, Divides, Fails, worth}
+use Rattle.bc_interpret_defs.specs.Quiet.{Worth, Is, Divides, Fails, worth}
 
 -- ---- Worked examples
 

@@ -1,5 +1,5 @@
 -- Worked examples: which wild access a step meets, and which it doesn't.
-use Rattle.std.specs.Prelude.{◌≡◌, ℕ, List, [], ◌∷◌, refl}
+use Rattle.std.specs.Prelude.{List, [], ◌∷◌, refl}
 use Rattle.std.proofs.Common.{arith}
 use Rattle.bc_machine_defs.specs.StreamStart.{start_streams}
 use Rattle.bc_core.specs.Tree.{Frame, Load}
@@ -7,8 +7,8 @@ use Rattle.bc_core.specs.Store.{Cell}
 use Rattle.bc_core.specs.Store as cells
 use Rattle.bc_core.specs.Outcome.{State}
 use Rattle.bc_core.specs.Primitive.{WriteByte}
-use Rattle.bc_interpret_defs.specs.Causes.{Cause, Unset, Dead, NoCell, NotRoutine, FrameTooLarge, Malformed}
-use Rattle.bc_interpret_defs.specs.Machine.{Spot, Number, Work, Evaluate, Give, Rest, Loads, Calls, Closes, At}
+use Rattle.bc_interpret_defs.specs.Causes.{Unset, Dead, NotRoutine, FrameTooLarge, Malformed}
+use Rattle.bc_interpret_defs.specs.Machine.{Spot, Number, Work, Evaluate, Give, Loads, Calls, Closes}
 use Rattle.bc_interpret_defs.specs.Meeting.{Meets, ByCell, ByArgument, ByCall, ByForm, ComesTo}
 
 -- ---- Worked examples

@@ -1,12 +1,12 @@
 -- Each step keeps what is left, and lessens it.
-use Rattle.std.proofs.Common.{◌≡◌, ◌<◌, ℕ, List, [], ◌∷◌, refl, sym, ap, subst, ◌∙◌, Bool}
-use Rattle.bc_interpret_defs.specs.Quiet.{QuietWork, QuietRest, QuietAt, quiet_step, quiet_meant, quiet_after, quiet_weight, IsLighter, QuietMoves, as_number, as_verdict}
+use Rattle.std.proofs.Common.{◌≡◌, ℕ, List, ◌∷◌, refl, sym, ap, subst, ◌∙◌, Bool}
+use Rattle.bc_interpret_defs.specs.Quiet.{QuietWork, QuietRest, quiet_step, quiet_after, quiet_weight, IsLighter, QuietMoves, as_number, as_verdict}
 use Rattle.bc_interpret_defs.specs.Causes.{Cause, Malformed}
 use Rattle.bc_interpret_defs.specs.Quiet as quiet
 use Rattle.bc_interpret_laws.proofs.Worths.{quiet_steps_keep, quiet_steps_lessen}
 use Rattle.bc_interpret_quiet.specs.declared.forms.Step.{Step}
 use Rattle.bc_interpret_quiet.specs.declared.forms.Step.TheVariants as steps
-use Rattle.bc_interpret_quiet.specs.Views.{work_of, Came, Kept}
+use Rattle.bc_interpret_quiet.specs.Views.{Came, Kept}
 
 -- what came of a step keeps what is left
 pub kept : (S : quiet.Sight) (w : QuietWork) (rs : List QuietRest) (p : Step) (rs1 : List QuietRest) → QuietMoves w rs → Came p (quiet_step S w rs) rs1 → Kept p S w rs rs1

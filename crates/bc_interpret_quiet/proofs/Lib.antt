@@ -1,4 +1,4 @@
-pub mod Along
+pub mod Quick
 pub mod Kept
 pub mod Stacks
 pub mod Steps

@@ -1,4 +1,4 @@
-pub mod Along
+pub mod Quick
 pub mod Causes
 pub mod Views
 pub mod Waits

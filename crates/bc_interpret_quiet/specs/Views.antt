@@ -15,7 +15,7 @@ use Rattle.bc_interpret_quiet.specs.declared.worth.Worth.{Worth}
 use Rattle.bc_interpret_quiet.specs.declared.worth.Truth.{Truth}
 use Rattle.bc_interpret_quiet.specs.declared.worth.Truth.TheVariants as truth_forms
 use Rattle.bc_interpret_quiet.specs.declared.worth.Worth.TheVariants as worth_forms
-use Rattle.bc_interpret_defs.specs.Quiet.{worth, QuietWork, QuietRest, QuietStep, Stops, on, QuietAnswer, quiet_meant, quiet_weight}
+use Rattle.bc_interpret_defs.specs.Quiet.{worth, QuietWork, QuietRest, QuietStep, Stops, on, quiet_meant, quiet_weight}
 use Rattle.bc_interpret_defs.specs.Quiet as quiet
 
 abbrev pub sight_of : Sight → quiet.Sight

@@ -1,9 +1,10 @@
-// What an expression without call and VALOF is worth, worked out along the tree where it is no deeper than some bound.
+// The number or the truth of an expression without call and VALOF, worked out along the tree. Of one that is deeper than a bound, or that is
+// worth none, nothing is told.
 
 ghost use Rattle.std.specs.Prelude.{◌≡◌, false, IsTrue};
 ghost use Rattle.bc_core.specs.Value.{has_call};
 ghost use Rattle.bc_core.specs.View.{exp};
-ghost use Rattle.bc_interpret_quiet.specs.Along.{IsQuickValue, IsQuickTruth, IsWordAt};
+ghost use Rattle.bc_interpret_quiet.specs.Quick.{IsQuickValue, IsQuickTruth, IsWordAt};
 ghost use Rattle.bc_interpret_quiet.specs.Views.{sight_of};
 
 use crate::sight::{Sight, cell_of};
@@ -15,7 +16,7 @@ use bc_word::{Op, Word, apply};
 pub(crate) const DEPTH: usize = 16;
 
 /// Whether no call and no VALOF stands in an expression; false also where it is deeper than this.
-#[tactic(auto, using(crate::proofs::Along::neither))]
+#[tactic(auto, using(crate::proofs::Quick::neither))]
 fn is_quiet(e: &CoreExp, depth: usize) -> bool
     ensures { IsTrue result → has_call (exp e.now) ≡ false }
 {
@@ -47,7 +48,7 @@ fn word_at(sight: &Sight<'_>, address: u16) -> Option<u16>
 
 /// The number that an expression without call and VALOF is worth, if it is worth one. There is none also where it is deeper than this.
 #[cycle(quick)]
-#[tactic(auto, using(crate::proofs::Along::neither, crate::proofs::Along::worked_out, crate::proofs::Along::both_worked_out))]
+#[tactic(auto, using(crate::proofs::Quick::neither, crate::proofs::Quick::worked_out, crate::proofs::Quick::both_worked_out))]
 pub(crate) fn quick_value(sight: &Sight<'_>, e: &CoreExp, depth: usize) -> Option<u16>
     ensures { IsQuickValue (sight_of sight.now) (exp e.now) result }
 {
@@ -103,7 +104,7 @@ pub(crate) fn quick_value(sight: &Sight<'_>, e: &CoreExp, depth: usize) -> Optio
 
 /// The truth of an expression without call and VALOF, if it has one. There is none also where it is deeper than this.
 #[cycle(quick)]
-#[tactic(auto, using(crate::proofs::Along::neither, crate::proofs::Along::worked_out))]
+#[tactic(auto, using(crate::proofs::Quick::neither, crate::proofs::Quick::worked_out))]
 pub(crate) fn quick_truth(sight: &Sight<'_>, e: &CoreExp, depth: usize) -> Option<bool>
     ensures { IsQuickTruth (sight_of sight.now) (exp e.now) result }
 {

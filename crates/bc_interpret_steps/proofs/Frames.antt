@@ -1,9 +1,8 @@
 -- Frames of calls.
-use Rattle.std.proofs.Common.{◌≡◌, ◌+◌, ◌<◌, ◌≤◌, ℕ, Bool, true, false, inl, inr, List, Some, refl, sym, ap, ◌∙◌, arith}
+use Rattle.std.proofs.Common.{◌≡◌, ◌+◌, ◌<◌, ◌≤◌, ℕ, true, false, inl, inr, List, Some, refl, sym, ap, ◌∙◌, arith}
 use Rattle.std.specs.Prelude.{nat_le}
 use Rattle.std.proofs.lemmas.Bool.{le-leb}
 use Rattle.std.proofs.lemmas.Bool.Decides.{leb_tells}
-use Rattle.bc_machine_defs.specs.Streams.{Content}
 use Rattle.bc_core.specs.Meaning.{OfLibrary, passed, with_arguments}
 use Rattle.bc_core.specs.Outcome.{choose, in_turn, wild, followed, then_do, left}
 use Rattle.bc_core.specs.Primitive.{Primitive, primitive_work}

@@ -48,11 +48,6 @@ pub handed_loosely : (program : List Placed) (a : machine.Answer) (rs : List mac
 handed_loosely program a rs r rs0 old p rs1 vs1 new e h =
     subst (λ q. Stepped program (machine.Give a) q old p rs1 vs1 new) (sym e) (stepped_loosely program (machine.Give a) (r ∷ rs0) old p rs1 vs1 new tt h)
 
--- one of another kind than is wanted
-pub misplaced : (program : List Placed) (a : machine.Answer) (rs : List machine.Rest) (r : machine.Rest) (rs0 : List machine.Rest) (old : State) (rs1 : List machine.Rest) (vs1 : List ℕ) (new : State) → rs ≡ r ∷ rs0 → ((st : outcomes.State) → next program r a rs0 st ≡ outcomes.Wild) → Stepped program (machine.Give a) rs old (progress.Wild causes.Malformed) rs1 vs1 new
-misplaced program a rs r rs0 old rs1 vs1 new e h =
-    subst (λ q. Stepped program (machine.Give a) q old (progress.Wild causes.Malformed) rs1 vs1 new) (sym e) (malformed program (machine.Give a) (r ∷ rs0) old rs1 vs1 new tt h)
-
 -- a value that is called
 pub landed : (program : List Placed) (v : ℕ) (vs : List ℕ) (f : ℕ) (rs rs0 : List machine.Rest) (old : State) (p : Progress) (rs1 : List machine.Rest) (vs1 : List ℕ) (new : State) → rs ≡ machine.Calls vs f ∷ rs0 → Lands (machine.arrive (callee program v) vs f rs0) (callee program v) v vs f old p rs1 vs1 new → Stepped program (machine.Give (machine.Number v)) rs old p rs1 vs1 new
 landed program v vs f rs rs0 old p rs1 vs1 new e h =

@@ -9,7 +9,6 @@ pub mod Handing
 pub mod Listings
 pub mod Loads
 pub mod Loops
-pub mod Misplaced
 pub mod Performs
 pub mod Piles
 pub mod Quiet

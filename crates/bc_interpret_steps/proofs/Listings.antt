@@ -25,7 +25,7 @@ use Rattle.bc_interpret_steps.specs.declared.forms.Progress.{Progress}
 use Rattle.bc_interpret_steps.specs.declared.rests.Rest.{Rest}
 use Rattle.bc_interpret_steps.specs.Code.{entry_of, stack, given}
 use Rattle.bc_interpret_steps.specs.Came.{state_of, Came, CameOrMalformed, Goes}
-use Rattle.bc_interpret_steps.specs.Along.{IsAlong}
+use Rattle.bc_interpret_steps.specs.ListItems.{IsAlong}
 use Rattle.bc_interpret_steps.specs.Assigns.{IsNext, IsDone}
 use Rattle.bc_interpret_steps.proofs.Quiet.{loosen, same_came, moved_came}
 

@@ -1,14 +1,12 @@
 -- What is done with a number, case by case.
-use Rattle.std.proofs.Common.{◌≡◌, ◌≢◌, ℕ, List, Some, None, sym, ap, refl}
-use Rattle.std.specs.Prelude.{slice_set}
-use Rattle.bc_machine_defs.specs.Streams.{Content}
+use Rattle.std.proofs.Common.{◌≡◌, ℕ, List, Some, None, sym, ap}
 use Rattle.bc_word.specs.declared.operator.Op.{Op}
 use Rattle.bc_word.specs.Words.{value_of}
 use Rattle.bc_core.specs.Map.{Placed}
-use Rattle.bc_core.specs.Store.{Cell, Dead, Unset, Set, cell_at}
-use Rattle.bc_core.specs.Outcome.{State, Done, Ended, Wild, ZeroDivide, followed, content_of_cell, written, write}
+use Rattle.bc_core.specs.Store.{Dead, Unset, Set, cell_at}
+use Rattle.bc_core.specs.Outcome.{State, Done, Ended, Wild, ZeroDivide, followed, content_of_cell, write}
 use Rattle.bc_core.specs.Value.{given}
-use Rattle.bc_interpret_defs.specs.Machine.{Number, Nothing, Rest, Loads, Operated, StoresAt, Stored, give, next}
+use Rattle.bc_interpret_defs.specs.Machine.{Number, Nothing, Rest, Loads, Operated, StoresAt, give, next}
 
 pub loaded_dead : (program : List Placed) (v : ℕ) (rs : List Rest) (st : State) → Dead ≡ cell_at st.cells v → next program Loads (Number v) rs st ≡ Wild
 loaded_dead program v rs st e = ap (λ c. followed (content_of_cell c st) (λ x. give (Number x) rs)) (sym e)

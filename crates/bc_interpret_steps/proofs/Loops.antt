@@ -1,6 +1,5 @@
 -- Rounds of a FOR.
-use Rattle.std.proofs.Common.{◌≡◌, ◌+◌, ◌%◌, ℕ, Bool, true, false, List, ◌∷◌, sym, ap, refl, ◌∙◌}
-use Rattle.bc_machine_defs.specs.Streams.{Content}
+use Rattle.std.proofs.Common.{◌≡◌, ◌+◌, ◌%◌, ℕ, true, false, List, ◌∷◌, sym, ap, ◌∙◌}
 use Rattle.bc_word.specs.Words.{holds}
 use Rattle.bc_core.specs.Commands.{Block}
 use Rattle.bc_core.specs.Level.{level_in_for}
@@ -9,14 +8,12 @@ use Rattle.bc_core.specs.Map.{Placed}
 use Rattle.bc_core.specs.Exit.{Exit, Past}
 use Rattle.bc_core.specs.Store.{Dead, Unset, Set, cell_at}
 use Rattle.bc_core.specs.Outcome as outcomes
-use Rattle.bc_core.specs.Outcome.{Done, Wild, Going, followed, then_do, choose, content_of_cell, write, in_turn}
+use Rattle.bc_core.specs.Outcome.{Wild, followed, then_do, choose, content_of_cell, write, in_turn}
 use Rattle.bc_interpret_defs.specs.Machine.{Spot, Rest, Step, cell_of, go, give, enter, Left, ForBody, Round, round_step, behind, next}
 use Rattle.bc_interpret_steps.specs.declared.state.State.{State}
 use Rattle.bc_interpret_steps.specs.declared.forms.Progress.{Progress}
-use Rattle.bc_interpret_steps.specs.Came.{state_of, Came, Turned, Wrote}
+use Rattle.bc_interpret_steps.specs.Came.{state_of, Came}
 use Rattle.bc_interpret_steps.proofs.Quiet.{same_came}
-use Rattle.bc_interpret_quiet.specs.declared.sight.Cause.{Cause}
-use Rattle.std.proofs.Common.{Some, None}
 
 abbrev tested : Spot → (limit by : ℕ) → Block → ℕ → List Rest → ℕ → Step
 tested E limit by b s rs i = choose (holds (end_relation by) i limit) (give (Left Past) rs) (enter E b (level_in_for s) (ForBody E limit by b s ∷ rs))

@@ -4,9 +4,7 @@ use Rattle.bc_machine_defs.specs.Streams.{Content}
 use Rattle.bc_core.specs.Tree.{Exp}
 use Rattle.bc_core.specs.Commands as commands
 use Rattle.bc_core.specs.Store.{opened}
-use Rattle.bc_core.specs.Outcome as outcomes
-use Rattle.bc_core.specs.Outcome.{Done}
-use Rattle.bc_interpret_defs.specs.Machine.{Spot, Work, Rest, Evaluate, StoresAt, Limits, Closes, cell_of, go, perform_step}
+use Rattle.bc_interpret_defs.specs.Machine.{Spot, Rest, Evaluate, StoresAt, Limits, Closes, cell_of, go, perform_step}
 use Rattle.bc_interpret_steps.specs.declared.state.State.{State}
 use Rattle.bc_interpret_steps.specs.Came.{state_of}
 

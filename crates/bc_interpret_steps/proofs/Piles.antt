@@ -1,5 +1,5 @@
 -- The list of what is left to do, as the interpreter keeps it.
-use Rattle.std.proofs.Common.{◌≡◌, ℕ, Bool, List, [], ◌∷◌, ◌++◌, Option, Some, refl, sym, ap, ◌∙◌}
+use Rattle.std.proofs.Common.{◌≡◌, ℕ, Bool, List, [], ◌∷◌, ◌++◌, Some, refl, sym, ap, ◌∙◌}
 use Rattle.bc_interpret_defs.specs.Machine as machine
 use Rattle.bc_interpret_steps.specs.declared.rests.Rest.{Rest}
 use Rattle.bc_interpret_steps.specs.declared.rests.Rest.TheVariants as rests

@@ -1,5 +1,5 @@
 -- What is worked out at once.
-use Rattle.std.proofs.Common.{◌≡◌, ℕ, Bool, true, false, List, Option, Some, None, sym, ap, subst, ◌∷◌, ◌∙◌}
+use Rattle.std.proofs.Common.{◌≡◌, ℕ, Bool, true, false, List, Option, Some, sym, ap, subst, ◌∷◌, ◌∙◌}
 use Rattle.bc_machine_defs.specs.Streams.{Content}
 use Rattle.bc_core.specs.Tree.{Exp, Cond}
 use Rattle.bc_core.specs.Outcome as outcomes
@@ -25,8 +25,7 @@ use Rattle.bc_interpret_steps.specs.declared.state.State.{State}
 use Rattle.bc_interpret_steps.specs.declared.rests.Rest.{Rest}
 use Rattle.bc_interpret_steps.specs.declared.forms.Progress.{Progress}
 use Rattle.bc_interpret_steps.specs.declared.forms.Progress.TheVariants as progress
-use Rattle.bc_interpret_steps.specs.declared.forms.Work.{Work}
-use Rattle.bc_interpret_steps.specs.Code.{work_of, stack, given}
+use Rattle.bc_interpret_steps.specs.Code.{stack, given}
 use Rattle.bc_interpret_steps.specs.declared.forms.Ending.TheVariants as endings
 use Rattle.bc_interpret_steps.specs.Came.{state_of, Came, CameOrMalformed, Goes, GoesOrMalformed, progress_of, progress_of_truth, sight}
 
@@ -148,10 +147,6 @@ came_this t this that old p rs vs new e h = same_came (choose t this that) this 
 
 pub came_that : (t : Bool) (this that : machine.Step) (old : State) (p : Progress) (rs : List machine.Rest) (vs : List ℕ) (new : State) → t ≡ false → Came that old p rs vs new → Came (choose t this that) old p rs vs new
 came_that t this that old p rs vs new e h = same_came (choose t this that) that old p rs vs new (λ streams. ap (λ z. choose z this that (state_of old streams)) e) h
-
--- a step to some work
-pub went : (w : Work) (rs rs1 : List machine.Rest) (vs : List ℕ) (st : State) → rs1 ≡ rs → Came (machine.go (work_of vs w) rs) st (progress.On w) rs1 vs st
-went w rs rs1 vs st e = λ streams. ap (λ q. machine.go (work_of vs w) q (state_of st streams)) (sym e)
 
 -- behind a test
 pub tested_on : (E : machine.Spot) (e : Exp) (s : ℕ) (f : Bool → machine.Step) (r : machine.Rest) (rs : List machine.Rest) (old : State) (t : Bool) (p : Progress) (rs1 : List machine.Rest) (vs : List ℕ) (new : State) → has_call e ≡ false → quiet_forms.Is t ≡ (worth (sight old E) e).truth → Came (f t) old p rs1 vs new → Came (tested E e s f r rs) old p rs1 vs new

@@ -1,9 +1,6 @@
 -- Turns that are taken.
-use Rattle.std.proofs.Common.{◌≡◌, ◌+◌, ℕ, zero, suc, true, false, refl, ap, subst, sym, ◌∙◌, arith}
-use Rattle.bc_machine_defs.specs.Streams.{Content}
-use Rattle.bc_core.specs.Outcome.{taken, in_turn, Going}
-use Rattle.bc_core.specs.Outcome as outcomes
-use Rattle.bc_interpret_defs.specs.Machine as machine
+use Rattle.std.proofs.Common.{◌≡◌, ◌+◌, ℕ, suc, true, false, refl, ap, arith}
+use Rattle.bc_core.specs.Outcome.{taken}
 use Rattle.bc_interpret_steps.specs.declared.state.State.{State}
 use Rattle.bc_interpret_steps.specs.Came.{state_of, Turned}
 

@@ -7,7 +7,7 @@ use Rattle.bc_core.specs.View.{valof_of, block_of}
 use Rattle.bc_core.specs.Commands as commands
 use Rattle.bc_core.specs.declared.command.Valof.{Valof}
 use Rattle.bc_core.specs.Outcome.{State, wild}
-use Rattle.bc_interpret_defs.specs.Machine.{Spot, Step, Rest, go, Enter, Results, to_valof}
+use Rattle.bc_interpret_defs.specs.Machine.{Step, Rest, go, Enter, Results, to_valof}
 
 within : (ℕ → ℕ) → (p first : ℕ) → List commands.Valof → commands.Valof → (s : ℕ) → List Rest → Step
 within address p first vs v s rs = go (Enter (record { address = address; first = first; valofs = vs; frame = p }) v.body s) (Results ∷ rs)

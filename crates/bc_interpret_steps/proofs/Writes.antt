@@ -1,10 +1,9 @@
 -- Cells that are written.
 use Rattle.std.proofs.Common.{◌≡◌, ◌≢◌, ℕ, zero, suc, List, [], ◌∷◌, Some, None, sym, ap, subst, refl, ◌∙◌}
 use Rattle.std.specs.Prelude.{slice_set}
-use Rattle.bc_machine_defs.specs.Streams.{Content}
 use Rattle.bc_core.specs.Store.{Cell, Dead, Unset, Set, cell_at}
 use Rattle.bc_core.specs.Outcome as outcomes
-use Rattle.bc_core.specs.Outcome.{Done, Wild, written, write}
+use Rattle.bc_core.specs.Outcome.{Done, written}
 use Rattle.bc_interpret_defs.specs.Causes as causes
 use Rattle.bc_interpret_defs.specs.Causes.{StandsIn, Stood}
 use Rattle.bc_interpret_quiet.specs.declared.sight.Cause.TheVariants as quiet_causes

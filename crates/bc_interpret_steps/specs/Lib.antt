@@ -1,4 +1,4 @@
-pub mod Along
+pub mod ListItems
 pub mod Arrived
 pub mod Assigns
 pub mod Came

@@ -7,7 +7,7 @@ ghost use Rattle.bc_core.specs.Lists.{has_case as has_case_of, has_label as has_
 ghost use Rattle.bc_interpret_defs.specs.Machine as machine;
 ghost use Rattle.bc_interpret_steps.specs.Code.{spot_of, entry_of};
 ghost use Rattle.bc_interpret_steps.specs.Assigns.{IsNext};
-ghost use Rattle.bc_interpret_steps.specs.Along.{IsAlong};
+ghost use Rattle.bc_interpret_steps.specs.ListItems.{IsAlong};
 ghost use Rattle.bc_interpret_steps.specs.Stepped.{Proceeds};
 
 use crate::assign::{Assigned, command_at_once};
@@ -98,7 +98,8 @@ fn next_of(item: &ListItem, at: Entry) -> Next<'_>
     }
 }
 
-/// Puts what stands behind an assignment that is wild, or divides by zero, into what is left to do, so that its place is found.
+/// Puts what is left to do where an assignment is wild, or divides by zero: to pass it, and then the items behind it. By these its place
+/// is found.
 fn stop<'c>(
     spot: Spot<'c>,
     behind: &'c [ListItem],

@@ -1,6 +1,10 @@
 //! The library of the language, as source.
 #![tactic(auto)]
 
+mod names;
+
+pub use names::{is_of_library, library_name, library_word};
+
 /// The declarations that programs get by `GET "LIBHDR"`.
 pub const LIBHDR: &str = "\
 GLOBAL $( START:1; SELECTINPUT:11; SELECTOUTPUT:12; RDCH:13; WRCH:14

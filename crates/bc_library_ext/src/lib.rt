@@ -1,6 +1,10 @@
 //! The further library of the language, as source: what stands in the folder `library`, byte for byte.
 #![tactic(auto)]
 
+mod names;
+
+pub use names::{further_bit, further_word, is_of_further_library};
+
 /// The declarations that programs get by `GET "EXTHDR"`.
 pub const EXTHDR: &str =
     r#"// The header of the further library EXTLIB. It gets LIBHDR; of the names that both have, these are the ones that count.

@@ -189,7 +189,7 @@ impl<R: Read, W: Write> FileStreams<R, W> {
         ensures content { IfOk result (λ streams. file_content R.remaining W.contents streams ≡ opened (fresh_inputs R.remaining inputs.items)
             (fresh_outputs W.contents outputs.items)) }
         ensures told { IfOk result (λ streams. AllTell R.remaining inputs.items → AllTell W.contents outputs.items → AllTold R.remaining W.contents streams) }
-        // Where what the readers tell are bytes, as it always is of a reader that goes on to its end, the streams are known.
+        // Where what the readers tell are bytes, the streams are known.
         ensures known { IfOk result (λ streams. AllTell R.remaining inputs.items → HoldBytes (fresh_inputs R.remaining inputs.items)
             → AllTell W.contents outputs.items → IsKnown R.remaining W.contents streams) }
         ensures writers { IfOk result (λ streams. file_writers streams ≡ devices outputs.items) }

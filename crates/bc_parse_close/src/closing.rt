@@ -16,7 +16,8 @@ pub struct ClosedList<'s> {
     pub places: Vec<usize>,
 }
 
-fn is_symbol_end(symbol: Symbol) -> bool
+/// Whether a word or sign can end a command.
+pub fn is_symbol_end(symbol: Symbol) -> bool
     ensures { result ≡ symbol_ends symbol }
 {
     match symbol {
@@ -34,7 +35,8 @@ fn is_symbol_end(symbol: Symbol) -> bool
     }
 }
 
-fn is_symbol_beginning(symbol: Symbol) -> bool
+/// Whether a word or sign can begin a command.
+pub fn is_symbol_beginning(symbol: Symbol) -> bool
     ensures { result ≡ symbol_begins symbol }
 {
     match symbol {

@@ -5,5 +5,5 @@ mod closing;
 mod fault;
 pub mod laws;
 
-pub use closing::{ClosedList, close};
+pub use closing::{ClosedList, close, is_symbol_beginning, is_symbol_end};
 pub use fault::CloseFault;

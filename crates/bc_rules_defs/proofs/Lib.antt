@@ -2,3 +2,4 @@ pub mod ByShape
 pub mod Words
 pub mod Tables
 pub mod Likeness
+pub mod TableParts

@@ -4,6 +4,7 @@ pub mod Rules
 pub mod Piece
 pub mod Code
 pub mod Parts
+pub mod Takes
 pub mod ByShape
 pub mod Entry
 pub mod View

@@ -1,6 +1,7 @@
 //! Laws of derivations. Each is the contract of a function that does nothing.
 
 ghost use Rattle.bc_rules_defs.specs.Laws.{WordsAreCost, WordsOfCode, ShapeTells, TwoHasAll};
+ghost use Rattle.bc_rules_defs.specs.Takes.{TableHasParts};
 
 /// The words of the code of a root's derivation are its cost.
 pub fn words_are_cost()
@@ -20,4 +21,9 @@ pub fn shape_tells()
 /// A derivation by either table is one by table 2, with the same rules and the same code.
 pub fn two_has_all()
     ensures { TwoHasAll }
+{}
+
+/// What a rule takes is the parts that it has, at each expression and at each assignment where it applies.
+pub fn table_has_parts()
+    ensures { TableHasParts }
 {}

@@ -8,6 +8,7 @@ pub mod laws;
 mod names;
 mod piece;
 mod rule;
+mod takes;
 
 pub use derivation::Derivation;
 pub use entry::Entry;
@@ -15,3 +16,4 @@ pub use facts::{is_direct, is_zero, jumps, number_words, operand_words};
 pub use names::RULES;
 pub use piece::Piece;
 pub use rule::{Aim, Mode, Rule, Table};
+pub use takes::Takes;

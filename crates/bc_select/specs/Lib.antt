@@ -1,6 +1,5 @@
 pub mod Small
 pub mod Vector
-pub mod Planned
 pub mod Reads
 pub mod Cut
 pub mod Laid

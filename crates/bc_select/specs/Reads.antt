@@ -11,13 +11,13 @@ use Rattle.bc_rules_defs.specs.declared.rule.Aim.TheVariants.{Gets, Jumps}
 use Rattle.bc_rules_defs.specs.declared.rule.Rule.{Rule}
 use Rattle.bc_rules_defs.specs.Rules.{Trees}
 use Rattle.bc_select_defs.specs.Choices.{zero_number}
-use Rattle.bc_select_defs.specs.Readings.{push_parts, value_parts, test_parts, leaf_parts, part_parts, not_parts, pair_parts, cond_parts, call_parts, readings, readings_of_all}
+use Rattle.bc_select_defs.specs.Readings.{push_parts, value_parts, test_parts, leaf_parts, part_parts, pair_parts, cond_parts, call_parts, readings, readings_of_all}
 
 -- the parts that an expression's own rules have
 abbrev pub own_parts : Exp → ℕ → Aim → Rule → Trees
 own_parts (Load e) s = part_parts (readings Two e s)
 own_parts (Neg e) s = part_parts (readings Two e s)
-own_parts (Not e) s = not_parts (readings Two e s)
+own_parts (Not e) s = part_parts (readings Two e s)
 own_parts (Bin op a b) s = pair_parts (zero_number (constant_of b)) (readings Two a (s + 1)) (readings Two b (s + 1))
 own_parts (Cond c x y) s = cond_parts (readings Two c s) (readings Two x s) (readings Two y s)
 own_parts (Call es f) s = call_parts (readings_of_all Two es (s + 2)) (readings Two f (s + 2 + count es))

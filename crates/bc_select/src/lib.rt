@@ -8,7 +8,6 @@ mod line;
 mod mark;
 mod pair;
 mod part;
-mod plan;
 mod reading;
 mod row;
 mod selection;

@@ -1,14 +1,13 @@
 // The parts that a rule has, put behind what waits to be read.
 
-ghost use Rattle.std.specs.Prelude.{◌≡◌, ℕ, List, ◌≤◌, ◌+◌, ◌*◌, ◌^◌, ◌++◌, OnOk, cond};
+ghost use Rattle.std.specs.Prelude.{◌≡◌, ℕ, List, ◌≤◌, ◌+◌, ◌*◌, ◌^◌, ◌++◌, OnOk};
 ghost use Rattle.bc_core.specs.Tree as tree;
 ghost use Rattle.bc_core.specs.View.{exp, args};
 ghost use Rattle.bc_core.specs.WellFormed.{nodes as nodes_in, nodes_of_args};
 ghost use Rattle.bc_rules_defs.specs.declared.rule.Table.TheVariants.{Two};
-ghost use Rattle.bc_rules_defs.specs.Rules.{end_with, one as one_tree};
-ghost use Rattle.bc_select_defs.specs.Readings.{tree_for, readings, readings_of_all, pair_parts, cond_parts, turned as turned_of};
+ghost use Rattle.bc_rules_defs.specs.Rules.{end_with};
+ghost use Rattle.bc_select_defs.specs.Readings.{readings, readings_of_all, two_taken, part_parts, pair_parts, cond_parts};
 ghost use Rattle.bc_core.specs.Tree.{Exp, count};
-ghost use Rattle.bc_select.specs.Planned.{side as side_of};
 ghost use Rattle.bc_select_defs.specs.Choices.{zero_number};
 ghost use Rattle.bc_core.specs.Operand.{constant_of};
 ghost use Rattle.bc_select_defs.specs.Chosen.{assign_parts};
@@ -18,25 +17,14 @@ ghost use Rattle.bc_select.specs.declared.part.Part.{Part};
 ghost use Rattle.bc_select.specs.Vector.{vector, before, before_all};
 ghost use Rattle.bc_select.specs.Reads.{own_parts, parts_for};
 
-use crate::plan::{Plan, Side, sides};
 use crate::table::Nodes;
 use crate::waiting::{Place, Step, Waiting, wait};
 use bc_core::{CoreExp, constant};
-use bc_rules_defs::{Aim, Mode, Rule};
+use bc_rules_defs::{Aim, Mode, Rule, Takes};
 use bc_select_defs::is_zero;
 use bc_word::Memory;
 
 pub const ANY: Aim = Aim::Gets(Mode::Any);
-
-/// What the part of NOT is for.
-fn turned(aim: Aim) -> Aim
-    ensures { result ≡ turned_of aim }
-{
-    match aim {
-        Aim::Gets(mode) => Aim::Gets(mode),
-        Aim::Jumps(sense) => Aim::Jumps(!sense),
-    }
-}
 
 /// Where the nodes of an expression's parts end, at its level.
 fn below(place: Place) -> Place
@@ -91,69 +79,94 @@ fn own<'a>(
     requires nodes { EndsAt nodes.now step.place.end (vector (exp e.now) step.place.level) }
     ensures { OnOk result (Added nodes.now waiting.old.items waiting.new.items (own_parts (exp e.now) step.place.level step.aim step.rule)) }
 {
-    let below = below(step.place);
+    let step = Step {
+        place: below(step.place),
+        ..step
+    };
     match e {
         CoreExp::Num(_)
         | CoreExp::Frame(_)
         | CoreExp::Glob(_)
         | CoreExp::Place(_)
         | CoreExp::Valof(_) => Ok(()),
-        CoreExp::Load(part) => wait(part, below, step.aim, nodes, waiting),
-        CoreExp::Neg(part) => wait(part, below, step.aim, nodes, waiting),
-        CoreExp::Not(part) => wait(part, below, turned(step.aim), nodes, waiting),
-        CoreExp::Bin(_, left, right) => {
-            let step = Step {
-                place: below,
-                ..step
-            };
-            pair_read(left, right, nodes, step, waiting)
-        }
+        CoreExp::Load(part) => one_read(part, nodes, step, waiting),
+        CoreExp::Neg(part) => one_read(part, nodes, step, waiting),
+        CoreExp::Not(part) => one_read(part, nodes, step, waiting),
+        CoreExp::Bin(_, left, right) => pair_read(left, right, nodes, step, waiting),
         CoreExp::Cond(condition, this, that) => {
-            let branches = Branches { this, that };
-            let step = Step {
-                place: below,
-                ..step
-            };
-            cond_read(condition, branches, nodes, step, waiting)
+            cond_read(condition, Branches { this, that }, nodes, step, waiting)
         }
-        CoreExp::Call(arguments, routine) => call_read(arguments, routine, nodes, below, waiting),
+        CoreExp::Call(arguments, routine) => {
+            call_read(arguments, routine, nodes, step.place, waiting)
+        }
     }
 }
 
-/// One of two operands, at its level, and where the nodes of both end.
+/// The one part, whose nodes end at the step's place.
+#[tactic(auto, using(crate::proofs::Waits::added_nothing))]
+fn one_read<'a>(
+    part: &'a CoreExp,
+    nodes: &Nodes,
+    step: Step,
+    waiting: &mut Vec<Waiting<'a>>,
+) -> Result<(), Memory>
+    requires fits { step.place.level + 2 * nodes_in (exp part.now) ≤ 2 ^ 40 }
+    requires nodes { EndsAt nodes.now step.place.end (vector (exp part.now) step.place.level) }
+    ensures { OnOk result (Added nodes.now waiting.old.items waiting.new.items (part_parts (readings Two (exp part.now) step.place.level) step.aim step.rule)) }
+{
+    match step.rule.takes(step.aim, false) {
+        Takes::First(aim) => wait(part, step.place, aim, nodes, waiting),
+        Takes::Nothing
+        | Takes::Second(_)
+        | Takes::InOrder(_, _)
+        | Takes::Turned(_, _)
+        | Takes::Choice(_)
+        | Takes::Call => Ok(()),
+    }
+}
+
+/// What is taken of two parts at a level, and where the nodes of both end.
 #[derive(Clone, Copy)]
-struct Operand {
-    side: Side,
+struct Taken {
+    takes: Takes,
     place: Place,
 }
 
-/// One of two operands.
-#[tactic(auto, using(crate::proofs::Ends::last_part))]
-fn operand_read<'a>(
-    left: &'a CoreExp,
-    right: &'a CoreExp,
+/// Two parts at one level.
+#[tactic(auto, using(crate::proofs::Ends::last_part, crate::proofs::Waits::added_nothing, crate::proofs::Waits::added_two))]
+fn two_read<'a>(
+    first: &'a CoreExp,
+    second: &'a CoreExp,
     nodes: &Nodes,
-    operand: Operand,
+    taken: Taken,
     waiting: &mut Vec<Waiting<'a>>,
 ) -> Result<(), Memory>
-    requires fits { operand.place.level + 2 * (nodes_in (exp left.now) + nodes_in (exp right.now)) ≤ 2 ^ 40 }
-    requires nodes { EndsAt nodes.now operand.place.end (vector (exp left.now) operand.place.level ++ vector (exp right.now) operand.place.level) }
-    ensures { OnOk result (Added nodes.now waiting.old.items waiting.new.items (one_tree (side_of operand.side (readings Two (exp left.now) operand.place.level) (readings Two (exp right.now) operand.place.level)))) }
+    requires fits { taken.place.level + 2 * (nodes_in (exp first.now) + nodes_in (exp second.now)) ≤ 2 ^ 40 }
+    requires nodes { EndsAt nodes.now taken.place.end (vector (exp first.now) taken.place.level ++ vector (exp second.now) taken.place.level) }
+    ensures { OnOk result (Added nodes.now waiting.old.items waiting.new.items (two_taken taken.takes (readings Two (exp first.now) taken.place.level) (readings Two (exp second.now) taken.place.level))) }
 {
-    let Operand { side, place } = operand;
-    if side.right {
-        wait(right, place, side.aim, nodes, waiting)
-    } else {
-        let first = Place {
-            level: place.level,
-            end: start(nodes, place.end),
-        };
-        wait(left, first, side.aim, nodes, waiting)
+    let behind = taken.place;
+    let front = Place {
+        level: behind.level,
+        end: start(nodes, behind.end),
+    };
+    match taken.takes {
+        Takes::Nothing | Takes::Choice(_) | Takes::Call => (),
+        Takes::First(aim) => wait(first, front, aim, nodes, waiting)?,
+        Takes::Second(aim) => wait(second, behind, aim, nodes, waiting)?,
+        Takes::InOrder(x, y) => {
+            wait(first, front, x, nodes, waiting)?;
+            wait(second, behind, y, nodes, waiting)?;
+        }
+        Takes::Turned(x, y) => {
+            wait(second, behind, y, nodes, waiting)?;
+            wait(first, front, x, nodes, waiting)?;
+        }
     }
+    Ok(())
 }
 
 /// The parts of a binary operator, whose nodes end at the step's place.
-#[tactic(auto, using(crate::proofs::Waits::added_nothing, crate::proofs::Waits::added_two))]
 fn pair_read<'a>(
     left: &'a CoreExp,
     right: &'a CoreExp,
@@ -165,19 +178,14 @@ fn pair_read<'a>(
     requires nodes { EndsAt nodes.now step.place.end (vector (exp left.now) (step.place.level + 1) ++ vector (exp right.now) (step.place.level + 1)) }
     ensures { OnOk result (Added nodes.now waiting.old.items waiting.new.items (pair_parts (zero_number (constant_of (exp right.now))) (readings Two (exp left.now) (step.place.level + 1)) (readings Two (exp right.now) (step.place.level + 1)) step.aim step.rule)) }
 {
-    let place = Place {
-        level: step.place.level + 1,
-        end: step.place.end,
+    let taken = Taken {
+        takes: step.rule.takes(step.aim, is_zero(constant(right))),
+        place: Place {
+            level: step.place.level + 1,
+            end: step.place.end,
+        },
     };
-    match sides(is_zero(constant(right)), step.aim, step.rule) {
-        Plan::Nothing => (),
-        Plan::One(side) => operand_read(left, right, nodes, Operand { side, place }, waiting)?,
-        Plan::Two(x, y) => {
-            operand_read(left, right, nodes, Operand { side: x, place }, waiting)?;
-            operand_read(left, right, nodes, Operand { side: y, place }, waiting)?;
-        }
-    }
-    Ok(())
+    two_read(left, right, nodes, taken, waiting)
 }
 
 /// The branches of `condition -> this, that`.
@@ -210,18 +218,23 @@ fn cond_read<'a>(
         level,
         end: start(nodes, this.end),
     };
-    match step.rule {
-        Rule::V20 => {
+    match step.rule.takes(step.aim, false) {
+        Takes::Choice(false) => {
             wait(condition, test, Aim::Jumps(false), nodes, waiting)?;
             wait(branches.this, this, ANY, nodes, waiting)?;
             wait(branches.that, that, ANY, nodes, waiting)?;
         }
-        Rule::V21 => {
+        Takes::Choice(true) => {
             wait(condition, test, Aim::Jumps(true), nodes, waiting)?;
             wait(branches.that, that, ANY, nodes, waiting)?;
             wait(branches.this, this, ANY, nodes, waiting)?;
         }
-        _ => (),
+        Takes::Nothing
+        | Takes::First(_)
+        | Takes::Second(_)
+        | Takes::InOrder(_, _)
+        | Takes::Turned(_, _)
+        | Takes::Call => (),
     }
     Ok(())
 }
@@ -279,7 +292,6 @@ fn all_read<'a>(
 }
 
 /// The parts of an assignment, both sides of which stand at the step's level.
-#[tactic(auto, using(crate::proofs::Ends::last_part, crate::proofs::Waits::added_nothing, crate::proofs::Waits::added_two))]
 pub fn sides_read<'a>(
     value: &'a CoreExp,
     address: &'a CoreExp,
@@ -291,22 +303,9 @@ pub fn sides_read<'a>(
     requires nodes { EndsAt nodes.now step.place.end (vector (exp value.now) step.place.level ++ vector (exp address.now) step.place.level) }
     ensures { OnOk result (Added nodes.now waiting.old.items waiting.new.items (assign_parts (readings Two (exp value.now) step.place.level) (readings Two (exp address.now) step.place.level) step.rule)) }
 {
-    let second = step.place;
-    let first = Place {
-        level: second.level,
-        end: start(nodes, second.end),
+    let taken = Taken {
+        takes: step.rule.takes(ANY, false),
+        place: step.place,
     };
-    match step.rule {
-        Rule::A1 => wait(value, first, ANY, nodes, waiting)?,
-        Rule::A2 => {
-            wait(address, second, ANY, nodes, waiting)?;
-            wait(value, first, ANY, nodes, waiting)?;
-        }
-        Rule::A3 => {
-            wait(value, first, ANY, nodes, waiting)?;
-            wait(address, second, ANY, nodes, waiting)?;
-        }
-        _ => (),
-    }
-    Ok(())
+    two_read(value, address, nodes, taken, waiting)
 }

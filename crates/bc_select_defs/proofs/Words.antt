@@ -12,7 +12,7 @@ use Rattle.bc_rules_defs.specs.Rules.{Derives, Tree, Trees}
 use Rattle.bc_rules_defs.specs.Code.{cost}
 use Rattle.bc_select_defs.specs.declared.choice.Choice.{Choice}
 use Rattle.bc_select_defs.specs.declared.choice.Choices.{Choices}
-use Rattle.bc_select_defs.specs.Readings.{tree_for, tree_of, read_line, leaf_parts, part_parts, not_parts, pair_parts, cond_parts, call_parts, readings, readings_of_all}
+use Rattle.bc_select_defs.specs.Readings.{tree_for, tree_of, read_line, leaf_parts, part_parts, pair_parts, cond_parts, call_parts, readings, readings_of_all}
 use Rattle.bc_select_defs.specs.Least.{top, first_rule, IsLeastRule}
 use Rattle.bc_rules_defs.specs.Names.{rule_number}
 use Rattle.bc_select_defs.specs.Options.{words_of, rule_of}
@@ -41,7 +41,7 @@ begins T (Glob n) s aim c h = line_top _ leaf_parts aim c h
 begins T (Place m) s aim c h = line_top _ leaf_parts aim c h
 begins T (Load e) s aim c h = line_top _ (part_parts (readings T e s)) aim c h
 begins T (Neg e) s aim c h = line_top _ (part_parts (readings T e s)) aim c h
-begins T (Not e) s aim c h = line_top _ (not_parts (readings T e s)) aim c h
+begins T (Not e) s aim c h = line_top _ (part_parts (readings T e s)) aim c h
 begins T (Bin op a b) s aim c h = line_top _ (pair_parts (zero_number (constant_of b)) (readings T a (s + 1)) (readings T b (s + 1))) aim c h
 begins T (Cond b x y) s aim c h = line_top _ (cond_parts (readings T b s) (readings T x s) (readings T y s)) aim c h
 begins T (Call es f) s aim c h = line_top _ (call_parts (readings_of_all T es (s + 2)) (readings T f (s + 2 + count es))) aim c h

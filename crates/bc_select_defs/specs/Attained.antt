@@ -27,11 +27,12 @@ use Rattle.bc_select_defs.specs.declared.choice.Choices.{Choices}
 use Rattle.bc_select_defs.specs.declared.choice.Candidate.{Candidate}
 use Rattle.bc_select_defs.specs.Least.{top, first_rule, IsLeast, HasLeastParts, HaveLeastParts}
 use Rattle.bc_rules_defs.specs.Names.{rule_number}
+use Rattle.bc_rules_defs.specs.Takes.{beside}
 use Rattle.bc_select_defs.specs.Options.{plus, more, sum, only, operand_cost, words_of, candidate, least_from}
 use Rattle.bc_select_defs.specs.Choices.{choice_for, words_for, line, by_value, number_cost, zero_number, without, mixed, worked, number_tests, not_tests, pair_tests, has_tests_of_zero, node, choices, words_of_all}
 use Rattle.bc_select_defs.specs.Folds.{AtMost}
 use Rattle.bc_select_defs.specs.Lower.{lower, is_zero_is}
-use Rattle.bc_select_defs.specs.Readings.{Readings, tree_for, tree_of, push_parts, value_parts, test_parts, read_line, leaf_parts, part_parts, not_parts, pair_parts, cond_parts, call_parts, readings, readings_of_all}
+use Rattle.bc_select_defs.specs.Readings.{Readings, tree_for, tree_of, push_parts, value_parts, test_parts, read_line, leaf_parts, part_parts, two_taken, pair_parts, cond_parts, call_parts, readings, readings_of_all}
 use Rattle.bc_select_defs.specs.Makes.{Makes, makes_none, makes_some, makes_map, makes_plus, makes_more, makes_sum, makes_given, OperandOf, makes_operand, AllMade, all_append, Chosen, chosen_least}
 
 -- a derivation with this tree, whose parts are least ones
@@ -250,6 +251,11 @@ without_0 T operators.Or a b m s ca cb ra rb x y ha hb = makes_none _ _ _
 without_0 T operators.NotEquivalent a b m s ca cb ra rb x y ha hb = makes_none _ _ _
 without_0 T operators.Equivalent a b m s ca cb ra rb x y ha hb = makes_none _ _ _
 
+-- which is the part that is taken
+beside_taken : (aim : Aim) (zero : Bool) (ra rb : Readings) → one (tree_for aim (cond zero ra rb)) ≡ two_taken (beside aim zero) ra rb
+beside_taken aim true ra rb = refl
+beside_taken aim false ra rb = refl
+
 -- one operand is worked out, the other stands in the instruction
 beside_operand : (T : Table) (e e1 : Exp) (m : Mode) (s : ℕ) (p : Option Operand) (r : Rule) (x z : Option ℕ) (t : Tree) (c : Derives T e (Gets m)
     × OperandOf p → ℕ) (rule_of : Derives T e (Gets m) × OperandOf p → Derives T e1 (Gets m))
@@ -338,7 +344,8 @@ mixed_attained T op a b m s ca cb ra rb x y t ha hb = (
   (
     makes_only T op operators.Add a b (Gets m) s _ _ (makes_given _ _ _ (are_free a b) _ (λ free. by_v7 T a b m s y _ free hb)),
     (
-      without_0 T op a b m s ca cb ra rb x y ha hb,
+      subst (λ ts. Whole T (Bin op a b) (Gets m) s (by rule.V8 ts) (without op (node a ca) (node b cb) x y))
+          (beside_taken (Gets m) (zero_number (constant_of b)) ra rb) (without_0 T op a b m s ca cb ra rb x y ha hb),
       (
         makes_only T op operators.Subtract a b (Gets m) s _ _ (by_v9 T a b m s x _ ha),
         (
@@ -438,14 +445,14 @@ table_two : (T : Table) → IsTrue (has_tests_of_zero T) → T ≡ Two
 table_two tables.One h = cc
 table_two tables.Two h = refl
 
-test_of_zero : (T : Table) (a b g : Exp) (aim : Aim) (s : ℕ) (t : Tree) (r : Rule) (x : Option ℕ) (rule_of : (q : Beside T (beside_zero a b) (Gets Any))
+test_of_zero : (T : Table) (a b g : Exp) (aim : Aim) (s : ℕ) (t : Tree) (ts : Trees) (r : Rule) (x : Option ℕ) → one t ≡ ts → (rule_of : (q : Beside T (beside_zero a b) (Gets Any))
     → Derives T g aim) → ((q : Beside T (beside_zero a b) (Gets Any)) → cost (rule_of q) s ≡ cost q.derivation (s + 1) + 2)
     → ((q : Beside T (beside_zero a b) (Gets Any)) → shape (rule_of q) ≡ by r (one (shape q.derivation)))
     → ((q : Beside T (beside_zero a b) (Gets Any)) → IsLeast q.derivation (s + 1) × HasLeastParts q.derivation (s + 1) → HasLeastParts (rule_of q) s)
     → Makes (Beside T (beside_zero a b) (Gets Any)) (λ q. cost q.derivation (s + 1)) (λ q. IsPart (s + 1) t q.derivation) x
-    → Whole T g aim s (by r (one t)) (plus x 2)
-test_of_zero T a b g aim s t r x rule_of w sh least h =
-    makes_map _ _ _ _ _ _ _ rule_of w (λ q i. record { shape_is = sh q ∙ ap (λ y. by r (one y)) i.shape_is; parts = least q (least_parts i) })
+    → Whole T g aim s (by r ts) (plus x 2)
+test_of_zero T a b g aim s t ts r x is rule_of w sh least h =
+    makes_map _ _ _ _ _ _ _ rule_of w (λ q i. record { shape_is = sh q ∙ ap (λ y. by r (one y)) i.shape_is ∙ ap (by r) is; parts = least q (least_parts i) })
     (makes_plus _ _ _ x 2 h)
 
 tests_attained : (T : Table) (op : Op) (a b : Exp) (s : ℕ) (ca cb : Choices) (ra rb : Readings) → Attains T a (s + 1) ca ra → Attains T b (s + 1) cb rb
@@ -453,6 +460,7 @@ tests_attained : (T : Table) (op : Op) (a b : Exp) (s : ℕ) (ca cb : Choices) (
     → AllMake T (Bin op a b) (Jumps sense) s (test_parts t (pair_parts (zero_number (constant_of b)) ra rb (Jumps sense)))
     (pair_tests T op (node a ca) (node b cb) any sense)
 tests_attained T op a b s ca cb ra rb ha hb any t h false =
+    let taken = beside_taken (Gets Any) (zero_number (constant_of b)) ra rb in
     let zero = of_beside T a b (Gets Any) (s + 1) ra rb (words_of ca.any) (words_of cb.any) ha.any hb.any in (
       makes_only T op operators.And a b (Jumps false) s _ _
           (test_of_both T a b (Bin operators.And a b) (Jumps false) (Jumps false) (Jumps false) s _ _ rule.J2 _ _ (λ q. j2 q.0 q.1) (λ q. refl) (λ q. refl)
@@ -466,12 +474,12 @@ tests_attained T op a b s ca cb ra rb ha hb any t h false =
           (
             makes_given _ _ _ (has_tests_of_zero T) _
                 (λ k. makes_only T op operators.Equal a b (Jumps false) s _ _
-                (test_of_zero T a b (Bin operators.Equal a b) (Jumps false) s _ rule.J8 _ (λ q. j8 (table_two T k) q.is q.derivation) (λ q. refl)
+                (test_of_zero T a b (Bin operators.Equal a b) (Jumps false) s _ _ rule.J8 _ taken (λ q. j8 (table_two T k) q.is q.derivation) (λ q. refl)
                 (λ q. refl) (λ q i. i) zero)),
             (
               makes_given _ _ _ (has_tests_of_zero T) _
                   (λ k. makes_only T op operators.NotEqual a b (Jumps false) s _ _
-                  (test_of_zero T a b (Bin operators.NotEqual a b) (Jumps false) s _ rule.J9 _ (λ q. j9 (table_two T k) q.is q.derivation) (λ q. refl)
+                  (test_of_zero T a b (Bin operators.NotEqual a b) (Jumps false) s _ _ rule.J9 _ taken (λ q. j9 (table_two T k) q.is q.derivation) (λ q. refl)
                   (λ q. refl) (λ q i. i) zero)),
               tt,
             ),
@@ -480,6 +488,7 @@ tests_attained T op a b s ca cb ra rb ha hb any t h false =
       ),
     )
 tests_attained T op a b s ca cb ra rb ha hb any t h true =
+    let taken = beside_taken (Gets Any) (zero_number (constant_of b)) ra rb in
     let zero = of_beside T a b (Gets Any) (s + 1) ra rb (words_of ca.any) (words_of cb.any) ha.any hb.any in (
       makes_only T op operators.And a b (Jumps true) s _ _
           (test_of_both T a b (Bin operators.And a b) (Jumps false) (Jumps true) (Jumps true) s _ _ rule.J3 _ _ (λ q. j3 q.0 q.1) (λ q. refl) (λ q. refl)
@@ -493,12 +502,12 @@ tests_attained T op a b s ca cb ra rb ha hb any t h true =
           (
             makes_given _ _ _ (has_tests_of_zero T) _
                 (λ k. makes_only T op operators.Equal a b (Jumps true) s _ _
-                (test_of_zero T a b (Bin operators.Equal a b) (Jumps true) s _ rule.J8 _ (λ q. j8 (table_two T k) q.is q.derivation) (λ q. refl)
+                (test_of_zero T a b (Bin operators.Equal a b) (Jumps true) s _ _ rule.J8 _ taken (λ q. j8 (table_two T k) q.is q.derivation) (λ q. refl)
                 (λ q. refl) (λ q i. i) zero)),
             (
               makes_given _ _ _ (has_tests_of_zero T) _
                   (λ k. makes_only T op operators.NotEqual a b (Jumps true) s _ _
-                  (test_of_zero T a b (Bin operators.NotEqual a b) (Jumps true) s _ rule.J9 _ (λ q. j9 (table_two T k) q.is q.derivation) (λ q. refl)
+                  (test_of_zero T a b (Bin operators.NotEqual a b) (Jumps true) s _ _ rule.J9 _ taken (λ q. j9 (table_two T k) q.is q.derivation) (λ q. refl)
                   (λ q. refl) (λ q i. i) zero)),
               tt,
             ),
@@ -598,7 +607,7 @@ mutual
       (value_tests T (Neg e) s (part_parts (readings T e s)) refl)
   attained T (Not e) s =
       let h = attained T e s in
-      attains_line T (Not e) s _ _ (not_tests (choices T e s)) (not_parts (readings T e s)) (low_of T (Not e) s)
+      attains_line T (Not e) s _ _ (not_tests (choices T e s)) (part_parts (readings T e s)) (low_of T (Not e) s)
       (unary_push T e (Not e) Push s rule.V4 _ _ (λ d. v4 d) (λ d. refl) (λ d. refl) (λ d i. i) h.push, tt)
       (λ t. (unary_push T e (Not e) Any s rule.V4 _ _ (λ d. v4 d) (λ d. refl) (λ d. refl) (λ d i. i) h.any, tt))
       (λ any t p sense. (turned_part h sense, tt))

@@ -13,9 +13,10 @@ use Rattle.bc_rules_defs.specs.declared.rule.Aim.{Aim}
 use Rattle.bc_rules_defs.specs.declared.rule.Aim.TheVariants.{Gets, Jumps}
 use Rattle.bc_rules_defs.specs.declared.rule.Rule.{Rule}
 use Rattle.bc_rules_defs.specs.declared.rule.Rule.TheVariants as rule
+use Rattle.bc_rules_defs.specs.Takes.{takes}
 use Rattle.bc_rules_defs.specs.Free.{are_free}
 use Rattle.bc_rules_defs.specs.Piece.{w, operand_words}
-use Rattle.bc_rules_defs.specs.Rules.{Derives, v0, v1, v2, v3, v4, v17, v20, v22, v22_valof, j1, j2, j3, j4, j5, j6, DerivesAll, no_more, one_more, RootDerives, value, test, a1, a2, a3, Tree, Trees, by, no_part, one, two, shape, root_shape}
+use Rattle.bc_rules_defs.specs.Rules.{Derives, v0, v1, v2, v3, v4, v17, v20, v22, v22_valof, j1, j2, j3, j4, j5, j6, DerivesAll, no_more, one_more, RootDerives, value, test, a1, a2, a3, Tree, Trees, by, one, two, shape, root_shape}
 use Rattle.bc_rules_defs.specs.Code.{cost, root_cost}
 use Rattle.bc_select_defs.specs.declared.choice.Choice.{Choice}
 use Rattle.bc_select_defs.specs.declared.choice.Node.{Node}
@@ -25,7 +26,7 @@ use Rattle.bc_select_defs.specs.Options.{plus, sum, given, words_of, candidate, 
 use Rattle.bc_select_defs.specs.Choices.{choice_for, words_for, free, choices, node_of}
 use Rattle.bc_select_defs.specs.Folds.{Chooses, AtMost, by_rule, words}
 use Rattle.bc_select_defs.specs.Lower.{both, more_words, by_given, lower}
-use Rattle.bc_select_defs.specs.Readings.{Readings, tree_for, tree_of, readings}
+use Rattle.bc_select_defs.specs.Readings.{Readings, tree_for, tree_of, two_taken, readings}
 use Rattle.bc_select_defs.specs.Makes.{Made, Makes, makes_none, makes_some, makes_map, makes_plus, makes_sum, makes_given, Chosen, chosen_least}
 use Rattle.bc_select_defs.specs.Attained.{IsPart, Part, least_parts, part_for, attained}
 
@@ -44,10 +45,7 @@ root_choice T (Test s sense e) = choice_for (Jumps sense) (choices T e s)
 root_choice T (Assign s v a) = assign_choice (operand_of a) (node_of T v (side_level a s)) (node_of T a (side_level a s)) s
 
 abbrev pub assign_parts : (value address : Readings) → Rule → Trees
-assign_parts v a rule.A1 = one v.any
-assign_parts v a rule.A2 = two a.any v.any
-assign_parts v a rule.A3 = two v.any a.any
-assign_parts v a r = no_part
+assign_parts v a r = two_taken (takes r (Gets Any) false) v a
 
 abbrev pub root_reading : Table → Root → Tree
 root_reading T (Value s e) = (readings T e s).any

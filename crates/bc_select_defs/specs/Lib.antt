@@ -7,6 +7,6 @@ pub mod Readings
 pub mod Makes
 pub mod Attained
 pub mod Chosen
-pub mod LeastOf
+pub mod LeastDerivation
 pub mod Nodes
 pub mod Laws

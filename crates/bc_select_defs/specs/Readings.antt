@@ -1,5 +1,5 @@
 -- For proofs: the trees of rules that the choices of an expression and of its parts come to.
-use Rattle.std.specs.Prelude.{ℕ, ◌+◌, Bool, true, false, not, cond, Option, Some, None}
+use Rattle.std.specs.Prelude.{ℕ, ◌+◌, Bool, true, false, Option, Some, None}
 use Rattle.bc_core.specs.Tree.{Exp, Num, Frame, Glob, Place, Load, Neg, Not, Bin, Cond, Call, Valof, Args, no_argument, argument, count}
 use Rattle.bc_core.specs.Operand.{constant_of}
 use Rattle.bc_rules_defs.specs.declared.rule.Table.{Table}
@@ -7,7 +7,10 @@ use Rattle.bc_rules_defs.specs.declared.rule.Mode.TheVariants.{Any, Push}
 use Rattle.bc_rules_defs.specs.declared.rule.Aim.{Aim}
 use Rattle.bc_rules_defs.specs.declared.rule.Aim.TheVariants.{Gets, Jumps}
 use Rattle.bc_rules_defs.specs.declared.rule.Rule.{Rule}
-use Rattle.bc_rules_defs.specs.declared.rule.Rule.TheVariants.{V0, V1, V6, V7, V8, V9, V10, V11, V12, V13, V14, V15, V16, V17, V18, V19, V20, V21, J2, J3, J4, J5, J6, J7, J8, J9}
+use Rattle.bc_rules_defs.specs.declared.rule.Rule.TheVariants.{V0, V1, J6, J7}
+use Rattle.bc_rules_defs.specs.declared.takes.Takes.{Takes}
+use Rattle.bc_rules_defs.specs.declared.takes.Takes.TheVariants as taken
+use Rattle.bc_rules_defs.specs.Takes.{takes}
 use Rattle.bc_rules_defs.specs.Rules.{Tree, Trees, by, no_part, part, one, two, three, end_with}
 use Rattle.bc_select_defs.specs.declared.choice.Choice.{Choice}
 use Rattle.bc_select_defs.specs.declared.choice.Choices.{Choices}
@@ -59,44 +62,32 @@ read_line c own =
 abbrev pub leaf_parts : Aim → Rule → Trees
 leaf_parts aim r = no_part
 
+-- the trees of the parts that are taken: of one part, of two, of a condition and two values
+abbrev pub one_taken : Takes → Readings → Trees
+one_taken (taken.First aim) e = one (tree_for aim e)
+one_taken _ e = no_part
+
+abbrev pub two_taken : Takes → (a b : Readings) → Trees
+two_taken (taken.First aim) a b = one (tree_for aim a)
+two_taken (taken.Second aim) a b = one (tree_for aim b)
+two_taken (taken.InOrder f g) a b = two (tree_for f a) (tree_for g b)
+two_taken (taken.Turned f g) a b = two (tree_for g b) (tree_for f a)
+two_taken _ a b = no_part
+
+abbrev pub choice_taken : Takes → (c x y : Readings) → Trees
+choice_taken (taken.Choice false) c x y = three c.on_false x.any y.any
+choice_taken (taken.Choice true) c x y = three c.on_true y.any x.any
+choice_taken _ c x y = no_part
+
 abbrev pub part_parts : Readings → Aim → Rule → Trees
-part_parts e aim r = one (tree_for aim e)
-
-abbrev pub turned : Aim → Aim
-turned (Gets m) = Gets m
-turned (Jumps sense) = Jumps (not sense)
-
-abbrev pub not_parts : Readings → Aim → Rule → Trees
-not_parts e aim r = one (tree_for (turned aim) e)
+part_parts e aim r = one_taken (takes r aim false) e
 
 -- of two operands; drops says whether the second one is a 0
 abbrev pub pair_parts : (drops : Bool) → (a b : Readings) → Aim → Rule → Trees
-pair_parts drops a b aim V6 = one (tree_for aim a)
-pair_parts drops a b aim V7 = one (tree_for aim b)
-pair_parts drops a b aim V8 = one (tree_for aim (cond drops a b))
-pair_parts drops a b aim V9 = one (tree_for aim a)
-pair_parts drops a b aim V10 = one (tree_for aim a)
-pair_parts drops a b aim V11 = one (tree_for aim b)
-pair_parts drops a b aim V12 = two a.any b.push
-pair_parts drops a b aim V13 = two b.any a.push
-pair_parts drops a b aim V14 = two b.any a.push
-pair_parts drops a b aim V15 = two a.any b.any
-pair_parts drops a b aim V16 = two b.any a.any
-pair_parts drops a b aim V17 = two a.any b.any
-pair_parts drops a b aim V18 = two a.any b.any
-pair_parts drops a b aim V19 = two a.any b.any
-pair_parts drops a b aim J2 = two a.on_false b.on_false
-pair_parts drops a b aim J3 = two a.on_false b.on_true
-pair_parts drops a b aim J4 = two a.on_true b.on_true
-pair_parts drops a b aim J5 = two a.on_true b.on_false
-pair_parts drops a b aim J8 = one (cond drops a b).any
-pair_parts drops a b aim J9 = one (cond drops a b).any
-pair_parts drops a b aim r = no_part
+pair_parts drops a b aim r = two_taken (takes r aim drops) a b
 
 abbrev pub cond_parts : (c x y : Readings) → Aim → Rule → Trees
-cond_parts c x y aim V20 = three c.on_false x.any y.any
-cond_parts c x y aim V21 = three c.on_true y.any x.any
-cond_parts c x y aim r = no_part
+cond_parts c x y aim r = choice_taken (takes r aim false) c x y
 
 abbrev pub call_parts : Trees → Readings → Aim → Rule → Trees
 call_parts arguments routine aim r = end_with arguments routine.any
@@ -109,7 +100,7 @@ abbrev mutual
   readings T (Place m) s = read_line (choices T (Place m) s) leaf_parts
   readings T (Load e) s = read_line (choices T (Load e) s) (part_parts (readings T e s))
   readings T (Neg e) s = read_line (choices T (Neg e) s) (part_parts (readings T e s))
-  readings T (Not e) s = read_line (choices T (Not e) s) (not_parts (readings T e s))
+  readings T (Not e) s = read_line (choices T (Not e) s) (part_parts (readings T e s))
   readings T (Bin op a b) s = read_line (choices T (Bin op a b) s) (pair_parts (zero_number (constant_of b)) (readings T a (s + 1)) (readings T b (s + 1)))
   readings T (Cond c x y) s = read_line (choices T (Cond c x y) s) (cond_parts (readings T c s) (readings T x s) (readings T y s))
   readings T (Call es f) s = read_line (choices T (Call es f) s) (call_parts (readings_of_all T es (s + 2)) (readings T f (s + 2 + count es)))

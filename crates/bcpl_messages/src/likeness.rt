@@ -3,68 +3,8 @@ use bc_word::Memory;
 use std::alloc::Global;
 use strsim::osa_distance;
 
-/// The names that LIBHDR declares.
-const LIBRARY: [&[u8]; 15] = [
-    b"START",
-    b"SELECTINPUT",
-    b"SELECTOUTPUT",
-    b"RDCH",
-    b"WRCH",
-    b"FINDINPUT",
-    b"FINDOUTPUT",
-    b"ENDREAD",
-    b"ENDWRITE",
-    b"GETBYTE",
-    b"PUTBYTE",
-    b"WRITES",
-    b"WRITEN",
-    b"NEWLINE",
-    b"WRITEF",
-];
-
-/// The names that EXTHDR declares beside them.
-const FURTHER: [&[u8]; 27] = [
-    b"WRITED",
-    b"WRITEU",
-    b"WRITEOCT",
-    b"WRITEHEX",
-    b"WRITET",
-    b"NEWPAGE",
-    b"READN",
-    b"TERMINATOR",
-    b"UNRDCH",
-    b"INPUT",
-    b"OUTPUT",
-    b"PACKSTRING",
-    b"UNPACKSTRING",
-    b"CAPITALCH",
-    b"COMPSTRING",
-    b"INITVEC",
-    b"GETVEC",
-    b"FREEVEC",
-    b"MULDIV",
-    b"RESULT2",
-    b"RANDOM",
-    b"RANDOMISE",
-    b"STOP",
-    b"FIRSTFREEGLOBAL",
-    b"BYTESPERWORD",
-    b"MAXINT",
-    b"MININT",
-];
-
-/// Whether EXTHDR declares this name, and LIBHDR doesn't.
-pub fn is_of_further_library(name: &[u8]) -> bool {
-    FURTHER.iter().any(|known| *known == name)
-}
-
 /// The longest names that are compared letter by letter.
 const LONGEST: usize = 32;
-
-/// Whether LIBHDR declares this name.
-pub fn is_of_library(name: &[u8]) -> bool {
-    LIBRARY.iter().any(|known| *known == name)
-}
 
 /// The reserved word that this name is in small or mixed letters; none where it is none.
 pub fn reserved_word(alloc: Global, name: &[u8]) -> Result<Option<String>, Memory> {

@@ -1,6 +1,6 @@
 use crate::constants::{Reason, reason_of};
 use crate::declared::{Declared, declaration_of};
-use crate::likeness::{is_of_further_library, is_of_library, nearest};
+use crate::likeness::nearest;
 use crate::message::Message;
 use crate::neighbours::VECTOR_WITHOUT_SIZE;
 use crate::syntax::span_of;
@@ -9,6 +9,8 @@ use crate::words::{back, is_symbol, shown};
 use bc_build::ScopeFault;
 use bc_lex::{Source, lex};
 use bc_lex_tokens::{Symbol, Token, TokenKind};
+use bc_library::is_of_library;
+use bc_library_ext::is_of_further_library;
 use bc_parse::parse;
 use bc_scope::resolve;
 use bc_scope_places::{Also, FaultPlace, Span as TokenSpan, fault_place};

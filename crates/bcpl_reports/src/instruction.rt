@@ -1,7 +1,5 @@
 use crate::report::Part;
-
-/// The letters of the functions, in the order of a word's three upper bits.
-const FUNCTIONS: [&str; 8] = ["L", "S", "A", "J", "T", "F", "K", "X"];
+use bcpl_segments::FUNCTIONS;
 
 /// The letters behind them, in the order of the next three bits.
 const MODES: [&str; 8] = ["", "G", "P", "PG", "I", "IG", "IP", "IPG"];

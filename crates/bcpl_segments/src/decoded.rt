@@ -2,7 +2,7 @@ use bc_word::{Memory, Word};
 use std::alloc::Global;
 
 /// The letters of the functions, in the order of a word's three upper bits.
-const FUNCTIONS: [char; 8] = ['L', 'S', 'A', 'J', 'T', 'F', 'K', 'X'];
+pub const FUNCTIONS: [&str; 8] = ["L", "S", "A", "J", "T", "F", "K", "X"];
 
 /// What a word is as an instruction, with the word behind it, which is its number in the long form: as `LIP3`. Memory is answered where
 /// a growth was refused.
@@ -12,8 +12,8 @@ pub fn instruction(alloc: Global, word: Word, following: Word) -> Result<String,
     let function = FUNCTIONS
         .get(usize::from(code / 16))
         .copied()
-        .unwrap_or('X');
-    text.push(function)?;
+        .unwrap_or("X");
+    text.push_str(function)?;
     if code / 8 % 2 == 1 {
         text.push('I')?;
     }

@@ -4,10 +4,9 @@
 
 mod decoded;
 mod items;
-mod names;
 mod sizes;
 
-pub use decoded::instruction;
+pub use bc_library::library_name;
+pub use decoded::{FUNCTIONS, instruction};
 pub use items::{addresses, is_long};
-pub use names::library_name;
 pub use sizes::{SegmentSize, segment_words, too_large};

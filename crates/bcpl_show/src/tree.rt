@@ -2,6 +2,7 @@ use crate::leaves::{is_leaf, leaves_of};
 use crate::lines::Files;
 use crate::page::{Field, Page, WIDTH, width};
 use bc_lex_tokens::{Symbol, Token, TokenKind};
+use bc_parse_close::is_symbol_end;
 use bc_parse_spell::render;
 use bc_word::Memory;
 use std::alloc::Global;
@@ -68,19 +69,7 @@ fn is_operand_end(kind: Option<&TokenKind<'_>>) -> bool {
 /// Whether a line may be folded behind a token: no line break there stands for a semicolon.
 fn is_foldable(kind: Option<&TokenKind<'_>>) -> bool {
     match symbol_of(kind) {
-        Some(symbol) => !matches!(
-            symbol,
-            Symbol::True
-                | Symbol::False
-                | Symbol::CloseBracket
-                | Symbol::CloseSection
-                | Symbol::Break
-                | Symbol::Loop
-                | Symbol::EndCase
-                | Symbol::Return
-                | Symbol::Finish
-                | Symbol::Repeat
-        ),
+        Some(symbol) => !is_symbol_end(symbol),
         None => false,
     }
 }

@@ -1,4 +1,5 @@
 use bc_lex_tokens::{Symbol, Token, TokenKind};
+use bc_parse_close::{is_symbol_beginning, is_symbol_end};
 
 /// The symbol that the token with this index is; none where it is none.
 pub fn symbol_at(tokens: &[Token<'_>], index: usize) -> Option<Symbol> {
@@ -44,60 +45,17 @@ pub fn is_line_start(tokens: &[Token<'_>], index: usize) -> bool {
 
 /// Whether a command can end with the token with this index, so that a line break behind it may stand for a semicolon.
 pub fn can_end(tokens: &[Token<'_>], index: usize) -> bool {
-    match tokens.get(index) {
-        Some(token) => match token.kind {
-            TokenKind::Symbol(symbol) => matches!(
-                symbol,
-                Symbol::True
-                    | Symbol::False
-                    | Symbol::CloseBracket
-                    | Symbol::CloseSection
-                    | Symbol::Break
-                    | Symbol::Loop
-                    | Symbol::EndCase
-                    | Symbol::Return
-                    | Symbol::Finish
-                    | Symbol::Repeat
-            ),
-            _ => true,
-        },
-        None => false,
+    match symbol_at(tokens, index) {
+        Some(symbol) => is_symbol_end(symbol),
+        None => index < tokens.len(),
     }
 }
 
 /// Whether a command can begin with the token with this index.
 pub fn can_begin(tokens: &[Token<'_>], index: usize) -> bool {
-    match tokens.get(index) {
-        Some(token) => match token.kind {
-            TokenKind::Symbol(symbol) => matches!(
-                symbol,
-                Symbol::OpenBracket
-                    | Symbol::Indirection
-                    | Symbol::OpenSection
-                    | Symbol::If
-                    | Symbol::Unless
-                    | Symbol::Test
-                    | Symbol::While
-                    | Symbol::Until
-                    | Symbol::For
-                    | Symbol::SwitchOn
-                    | Symbol::Case
-                    | Symbol::Default
-                    | Symbol::Break
-                    | Symbol::Loop
-                    | Symbol::EndCase
-                    | Symbol::Return
-                    | Symbol::Finish
-                    | Symbol::ResultIs
-                    | Symbol::Goto
-                    | Symbol::Let
-                    | Symbol::Manifest
-                    | Symbol::Static
-                    | Symbol::Global
-            ),
-            _ => true,
-        },
-        None => false,
+    match symbol_at(tokens, index) {
+        Some(symbol) => is_symbol_beginning(symbol),
+        None => index < tokens.len(),
     }
 }
 

@@ -2,8 +2,11 @@
 #![tactic(auto)]
 
 mod arguments;
+mod commands;
 mod converting;
+mod grammar;
 mod guessing;
+mod reading;
 mod version;
 
 pub use arguments::{

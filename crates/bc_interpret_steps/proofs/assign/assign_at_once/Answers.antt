@@ -1,6 +1,4 @@
-use Rattle.std.proofs.Common.{◌≡◌, Some, None}
 use Rattle.bc_core.specs.View.{exp}
-use Rattle.bc_interpret_quiet.specs.declared.worth.Worth.{Worth}
 use Rattle.bc_interpret_steps.specs.Code.{spot_of}
 use Rattle.bc_interpret_steps.specs.Came.{sight}
 use Rattle.bc_interpret_steps.proofs.Assigns.{neither, assigned_at_once}

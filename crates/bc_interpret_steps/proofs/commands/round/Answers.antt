@@ -1,4 +1,4 @@
-use Rattle.std.proofs.Common.{rules, arith, sym, ◌∙◌}
+use Rattle.std.proofs.Common.{rules, sym, ◌∙◌}
 use Rattle.bc_core.specs.View.{block_of}
 use Rattle.bc_interpret_steps.specs.Code.{spot_of, stack, given}
 use Rattle.bc_interpret_steps.proofs.Loops.{round_goes}

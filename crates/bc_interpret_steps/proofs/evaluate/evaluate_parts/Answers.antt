@@ -1,4 +1,4 @@
-use Rattle.std.proofs.Common.{[], sym, ap, subst, ◌∙◌}
+use Rattle.std.proofs.Common.{sym, ap, subst, ◌∙◌}
 use Rattle.bc_core.specs.Tree as tree
 use Rattle.bc_core.specs.View.{exp, args}
 use Rattle.bc_core.proofs.Rows.{call_view}

@@ -1,4 +1,4 @@
-use Rattle.std.proofs.Common.{◌≡◌, ℕ, ap, slice_index_or, arith}
+use Rattle.std.proofs.Common.{ℕ, ap, slice_index_or, arith}
 use Rattle.bc_interpret_steps.specs.Code.{stack}
 use Rattle.bc_interpret_steps.specs.Came.{state_of}
 use Rattle.bc_interpret_steps.proofs.Valofs.{none_before, none_behind, valof_entered}

@@ -1,8 +1,8 @@
 -- What is worked out along the tree.
-use Rattle.std.proofs.Common.{◌≡◌, ◌||◌, ℕ, Bool, true, false, Some, None, ap, ◌∙◌}
+use Rattle.std.proofs.Common.{◌≡◌, ◌||◌, ℕ, Bool, true, false, Some, ap, ◌∙◌}
 use Rattle.bc_word.specs.declared.operator.Op.{Op}
 use Rattle.bc_word.specs.Words.{value_of}
-use Rattle.bc_interpret_defs.specs.Quiet.{Worth, Is, Divides, Fails, chained, paired, combined, quotient}
+use Rattle.bc_interpret_defs.specs.Quiet.{Worth, Is, chained, paired, combined, quotient}
 
 pub neither : (a b : Bool) → a ≡ false → b ≡ false → (a || b) ≡ false
 neither true b e f = e

@@ -1,0 +1,55 @@
+//! What LIBHDR declares.
+
+/// The globals that LIBHDR declares, each with its number.
+const GLOBALS: [(u16, &str); 15] = [
+    (1, "START"),
+    (11, "SELECTINPUT"),
+    (12, "SELECTOUTPUT"),
+    (13, "RDCH"),
+    (14, "WRCH"),
+    (15, "FINDINPUT"),
+    (16, "FINDOUTPUT"),
+    (17, "ENDREAD"),
+    (18, "ENDWRITE"),
+    (20, "GETBYTE"),
+    (21, "PUTBYTE"),
+    (22, "WRITES"),
+    (23, "WRITEN"),
+    (24, "NEWLINE"),
+    (25, "WRITEF"),
+];
+
+/// The constant that LIBHDR declares.
+const CONSTANT: &str = "ENDSTREAMCH";
+
+/// The name that LIBHDR has for the global of this number.
+pub fn library_name(number: u16) -> Option<&'static str> {
+    for (known, name) in GLOBALS {
+        if known == number {
+            return Some(name);
+        }
+    }
+    None
+}
+
+/// The name declared by LIBHDR that a word is, in letters of either case.
+pub fn library_word(word: &[u8]) -> Option<&'static str> {
+    for (_, name) in GLOBALS {
+        if word.eq_ignore_ascii_case(name.as_bytes()) {
+            return Some(name);
+        }
+    }
+    if word.eq_ignore_ascii_case(CONSTANT.as_bytes()) {
+        Some(CONSTANT)
+    } else {
+        None
+    }
+}
+
+/// Whether LIBHDR declares this name.
+pub fn is_of_library(name: &[u8]) -> bool {
+    match library_word(name) {
+        Some(known) => known.as_bytes() == name,
+        None => false,
+    }
+}
