@@ -65,7 +65,8 @@ entry_fits b storage.Global at w ts = refl
 first : (a b : Option Fault) (f : Fault) → a ≡ Some f → or_else a b ≡ Some f
 first a b f h = ap (λ x. or_else x b) h
 
-stays : (e : ScopeError) (a b : Option Fault) → IsFault e a → IsFault e (or_else a b)
+-- a fault that comes first
+pub stays : (e : ScopeError) (a b : Option Fault) → IsFault e a → IsFault e (or_else a b)
 stays (code.Undeclared n) a b h = first a b _ h
 stays (code.DeclaredTwice n) a b h = first a b _ h
 stays (code.DynamicFree n) a b h = first a b _ h

@@ -1,4 +1,4 @@
-use Rattle.std.proofs.Common.{sym, ◌∙◌, ◌+◌, drop, append_assoc, arith}
+use Rattle.std.proofs.Common.{refl, sym, ◌∙◌, ◌+◌, drop, append_assoc, arith}
 use Rattle.std.proofs.lemmas.Result.{err_from_is_err_and}
 use Rattle.bc_parse_tree.specs.View.{exp_view, exps_view, item_view, items_view}
 use Rattle.bc_scope_names.proofs.Extends.{extends_on}
@@ -11,8 +11,106 @@ use Rattle.bc_scope_faults.proofs.Frames.{frames_along, max_along}
 use Rattle.bc_scope_faults.proofs.Held.{exp_held, entry_held, declaration_held, definition_held, item_held, label_held}
 use Rattle.bc_scope_faults.proofs.Lists.{exps_on, constant_seen, entries_on, declarations_on, definitions_on, items_on, drop_one}
 use Rattle.bc_scope_faults.proofs.Scopes.{left_both}
-use Rattle.bc_scope_faults.proofs.Turns.{fault_whole, entry_fits, item_fault_on, item_found_on, item_width_on, side_fault_on, side_found_on, side_widths_on}
+use Rattle.bc_scope_faults.proofs.Turns.{stays, fault_whole, entry_fits, item_fault_on, item_found_on, item_width_on, side_fault_on, side_found_on, side_widths_on}
 use Rattle.bc_scope_faults.proofs.+faults.Goals as goal
+
+-- each call is of less than is left to walk: said here, since the search goes through all that the calls before it found
+
+pub expressions::operands-expression-requires : goal.expressions::operands-expression-requires
+expressions::operands-expression-requires t c = (omega (arith, c.decreases), tt)
+
+pub expressions::operands-expression-requires-2 : goal.expressions::operands-expression-requires-2
+expressions::operands-expression-requires-2 t c = (omega (arith, c.decreases), tt)
+
+pub expressions::choice-expression-requires : goal.expressions::choice-expression-requires
+expressions::choice-expression-requires t c = (omega (arith, c.decreases), tt)
+
+pub expressions::choice-expression-requires-2 : goal.expressions::choice-expression-requires-2
+expressions::choice-expression-requires-2 t c = (omega (arith, c.decreases), tt)
+
+pub expressions::choice-expression-requires-3 : goal.expressions::choice-expression-requires-3
+expressions::choice-expression-requires-3 t c = (omega (arith, c.decreases), tt)
+
+pub expressions::call-expression-requires : goal.expressions::call-expression-requires
+expressions::call-expression-requires t c = (omega (arith, c.decreases), tt)
+
+pub expressions::call-arguments-requires : goal.expressions::call-arguments-requires
+expressions::call-arguments-requires t c = (omega (arith, c.decreases), tt)
+
+pub expressions::constant_fault-expression-requires : goal.expressions::constant_fault-expression-requires
+expressions::constant_fault-expression-requires t c = (omega (arith, c.decreases), tt)
+
+pub declarations::function-expression-requires : goal.declarations::function-expression-requires
+declarations::function-expression-requires t c = (omega (arith, c.decreases), tt)
+
+pub declarations::routine-block-requires : goal.declarations::routine-block-requires
+declarations::routine-block-requires t c = (omega (arith, c.decreases), tt)
+
+pub declarations::definitions_of_let-definitions-requires : goal.declarations::definitions_of_let-definitions-requires
+declarations::definitions_of_let-definitions-requires t c = (omega (arith, c.decreases), tt)
+
+pub blocks::declared_then_done-declarations-requires : goal.blocks::declared_then_done-declarations-requires
+blocks::declared_then_done-declarations-requires t c = (omega (arith, c.decreases), tt)
+
+pub blocks::declared_then_done-items-requires : goal.blocks::declared_then_done-items-requires
+blocks::declared_then_done-items-requires t c = (omega (arith, c.decreases), tt)
+
+pub commands::guarded-expression-requires : goal.commands::guarded-expression-requires
+commands::guarded-expression-requires t c = (omega (arith, c.decreases), tt)
+
+pub commands::guarded-block-requires : goal.commands::guarded-block-requires
+commands::guarded-block-requires t c = (omega (arith, c.decreases), tt)
+
+pub commands::repeated-command-requires : goal.commands::repeated-command-requires
+commands::repeated-command-requires t c = (omega (arith, c.decreases), tt)
+
+pub commands::repeated-expression-requires : goal.commands::repeated-expression-requires
+commands::repeated-expression-requires t c = (omega (arith, c.decreases), tt)
+
+pub commands::assignment-sides-requires : goal.commands::assignment-sides-requires
+commands::assignment-sides-requires t c = (omega (arith, c.decreases), tt)
+
+pub commands::assignment-sides-requires-2 : goal.commands::assignment-sides-requires-2
+commands::assignment-sides-requires-2 t c = (omega (arith, c.decreases), tt)
+
+pub commands::tested-expression-requires : goal.commands::tested-expression-requires
+commands::tested-expression-requires t c = (omega (arith, c.decreases), tt)
+
+pub commands::tested-block-requires : goal.commands::tested-block-requires
+commands::tested-block-requires t c = (omega (arith, c.decreases), tt)
+
+pub commands::tested-block-requires-2 : goal.commands::tested-block-requires-2
+commands::tested-block-requires-2 t c = (omega (arith, c.decreases), tt)
+
+pub commands::plain_for-expression-requires : goal.commands::plain_for-expression-requires
+commands::plain_for-expression-requires t c = (omega (arith, c.decreases), tt)
+
+pub commands::plain_for-expression-requires-2 : goal.commands::plain_for-expression-requires-2
+commands::plain_for-expression-requires-2 t c = (omega (arith, c.decreases), tt)
+
+pub commands::plain_for-counted-requires : goal.commands::plain_for-counted-requires
+commands::plain_for-counted-requires t c = (omega (arith, c.decreases), tt)
+
+pub commands::stepped_for-expression-requires : goal.commands::stepped_for-expression-requires
+commands::stepped_for-expression-requires t c = (omega (arith, c.decreases), tt)
+
+pub commands::stepped_for-expression-requires-2 : goal.commands::stepped_for-expression-requires-2
+commands::stepped_for-expression-requires-2 t c = (omega (arith, c.decreases), tt)
+
+pub commands::stepped_for-constant_fault-requires : goal.commands::stepped_for-constant_fault-requires
+commands::stepped_for-constant_fault-requires t c = (omega (arith, c.decreases), tt)
+
+pub commands::stepped_for-counted-requires : goal.commands::stepped_for-counted-requires
+commands::stepped_for-counted-requires t c = (omega (arith, c.decreases), tt)
+
+pub commands::counted-block-requires : goal.commands::counted-block-requires
+commands::counted-block-requires t c = (omega (arith, c.decreases), tt)
+
+pub commands::switch-expression-requires : goal.commands::switch-expression-requires
+commands::switch-expression-requires t c = (omega (arith, c.decreases), tt)
+
+pub commands::switch-items-requires : goal.commands::switch-items-requires
+commands::switch-items-requires t c = (omega (arith, c.decreases), tt)
 
 pub expressions::arguments-expression-requires : goal.expressions::arguments-expression-requires
 expressions::arguments-expression-requires t c = (omega (arith, exp_held c.args.list.now c.loop-e.e-index c.e-item.result c.loop-e-test.true c.e-item.is, c.decreases), tt)
@@ -145,6 +243,19 @@ expressions::sides-loop-e-preserved t c =
       k ∙ v.4,
     )
 
+pub expressions::sides-returns-in_err-width-clause-answer : goal.expressions::sides-returns-in_err-width-clause-answer
+expressions::sides-returns-in_err-width-clause-answer t c =
+    let E = scope_view c.loop-e.scope in
+    let at0 = numbers_view c.loop-e.progress.at in
+    let x = exp_view c.e-item.result in
+    let es = exps_view (drop (c.loop-e.e-index + 1) c.args.list.now) in
+    let ss = drop c.loop-e.i c.args.levels.now in
+    let n = exps_on c.args.list.now c.loop-e.e-index c.e-item.result c.loop-e-test.true c.e-item.is in
+    let v = rw n at c.loop-e.invariant in
+    let f = side_fault_on E at0 x es ss in
+    let p = err_from_is_err_and c.from_residual.result c.from_residual.ensures.1 in
+    rw (p.1, p.2) (fault_whole _ _ _ _ _ f v.0 (rw c.level_at.ensures at c.in_err-width.ensures.answer))
+
 pub blocks::items-returns-in_err-one_item-clause-answer : goal.blocks::items-returns-in_err-one_item-clause-answer
 blocks::items-returns-in_err-one_item-clause-answer t c =
     let E = scope_view c.loop-tree.scope in
@@ -168,4 +279,85 @@ declarations::definitions-loop-tree-preserved t c =
       rw w.2 v.2,
       rw (w.2, k, w.3) (simp frames_along at v.3),
       k ∙ v.4,
+    )
+
+pub commands::plain_for-returns-in_err-start-clause-answer : goal.commands::plain_for-returns-in_err-start-clause-answer
+commands::plain_for-returns-in_err-start-clause-answer t c =
+    let p = err_from_is_err_and c.from_residual-in_err-start.result c.from_residual-in_err-start.ensures.1 in
+    rw (p.1, p.2) (stays _ _ _ (rw c.in_ok-above.ensures at c.in_err-start.ensures.answer))
+
+pub commands::plain_for-returns-in_err-limit-clause-answer : goal.commands::plain_for-returns-in_err-limit-clause-answer
+commands::plain_for-returns-in_err-limit-clause-answer t c =
+    let a = c.in_ok-above.ensures in
+    let w1 = rw a at c.in_ok-start.ensures.answer in
+    let p = err_from_is_err_and c.from_residual-in_err-limit.result c.from_residual-in_err-limit.ensures.1 in
+    rw (p.1, p.2, w1.0) (stays _ _ _ (rw (w1.2, c.in_ok-start.ensures.kept, a) at c.in_err-limit.ensures.answer))
+
+pub commands::plain_for-returns-in_err-body-clause-answer : goal.commands::plain_for-returns-in_err-body-clause-answer
+commands::plain_for-returns-in_err-body-clause-answer t c =
+    let a = c.in_ok-above.ensures in
+    let w1 = rw a at c.in_ok-start.ensures.answer in
+    let k1 = c.in_ok-start.ensures.kept in
+    let w2 = rw (w1.2, k1, a) at c.in_ok-limit.ensures.answer in
+    let p = err_from_is_err_and c.from_residual-in_err-body.result c.from_residual-in_err-body.ensures.1 in
+    rw (p.1, p.2, w1.0, w2.0) (rw (w2.2, c.in_ok-limit.ensures.kept, k1) at c.in_err-body.ensures.answer)
+
+pub commands::plain_for-returns-clause-answer : goal.commands::plain_for-returns-clause-answer
+commands::plain_for-returns-clause-answer t c =
+    let a = c.in_ok-above.ensures in
+    let w1 = rw a at c.in_ok-start.ensures.answer in
+    let k1 = c.in_ok-start.ensures.kept in
+    let w2 = rw (w1.2, k1, a) at c.in_ok-limit.ensures.answer in
+    let w3 = rw (w2.2, c.in_ok-limit.ensures.kept, k1) at c.in_ok-body.ensures.answer in (
+      rw (w1.0, w2.0) w3.0,
+      rw (c.max-3.ensures, c.max-2.ensures, c.max.ensures, c.in_ok-sum.ensures, a, w1.1, w2.1, w3.1) refl,
+      w3.2,
+      rw (frames_along, frames_along, ← w1.3, ← w2.3) w3.3,
+    )
+
+pub commands::stepped_for-returns-in_err-start-clause-answer : goal.commands::stepped_for-returns-in_err-start-clause-answer
+commands::stepped_for-returns-in_err-start-clause-answer t c =
+    let p = err_from_is_err_and c.from_residual-in_err-start.result c.from_residual-in_err-start.ensures.1 in
+    rw (p.1, p.2) (stays _ _ _ (rw c.in_ok-above.ensures at c.in_err-start.ensures.answer))
+
+pub commands::stepped_for-returns-in_err-limit-clause-answer : goal.commands::stepped_for-returns-in_err-limit-clause-answer
+commands::stepped_for-returns-in_err-limit-clause-answer t c =
+    let a = c.in_ok-above.ensures in
+    let w1 = rw a at c.in_ok-start.ensures.answer in
+    let p = err_from_is_err_and c.from_residual-in_err-limit.result c.from_residual-in_err-limit.ensures.1 in
+    rw (p.1, p.2, w1.0) (stays _ _ _ (rw (w1.2, c.in_ok-start.ensures.kept, a) at c.in_err-limit.ensures.answer))
+
+pub commands::stepped_for-returns-in_err-constant_fault-clause-answer : goal.commands::stepped_for-returns-in_err-constant_fault-clause-answer
+commands::stepped_for-returns-in_err-constant_fault-clause-answer t c =
+    let a = c.in_ok-above.ensures in
+    let w1 = rw a at c.in_ok-start.ensures.answer in
+    let k1 = c.in_ok-start.ensures.kept in
+    let w2 = rw (w1.2, k1, a) at c.in_ok-limit.ensures.answer in
+    let p = err_from_is_err_and c.from_residual-in_err-constant_fault.result c.from_residual-in_err-constant_fault.ensures.1 in
+    rw (p.1, p.2, w1.0, w2.0) (stays _ _ _ (rw (w2.2, c.in_ok-limit.ensures.kept, k1) at c.in_err-constant_fault.ensures.answer))
+
+pub commands::stepped_for-returns-in_err-body-clause-answer : goal.commands::stepped_for-returns-in_err-body-clause-answer
+commands::stepped_for-returns-in_err-body-clause-answer t c =
+    let a = c.in_ok-above.ensures in
+    let w1 = rw a at c.in_ok-start.ensures.answer in
+    let k1 = c.in_ok-start.ensures.kept in
+    let w2 = rw (w1.2, k1, a) at c.in_ok-limit.ensures.answer in
+    let k2 = c.in_ok-limit.ensures.kept in
+    let w3 = rw (w2.2, k2, k1) at c.in_ok-constant_fault.ensures.answer in
+    let p = err_from_is_err_and c.from_residual-in_err-body.result c.from_residual-in_err-body.ensures.1 in
+    rw (p.1, p.2, w1.0, w2.0, w3) (rw (w2.2, c.in_ok-constant_fault.ensures.kept, k2, k1) at c.in_err-body.ensures.answer)
+
+pub commands::stepped_for-returns-clause-answer : goal.commands::stepped_for-returns-clause-answer
+commands::stepped_for-returns-clause-answer t c =
+    let a = c.in_ok-above.ensures in
+    let w1 = rw a at c.in_ok-start.ensures.answer in
+    let k1 = c.in_ok-start.ensures.kept in
+    let w2 = rw (w1.2, k1, a) at c.in_ok-limit.ensures.answer in
+    let k2 = c.in_ok-limit.ensures.kept in
+    let w3 = rw (w2.2, k2, k1) at c.in_ok-constant_fault.ensures.answer in
+    let w4 = rw (w2.2, c.in_ok-constant_fault.ensures.kept, k2, k1) at c.in_ok-body.ensures.answer in (
+      rw (w1.0, w2.0, w3) w4.0,
+      rw (c.max-3.ensures, c.max-2.ensures, c.max.ensures, c.in_ok-sum.ensures, a, w1.1, w2.1, w4.1) refl,
+      w4.2,
+      rw (frames_along, frames_along, ← w1.3, ← w2.3) w4.3,
     )
