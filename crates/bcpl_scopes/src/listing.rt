@@ -67,37 +67,45 @@ fn sets(items: &[Item], wanted: u16) -> bool {
 
 impl<'p, 's> Listing<'p, 's> {
     /// Ends a line, with where a leaf stands.
-    fn end_line(&mut self, leaf: usize) -> Result<(), Memory> {
-        match self.leaves.get(leaf) {
-            Some(token) if token.file == self.scopes.main => {
-                let number = self.lines.number_at(token.start) as u64;
-                self.page
-                    .add_line(&[Field::Text("line "), Field::Number(number, 0)])
-            }
-            Some(token) => {
-                let path = self.scopes.files.path(token.file);
-                self.page.add_line(&[Field::Text(path)])
-            }
-            None => self.page.end_line(),
+    fn end_line(&mut self, leaf: usize) {
+        if let Some(token) = self.leaves.get(leaf) {
+            self.add_token(token);
         }
+        self.page.end_line();
+    }
+
+    /// Adds where a token stands: its line, or the file, where that is another one.
+    fn add_token(&mut self, token: &Token<'s>) {
+        if token.file != self.scopes.main {
+            let path = self.scopes.files.path(token.file);
+            return self.page.add_text(path);
+        }
+        let number = self.lines.number_at(token.start) as u64;
+        self.page
+            .add_all(&[Field::Text("line "), Field::Number(number, 0)]);
     }
 
     /// Adds what the cells of a row are, and where it is declared.
-    fn end_row(&mut self, row: Row<'s>) -> Result<(), Memory> {
+    fn end_row(&mut self, row: Row<'s>) {
         match row.cells {
             Cells::Parameter => return self.page.add_line(&[Field::Text("parameter")]),
-            Cells::Variable => self.page.add_text("variable, ")?,
-            Cells::Counter => self.page.add_text("FOR, with its limit, ")?,
-            Cells::Vector(last) => self.page.add_all(&[
-                Field::Text("vector 0 to "),
-                Field::Number(u64::from(last), 0),
-                Field::Text(" behind its own cell, "),
-            ])?,
+            Cells::Variable => self.page.add_text("variable, "),
+            Cells::Counter => self.page.add_text("FOR, with its limit, "),
+            Cells::Vector(last) => self.add_vector(last),
         }
-        self.end_line(row.leaf)
+        self.end_line(row.leaf);
     }
 
-    fn add_row(&mut self, row: Row<'s>) -> Result<(), Memory> {
+    /// Adds that a row is a vector up to this number.
+    fn add_vector(&mut self, last: u16) {
+        self.page.add_all(&[
+            Field::Text("vector 0 to "),
+            Field::Number(u64::from(last), 0),
+            Field::Text(" behind its own cell, "),
+        ]);
+    }
+
+    fn add_row(&mut self, row: Row<'s>) {
         let level = row.offset.saturating_add(row.count);
         self.page.add_all(&[
             Field::Number(row.offset, 8),
@@ -107,47 +115,46 @@ impl<'p, 's> Listing<'p, 's> {
             Field::Front(row.name, SHOWN),
             Field::Column(44),
             Field::Text(" "),
-        ])?;
-        self.end_row(row)
+        ]);
+        self.end_row(row);
     }
 
     /// Adds what a frame is that of.
-    fn add_routine(&mut self, frame: Frame<'s>) -> Result<(), Memory> {
+    fn add_routine(&mut self, frame: Frame<'s>) {
         self.page.add_all(&[
             Field::Text("routine "),
             Field::Front(frame.name, SHOWN),
             Field::Text(", L"),
             Field::Number(frame.label, 0),
-        ])?;
+        ]);
         if let Some(number) = frame.global {
             let number = Field::Number(u64::from(number), 0);
-            self.page.add_all(&[Field::Text(", sets global "), number])?;
+            self.page.add_all(&[Field::Text(", sets global "), number]);
         }
-        self.page.add_text(", ")?;
-        self.end_line(frame.leaf)
+        self.page.add_text(", ");
+        self.end_line(frame.leaf);
     }
 
-    fn add_frame(&mut self, index: usize, frame: Frame<'s>) -> Result<(), Memory> {
-        self.add_routine(frame)?;
+    fn add_frame(&mut self, index: usize, frame: Frame<'s>) {
+        self.add_routine(frame);
         let mut head = "  offset   cells   level  name\n";
         for row in &self.walk.rows {
             if row.frame == index {
-                self.page.add_lines(head)?;
+                self.page.add_lines(head);
                 head = "";
-                self.add_row(*row)?;
+                self.add_row(*row);
             }
         }
-        self.page.end_line()
+        self.page.end_line();
     }
 
-    fn add_frames(&mut self) -> Result<(), Memory> {
+    fn add_frames(&mut self) {
         if !self.walk.frames.is_empty() {
-            self.page.add_lines(KEPT)?;
+            self.page.add_lines(KEPT);
         }
         for (index, frame) in self.walk.frames.iter().enumerate() {
-            self.add_frame(index, *frame)?;
+            self.add_frame(index, *frame);
         }
-        Ok(())
     }
 
     /// The text at a leaf.
@@ -159,53 +166,63 @@ impl<'p, 's> Listing<'p, 's> {
     }
 
     /// Adds what stands at a label, with its name or its text.
-    fn add_place(&mut self, label: u64, text: &[u8]) -> Result<(), Memory> {
+    fn add_place(&mut self, label: u64, text: &[u8]) {
         let index = (label as usize).saturating_sub(1);
         let places = self.scopes.core.places();
         match places.get(index) {
-            Some(Place::Static(word)) => self.page.add_all(&[
-                Field::Text("static "),
-                Field::Front(text, SHOWN),
-                Field::Text(" = "),
-                Field::Number(u64::from(word.get()), 0),
-            ]),
-            Some(Place::Table(words)) => {
-                let count = words.len() as u64;
-                let unit = if count == 1 { " word" } else { " words" };
-                self.page.add_all(&[
-                    Field::Text("table of "),
-                    Field::Number(count, 0),
-                    Field::Text(unit),
-                ])
-            }
-            Some(Place::Text(_)) => self
-                .page
-                .add_all(&[Field::Text("string "), Field::Front(text, SHOWN)]),
-            Some(Place::Routine(_)) | None => Ok(()),
+            Some(Place::Static(word)) => self.add_static(text, word.get()),
+            Some(Place::Table(words)) => self.add_table(words.len() as u64),
+            Some(Place::Text(_)) => self.add_string(text),
+            Some(Place::Routine(_)) | None => {}
         }
     }
 
+    /// Adds a static with its first value.
+    fn add_static(&mut self, name: &[u8], value: u16) {
+        self.page.add_all(&[
+            Field::Text("static "),
+            Field::Front(name, SHOWN),
+            Field::Text(" = "),
+            Field::Number(u64::from(value), 0),
+        ]);
+    }
+
+    /// Adds a table of so many words.
+    fn add_table(&mut self, count: u64) {
+        let unit = if count == 1 { " word" } else { " words" };
+        self.page.add_all(&[
+            Field::Text("table of "),
+            Field::Number(count, 0),
+            Field::Text(unit),
+        ]);
+    }
+
+    fn add_string(&mut self, text: &[u8]) {
+        self.page
+            .add_all(&[Field::Text("string "), Field::Front(text, SHOWN)]);
+    }
+
     /// A static, a table or a string.
-    fn add_datum(&mut self, datum: Datum) -> Result<(), Memory> {
+    fn add_datum(&mut self, datum: Datum) {
         self.page.add_all(&[
             Field::Text("  L"),
             Field::Number(datum.label, 0),
             Field::Column(10),
-        ])?;
-        self.add_place(datum.label, self.text_at(datum.leaf))?;
-        self.page.add_text(", ")?;
-        self.end_line(datum.leaf)
+        ]);
+        self.add_place(datum.label, self.text_at(datum.leaf));
+        self.page.add_text(", ");
+        self.end_line(datum.leaf);
     }
 
-    fn add_data(&mut self) -> Result<(), Memory> {
+    fn add_data(&mut self) {
         if self.walk.data.is_empty() {
-            return Ok(());
+            return;
         }
-        self.page.add_lines("statics, tables and strings\n")?;
+        self.page.add_lines("statics, tables and strings\n");
         for datum in &self.walk.data {
-            self.add_datum(*datum)?;
+            self.add_datum(*datum);
         }
-        self.page.end_line()
+        self.page.end_line();
     }
 
     /// The label of the routine that sets a global, if one does.
@@ -229,30 +246,28 @@ impl<'p, 's> Listing<'p, 's> {
     }
 
     /// Adds what sets a global.
-    fn add_setting(&mut self, number: u16) -> Result<(), Memory> {
+    fn add_setting(&mut self, number: u16) {
+        let setter = self.setter(number);
+        self.page.add_text("set by ");
         match self.setting(number) {
             Some(label) => self
                 .page
-                .add_all(&[Field::Text("set by L"), Field::Number(label, 0)]),
-            None => {
-                let setter = self.setter(number);
-                self.page
-                    .add_all(&[Field::Text("set by "), Field::Text(setter)])
-            }
+                .add_all(&[Field::Text("L"), Field::Number(label, 0)]),
+            None => self.page.add_text(setter),
         }
     }
 
-    fn add_global(&mut self, known: Known<'s>) -> Result<(), Memory> {
+    fn add_global(&mut self, known: Known<'s>) {
         self.page.add_all(&[
             Field::Number(u64::from(known.number), 8),
             Field::Text("  "),
             Field::Front(known.name, SHOWN),
             Field::Column(44),
             Field::Text(" "),
-        ])?;
-        self.add_setting(known.number)?;
-        self.page.add_text("; ")?;
-        self.end_line(known.leaf)
+        ]);
+        self.add_setting(known.number);
+        self.page.add_text("; ");
+        self.end_line(known.leaf);
     }
 
     /// Whether a global is told: one that is declared in the file, named or set.
@@ -264,16 +279,15 @@ impl<'p, 's> Listing<'p, 's> {
         is_here || self.walk.used.iter().any(|number| *number == known.number)
     }
 
-    fn add_globals(&mut self) -> Result<(), Memory> {
+    fn add_globals(&mut self) {
         let mut head = "globals that are declared here, named or set\n";
         for known in &self.walk.globals {
             if self.is_told(*known) {
-                self.page.add_lines(head)?;
+                self.page.add_lines(head);
                 head = "";
-                self.add_global(*known)?;
+                self.add_global(*known);
             }
         }
-        Ok(())
     }
 }
 
@@ -291,8 +305,8 @@ pub fn scope_listing(alloc: Global, scopes: Scopes<'_, '_>) -> Result<Vec<u8>, M
         leaves: leaves.as_slice(),
         walk: &walk,
     };
-    listing.add_frames()?;
-    listing.add_data()?;
-    listing.add_globals()?;
-    Ok(listing.page.into_text())
+    listing.add_frames();
+    listing.add_data();
+    listing.add_globals();
+    listing.page.into_text()
 }

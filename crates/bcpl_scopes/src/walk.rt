@@ -77,6 +77,8 @@ pub struct Walk<'p, 's> {
     pub globals: Vec<Known<'s>>,
     /// The globals that are named or set.
     pub used: Vec<u16>,
+    /// Whether a growth was refused. What is met from then on counts for nothing.
+    is_refused: bool,
 }
 
 impl<'p, 's> Walk<'p, 's> {
@@ -92,13 +94,45 @@ impl<'p, 's> Walk<'p, 's> {
             data: Vec::new(alloc),
             globals: Vec::new(alloc),
             used: Vec::new(alloc),
+            is_refused: false,
         }
     }
 
     /// What is met in the section. Memory is answered where a growth was refused.
     pub fn section(&mut self, section: &Section<'s>) -> Result<(), Memory> {
-        let _level = self.declarations(OUTSIDE, &section.declarations, 0)?;
+        let _level = self.declarations(OUTSIDE, &section.declarations, 0);
+        if self.is_refused {
+            return Err(Memory);
+        }
         Ok(())
+    }
+
+    /// Keeps that something was refused.
+    fn keep(&mut self, done: Result<(), Memory>) {
+        if done.is_err() {
+            self.is_refused = true;
+        }
+    }
+
+    /// The next numbers, if there are any.
+    fn go_on(&mut self, at: Result<Numbers, Memory>) {
+        match at {
+            Ok(at) => self.at = at,
+            Err(_) => self.is_refused = true,
+        }
+    }
+
+    /// A global is named or set.
+    fn use_global(&mut self, number: u16) {
+        if self.used.push(number).is_err() {
+            self.is_refused = true;
+        }
+    }
+
+    fn add_row(&mut self, row: Row<'s>) {
+        if self.rows.push(row).is_err() {
+            self.is_refused = true;
+        }
     }
 
     fn leaf(&mut self) {
@@ -114,320 +148,300 @@ impl<'p, 's> Walk<'p, 's> {
     }
 
     /// A name that stands for its value.
-    fn name(&mut self, name: &'s [u8]) -> Result<(), Memory> {
+    fn name(&mut self, name: &'s [u8]) {
         self.leaf();
-        match self.scope.meant_by(name) {
-            Meant::Global(number) => Ok(self.used.push(number)?),
-            _ => Ok(()),
+        if let Meant::Global(number) = self.scope.meant_by(name) {
+            self.use_global(number);
         }
     }
 
     /// A table or a string at the next leaf.
-    fn datum(&mut self) -> Result<(), Memory> {
-        self.keep_datum()?;
+    fn datum(&mut self) {
+        self.keep_datum();
         self.leaf();
-        self.at = self.at.behind_place()?;
-        Ok(())
+        self.go_on(self.at.behind_place());
     }
 
     /// A variable of a frame at the next leaf.
-    fn variable(
-        &mut self,
-        frame: usize,
-        name: &'s [u8],
-        count: u64,
-        cells: Cells,
-    ) -> Result<(), Memory> {
+    fn variable(&mut self, frame: usize, name: &'s [u8], count: u64, cells: Cells) {
         if let Meant::Variable(offset) = self.scope.meant_by(name) {
-            self.rows.push(Row {
+            self.add_row(Row {
                 frame,
                 name,
                 offset,
                 count,
                 cells,
                 leaf: self.leaves,
-            })?;
+            });
         }
         self.leaf();
-        Ok(())
     }
 
     /// The word VALOF; given is the level of its body.
-    fn valof(&mut self) -> Result<u64, Memory> {
+    fn valof(&mut self) -> u64 {
         self.leaf();
         let level = self.level_of(self.at.valof);
-        self.at = self.at.behind_valof()?;
-        Ok(level)
+        self.go_on(self.at.behind_valof());
+        level
     }
 
     #[cycle(scoping)]
-    fn expression(&mut self, frame: usize, e: &Exp<'s>) -> Result<(), Memory> {
+    fn expression(&mut self, frame: usize, e: &Exp<'s>) {
         match e {
             Exp::Name(name) => self.name(name),
             Exp::Number(_) | Exp::Character(_) | Exp::True | Exp::False => {
                 self.leaf();
-                Ok(())
             }
             Exp::String(_) => self.datum(),
             Exp::Table(values) => {
-                self.datum()?;
-                self.expressions(frame, values)
+                self.datum();
+                self.expressions(frame, values);
             }
             Exp::Valof(body) => {
-                let level = self.valof()?;
-                self.block(frame, body, level)
+                let level = self.valof();
+                self.block(frame, body, level);
             }
             Exp::Monadic(_, operand) => self.expression(frame, operand),
             Exp::Dyadic(_, left, right) => {
-                self.expression(frame, left)?;
-                self.expression(frame, right)
+                self.expression(frame, left);
+                self.expression(frame, right);
             }
             Exp::Condition { test, this, that } => {
-                self.expression(frame, test)?;
-                self.expression(frame, this)?;
-                self.expression(frame, that)
+                self.expression(frame, test);
+                self.expression(frame, this);
+                self.expression(frame, that);
             }
             Exp::Call(called, values) => {
-                self.expression(frame, called)?;
-                self.expressions(frame, values)
+                self.expression(frame, called);
+                self.expressions(frame, values);
             }
         }
     }
 
     #[cycle(scoping)]
-    fn expressions(&mut self, frame: usize, list: &[Exp<'s>]) -> Result<(), Memory> {
+    fn expressions(&mut self, frame: usize, list: &[Exp<'s>]) {
         for e in list {
-            self.expression(frame, e)?;
+            self.expression(frame, e);
         }
-        Ok(())
     }
 
     #[cycle(scoping)]
-    fn block(&mut self, frame: usize, tree: &Block<'s>, level: u64) -> Result<(), Memory> {
+    fn block(&mut self, frame: usize, tree: &Block<'s>, level: u64) {
         let outside = self.scope.mark();
-        let level = self.declarations(frame, &tree.declarations, level)?;
-        self.items(frame, &tree.items, level)?;
+        let level = self.declarations(frame, &tree.declarations, level);
+        self.items(frame, &tree.items, level);
         self.scope.leave(outside);
-        Ok(())
     }
 
     /// Declarations from this next free offset on; given is the one behind them.
     #[cycle(scoping)]
-    fn declarations(
-        &mut self,
-        frame: usize,
-        list: &[Declaration<'s>],
-        level: u64,
-    ) -> Result<u64, Memory> {
+    fn declarations(&mut self, frame: usize, list: &[Declaration<'s>], level: u64) -> u64 {
         let mut level = level;
         for tree in list {
             match tree {
-                Declaration::Constants(storage, constants) => self.constants(*storage, constants)?,
+                Declaration::Constants(storage, constants) => self.constants(*storage, constants),
                 Declaration::Let(definitions) => {
-                    level = self.definitions(frame, definitions, level)?;
+                    level = self.definitions(frame, definitions, level);
                 }
             }
         }
-        Ok(level)
+        level
     }
 
     #[cycle(scoping)]
-    fn constants(&mut self, storage: Storage, list: &[Constant<'s>]) -> Result<(), Memory> {
-        declare_pending(&mut self.scope, storage, list)?;
+    fn constants(&mut self, storage: Storage, list: &[Constant<'s>]) {
+        let declared = declare_pending(&mut self.scope, storage, list);
+        self.keep(declared);
         for tree in list {
-            declare_entry(&mut self.scope, storage, self.at, tree)?;
-            self.constant(storage, tree.name)?;
-            self.at = behind_entry(storage, self.at)?;
-            self.expression(OUTSIDE, &tree.value)?;
+            let declared = declare_entry(&mut self.scope, storage, self.at, tree);
+            self.keep(declared);
+            self.constant(storage, tree.name);
+            self.go_on(behind_entry(storage, self.at));
+            self.expression(OUTSIDE, &tree.value);
         }
-        Ok(())
     }
 
     /// The name of a constant, a static or a global at the next leaf.
-    fn constant(&mut self, storage: Storage, name: &'s [u8]) -> Result<(), Memory> {
+    fn constant(&mut self, storage: Storage, name: &'s [u8]) {
         if let Meant::Global(number) = self.scope.meant_by(name) {
-            self.globals.push(Known {
-                name,
-                number,
-                leaf: self.leaves,
-            })?;
+            self.keep_global(name, number);
         }
         if let Storage::Static = storage {
-            self.keep_datum()?;
+            self.keep_datum();
         }
         self.leaf();
-        Ok(())
+    }
+
+    /// What is at the next leaf is a global.
+    fn keep_global(&mut self, name: &'s [u8], number: u16) {
+        let known = Known {
+            name,
+            number,
+            leaf: self.leaves,
+        };
+        if self.globals.push(known).is_err() {
+            self.is_refused = true;
+        }
     }
 
     /// What is at the next leaf is a place.
-    fn keep_datum(&mut self) -> Result<(), Memory> {
-        Ok(
-            self.data.push(Datum {
-                label: self.at.place,
-                leaf: self.leaves,
-            })?,
-        )
+    fn keep_datum(&mut self) {
+        let datum = Datum {
+            label: self.at.place,
+            leaf: self.leaves,
+        };
+        if self.data.push(datum).is_err() {
+            self.is_refused = true;
+        }
     }
 
     /// The definitions of a LET at this next free offset; given is the one behind them.
     #[cycle(scoping)]
-    fn definitions(
-        &mut self,
-        frame: usize,
-        list: &[Definition<'s>],
-        level: u64,
-    ) -> Result<u64, Memory> {
-        let priors = priors_of_let(&mut self.scope, list)?;
-        let behind = declare_let(&mut self.scope, &priors, self.at, level, list)?;
+    fn definitions(&mut self, frame: usize, list: &[Definition<'s>], level: u64) -> u64 {
+        let Ok(priors) = priors_of_let(&mut self.scope, list) else {
+            self.is_refused = true;
+            return level;
+        };
+        let Ok(behind) = declare_let(&mut self.scope, &priors, self.at, level, list) else {
+            self.is_refused = true;
+            return level;
+        };
         let mut i: u64 = 0;
         for tree in list {
-            self.definition(frame, tree, priors.at(i))?;
+            self.definition(frame, tree, priors.at(i));
             i = i.saturating_add(1);
         }
-        Ok(behind)
+        behind
     }
 
     #[cycle(scoping)]
-    fn definition(
-        &mut self,
-        frame: usize,
-        tree: &Definition<'s>,
-        prior: Prior,
-    ) -> Result<(), Memory> {
+    fn definition(&mut self, frame: usize, tree: &Definition<'s>, prior: Prior) {
         match tree {
             Definition::Variables(names, values) => {
-                self.variables(frame, names, Cells::Variable)?;
-                self.expressions(frame, values)
+                self.variables(frame, names, Cells::Variable);
+                self.expressions(frame, values);
             }
             Definition::Vector(name, greatest) => {
-                self.vector(frame, name, prior.greatest)?;
-                self.expression(frame, greatest)
+                self.vector(frame, name, prior.greatest);
+                self.expression(frame, greatest);
             }
             Definition::Function(name, parameters, _) | Definition::Routine(name, parameters, _) =>
                 {
                     let outside = self.scope.mark();
-                    let inside = self.routine(name, parameters, prior.global)?;
-                    self.inside(inside, tree)?;
+                    let inside = self.routine(name, parameters, prior.global);
+                    self.inside(inside, tree);
                     self.scope.leave(outside);
-                    Ok(())
                 }
         }
     }
 
     /// What a routine with this frame gives or does.
     #[cycle(scoping)]
-    fn inside(&mut self, frame: usize, tree: &Definition<'s>) -> Result<(), Memory> {
+    fn inside(&mut self, frame: usize, tree: &Definition<'s>) {
         match tree {
             Definition::Function(_, _, value) => self.expression(frame, value),
             Definition::Routine(_, parameters, body) => {
                 let level = (parameters.len() as u64).saturating_add(2);
-                self.block(frame, body, level)
+                self.block(frame, body, level);
             }
-            Definition::Variables(_, _) | Definition::Vector(_, _) => Ok(()),
+            Definition::Variables(_, _) | Definition::Vector(_, _) => {}
         }
     }
 
     /// Variables of a frame, each with one cell.
-    fn variables(&mut self, frame: usize, names: &[&'s [u8]], cells: Cells) -> Result<(), Memory> {
+    fn variables(&mut self, frame: usize, names: &[&'s [u8]], cells: Cells) {
         for name in names {
-            self.variable(frame, name, 1, cells)?;
+            self.variable(frame, name, 1, cells);
         }
-        Ok(())
     }
 
     /// The name of a vector, and the word VEC.
-    fn vector(&mut self, frame: usize, name: &'s [u8], greatest: u16) -> Result<(), Memory> {
+    fn vector(&mut self, frame: usize, name: &'s [u8], greatest: u16) {
         let count = u64::from(greatest).saturating_add(2);
-        self.variable(frame, name, count, Cells::Vector(greatest))?;
+        self.variable(frame, name, count, Cells::Vector(greatest));
         self.leaf();
-        Ok(())
     }
 
     /// The name of a routine is a place, and may set a global.
-    fn head(&mut self, name: &'s [u8], global: Option<u16>) -> Result<(), Memory> {
-        self.frames.push(Frame {
+    fn head(&mut self, name: &'s [u8], global: Option<u16>) {
+        let frame = Frame {
             name,
             label: self.at.place,
             global,
             leaf: self.leaves,
-        })?;
+        };
+        if self.frames.push(frame).is_err() {
+            self.is_refused = true;
+        }
         if let Some(number) = global {
-            self.used.push(number)?;
+            self.use_global(number);
         }
         self.leaf();
-        self.at = self.at.behind_place()?;
-        Ok(())
+        self.go_on(self.at.behind_place());
     }
 
     /// The name and the parameters of a routine; given is its frame.
-    fn routine(
-        &mut self,
-        name: &'s [u8],
-        parameters: &[&'s [u8]],
-        global: Option<u16>,
-    ) -> Result<usize, Memory> {
+    fn routine(&mut self, name: &'s [u8], parameters: &[&'s [u8]], global: Option<u16>) -> usize {
         let frame = self.frames.len();
-        self.head(name, global)?;
-        declare_parameters(&mut self.scope, parameters)?;
-        self.variables(frame, parameters, Cells::Parameter)?;
-        Ok(frame)
+        self.head(name, global);
+        let declared = declare_parameters(&mut self.scope, parameters);
+        self.keep(declared);
+        self.variables(frame, parameters, Cells::Parameter);
+        frame
     }
 
     #[cycle(scoping)]
-    fn items(&mut self, frame: usize, list: &[Item<'s>], level: u64) -> Result<(), Memory> {
+    fn items(&mut self, frame: usize, list: &[Item<'s>], level: u64) {
         for item in list {
             for label in &item.labels {
-                self.label(frame, label)?;
+                self.label(frame, label);
             }
             if let Some(command) = &item.command {
-                self.command(frame, command, level)?;
+                self.command(frame, command, level);
             }
         }
-        Ok(())
     }
 
     #[cycle(scoping)]
-    fn label(&mut self, frame: usize, label: &Label<'s>) -> Result<(), Memory> {
+    fn label(&mut self, frame: usize, label: &Label<'s>) {
         self.leaf();
         match label {
             Label::Case(value) => self.expression(frame, value),
-            Label::Default | Label::Name(_) => Ok(()),
+            Label::Default | Label::Name(_) => {}
         }
     }
 
     /// A command that holds no others.
     #[cycle(scoping)]
-    fn single(&mut self, frame: usize, command: &Command<'s>) -> Result<(), Memory> {
+    fn single(&mut self, frame: usize, command: &Command<'s>) {
         match command {
             Command::Assign(places, values) => {
-                self.expressions(frame, places)?;
-                self.expressions(frame, values)
+                self.expressions(frame, places);
+                self.expressions(frame, values);
             }
             Command::Call(called, values) => {
-                self.expression(frame, called)?;
-                self.expressions(frame, values)
+                self.expression(frame, called);
+                self.expressions(frame, values);
             }
             Command::ResultIs(value) => {
                 self.leaf();
-                self.expression(frame, value)
+                self.expression(frame, value);
             }
             Command::Goto(_) => {
                 self.leaf();
                 self.leaf();
-                Ok(())
             }
             Command::Break | Command::Loop | Command::EndCase | Command::Return | Command::Finish =>
                 {
                     self.leaf();
-                    Ok(())
                 }
-            _ => Ok(()),
+            _ => {}
         }
     }
 
     /// A FOR at this next free offset.
     #[cycle(scoping)]
-    fn counted(&mut self, frame: usize, command: &Command<'s>, level: u64) -> Result<(), Memory> {
+    fn counted(&mut self, frame: usize, command: &Command<'s>, level: u64) {
         let Command::For {
             variable,
             start,
@@ -440,61 +454,55 @@ impl<'p, 's> Walk<'p, 's> {
         };
         let first = self.leaves;
         self.leaf();
-        self.expression(frame, start)?;
-        self.expression(frame, limit)?;
+        self.expression(frame, start);
+        self.expression(frame, limit);
         if let Some(by) = step {
-            self.expression(frame, by)?;
+            self.expression(frame, by);
         }
         let outside = self.scope.mark();
-        self.counter(frame, variable, level, first)?;
-        self.block(frame, body, level.saturating_add(2))?;
+        self.counter(frame, variable, level, first);
+        self.block(frame, body, level.saturating_add(2));
         self.scope.leave(outside);
-        Ok(())
     }
 
     /// The variable of a FOR at this offset, and its limit.
-    fn counter(
-        &mut self,
-        frame: usize,
-        name: &'s [u8],
-        offset: u64,
-        leaf: usize,
-    ) -> Result<(), Memory> {
-        self.rows.push(Row {
+    fn counter(&mut self, frame: usize, name: &'s [u8], offset: u64, leaf: usize) {
+        self.add_row(Row {
             frame,
             name,
             offset,
             count: 2,
             cells: Cells::Counter,
             leaf,
-        })?;
-        Ok(self.scope.declare(name, Meant::Variable(offset))?)
+        });
+        let declared = self.scope.declare(name, Meant::Variable(offset));
+        self.keep(declared);
     }
 
     #[cycle(scoping)]
-    fn command(&mut self, frame: usize, command: &Command<'s>, level: u64) -> Result<(), Memory> {
+    fn command(&mut self, frame: usize, command: &Command<'s>, level: u64) {
         match command {
             Command::Block(body) => self.block(frame, body, level),
             Command::Repeat(repeated) => self.command(frame, repeated, level),
             Command::RepeatWhile(repeated, test) | Command::RepeatUntil(repeated, test) => {
-                self.command(frame, repeated, level)?;
-                self.expression(frame, test)
+                self.command(frame, repeated, level);
+                self.expression(frame, test);
             }
             Command::If(test, body)
             | Command::Unless(test, body)
             | Command::While(test, body)
             | Command::Until(test, body) => {
-                self.expression(frame, test)?;
-                self.block(frame, body, level)
+                self.expression(frame, test);
+                self.block(frame, body, level);
             }
             Command::Test { test, this, that } => {
-                self.expression(frame, test)?;
-                self.block(frame, this, level)?;
-                self.block(frame, that, level)
+                self.expression(frame, test);
+                self.block(frame, this, level);
+                self.block(frame, that, level);
             }
             Command::SwitchOn(of, list) => {
-                self.expression(frame, of)?;
-                self.items(frame, list, level)
+                self.expression(frame, of);
+                self.items(frame, list, level);
             }
             _ => self.counted(frame, command, level),
         }
