@@ -3,7 +3,7 @@ pub mod Scope
 pub mod Numbering
 pub mod Scoping
 pub mod Sides
-pub mod Source
+pub mod Meaning
 pub mod Translation
 pub mod Found
 pub mod Frames

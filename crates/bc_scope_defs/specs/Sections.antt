@@ -10,7 +10,7 @@ use Rattle.bc_core.specs.Outcome.{Run, then_do}
 use Rattle.bc_core.specs.Primitive.{Primitive, primitives, primitive_among, primitive_frame, primitive_work}
 use Rattle.bc_core.specs.Start.{start_cells}
 use Rattle.bc_core.specs.Meaning.{Call, Entered, Result, routine_value, meaning_over}
-use Rattle.bc_scope_defs.specs.Source.{Around, worth, run_block}
+use Rattle.bc_scope_defs.specs.Meaning.{Around, worth, run_block}
 use Rattle.bc_scope_defs.specs.Found.{Thing, AValof, ARoutine, Data, Datum, AStatic, ATable, AText, FoundRoutine, RoutineBody, Gives, Does, found_in_section}
 use Rattle.bc_scope_defs.specs.Frames.{frame_of}
 

@@ -14,7 +14,7 @@ use Rattle.bc_scope_defs.specs.Scope.{Meant, Constant, Static, Global, Routine, 
 use Rattle.bc_scope_defs.specs.Numbering.{behind, behind_all, behind_declarations, behind_declaration, behind_definition, behind_command, behind_block, labels_named, labels_of, labels_in}
 use Rattle.bc_scope_defs.specs.Scoping.{operator, constant, before_let, in_let, in_declaration, in_declarations, cells_in, level_behind, in_for, in_list}
 use Rattle.bc_scope_defs.specs.Found.{Thing, AValof, ARoutine, Data, Datum, AStatic, ATable, AText, Found, FoundRoutine, RoutineBody, Gives, Does, found_in_section}
-use Rattle.bc_scope_defs.specs.Source.{label_number}
+use Rattle.bc_scope_defs.specs.Meaning.{label_number}
 
 -- an expression has an address and a content; what has no cell has itself for both
 pub record Forms : Type 0 where

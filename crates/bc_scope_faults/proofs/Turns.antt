@@ -8,7 +8,7 @@ use Rattle.bc_parse_tree.specs.declared.tree.Storage.TheVariants as storage
 use Rattle.bc_parse_tree.specs.Tree.{Exp, Exps, none, more, Item, Items, item, Labelled, Labels_alone}
 use Rattle.bc_scope_defs.specs.Scope.{Env, Numbers}
 use Rattle.bc_scope_defs.specs.Numbering.{labels_of, behind, behind_item, behind_command}
-use Rattle.bc_scope_defs.specs.Source.{labels_of_that}
+use Rattle.bc_scope_defs.specs.Meaning.{labels_of_that}
 use Rattle.bc_scope_defs.specs.Found.{Thing, found_entry, found, found_in_sides, found_in_items, found_in_command}
 use Rattle.bc_scope_defs.specs.FramesAlong.{width, widths, width_of_items, width_of_command}
 use Rattle.bc_scope_defs.specs.Faults.{Fault, Allowed, Met, or_else, met_labels}

@@ -8,7 +8,7 @@ ghost use Rattle.bc_scope_faults.specs.Judged.{Judges};
 ghost use Rattle.bc_scope_faults.specs.Kept.{Keeps};
 ghost use Rattle.bc_scope_faults.specs.Seen.{allowed_view, met_view};
 ghost use Rattle.bc_scope_faults.specs.Walked.{Walks, ItemWalks};
-ghost use Rattle.bc_scope_defs.specs.Source.{labels_of_that};
+ghost use Rattle.bc_scope_defs.specs.Meaning.{labels_of_that};
 ghost use Rattle.bc_scope_faults.specs.Walk.{here};
 ghost use Rattle.bc_scope_faults.specs.Parts.{of_block, of_items, of_body, of_item};
 

@@ -18,7 +18,7 @@ use Rattle.bc_scope_defs.specs.Found.{found, found_in_sides, found_in_initials, 
 use Rattle.bc_parse_tree.specs.Size.{exp_size, exps_size, block_size, declarations_size, definition_size, definitions_size, items_size, command_size}
 use Rattle.bc_core.specs.Lists.{has_label}
 use Rattle.bc_scope_defs.specs.Sides.{side_levels}
-use Rattle.bc_scope_defs.specs.Source.{among_labels, has_label_in, label_number}
+use Rattle.bc_scope_defs.specs.Meaning.{among_labels, has_label_in, label_number}
 use Rattle.bc_scope_defs.specs.Faults.{Fault, or_else, unless, Allowed}
 use Rattle.bc_scope_defs.specs.Faults as faults
 use Rattle.bc_scope_defs.specs.FaultsAlong as along

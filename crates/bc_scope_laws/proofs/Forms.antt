@@ -18,7 +18,7 @@ use Rattle.bc_scope_defs.specs.Scope.{Meant, Constant, Pending, Static, Global, 
 use Rattle.bc_scope_defs.specs.Scope as scope
 use Rattle.bc_scope_defs.specs.Numbering.{behind}
 use Rattle.bc_scope_defs.specs.Scoping.{operator, count}
-use Rattle.bc_scope_defs.specs.Source.{Around, holds_call, worth_of_name, worth_of_monadic, worth_of_dyadic, Worth}
+use Rattle.bc_scope_defs.specs.Meaning.{Around, holds_call, worth_of_name, worth_of_monadic, worth_of_dyadic, Worth}
 use Rattle.bc_scope_defs.specs.Translation.{Forms, form_of_name, form_of_monadic, form_of_dyadic, forms, core_arguments, negation, opposite, or_not}
 use Rattle.bc_scope_laws.proofs.Runs.{both_then, then_then}
 

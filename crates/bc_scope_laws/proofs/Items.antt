@@ -13,7 +13,7 @@ use Rattle.bc_core.specs.Command.{perform, perform_block, perform_items}
 use Rattle.bc_scope_defs.specs.Scope.{Env, Numbers}
 use Rattle.bc_scope_defs.specs.Numbering.{behind_command, labels_of}
 use Rattle.bc_scope_defs.specs.Scoping.{constant}
-use Rattle.bc_scope_defs.specs.Source.{met_labels, among_labels, has_label_in, among_cases, has_case_in, Side, set_side, set_sides}
+use Rattle.bc_scope_defs.specs.Meaning.{met_labels, among_labels, has_label_in, among_cases, has_case_in, Side, set_side, set_sides}
 use Rattle.bc_scope_defs.specs.Translation.{Forms, core_labels, core_items, assignments, assignment, block_of}
 use Rattle.bc_scope_laws.proofs.Runs.{then_then, then_onward, listed_without_labels}
 use Rattle.bc_scope_laws.proofs.Forms.{CallsAre, worth_of}

@@ -11,7 +11,7 @@ use Rattle.bc_core.specs.Words.{string_words}
 use Rattle.bc_core.specs.Start.{start_cells}
 use Rattle.bc_core.specs.Meaning.{Call, routine_value, context_in, body_value, Callee, OfSection, OfLibrary, callee_among, of_library, callee, Entered, entered_of, entered_at, meaning_over}
 use Rattle.bc_core.specs.Meaning as meaning
-use Rattle.bc_scope_defs.specs.Source.{Around}
+use Rattle.bc_scope_defs.specs.Meaning.{Around}
 use Rattle.bc_scope_defs.specs.Found.{AStatic, ATable, AText, Thing, AValof, ARoutine, Data, FoundRoutine, RoutineBody, Gives, Does, found_in_section}
 use Rattle.bc_scope_defs.specs.Translation.{core_of, core_routine, core_body, places_of, valofs_of}
 use Rattle.bc_scope_defs.specs.Sections.{PlacedSection, placed_sections, around, routine_does, routine_entered, routine_among, or_else, primitive_entered, find, standing_of, standing_in}

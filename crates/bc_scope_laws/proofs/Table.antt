@@ -3,7 +3,7 @@ use Rattle.std.proofs.Common.{◌≡◌, ◌∙◌, ℕ, ◌+◌, ◌<◌, ◌==
 use Rattle.bc_core.specs.Outcome.{Run, then_do}
 use Rattle.bc_core.specs.Command.{perform_block}
 use Rattle.bc_core.specs.Meaning.{valof_value, valofs_from}
-use Rattle.bc_scope_defs.specs.Source.{Around}
+use Rattle.bc_scope_defs.specs.Meaning.{Around}
 use Rattle.bc_scope_defs.specs.Found.{Found, Thing, AValof, ARoutine, Data}
 use Rattle.bc_scope_defs.specs.Translation.{valof_of, valofs_of}
 use Rattle.bc_scope_laws.specs.Laws.{ExpressionsKeepTheirMeaning, CommandsKeepTheirMeaning}

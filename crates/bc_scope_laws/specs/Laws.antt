@@ -17,7 +17,7 @@ use Rattle.bc_scope_defs.specs.Scope.{Meant, Static, Global, Routine, Variable, 
 use Rattle.bc_scope_defs.specs.Scope as scope
 use Rattle.bc_scope_defs.specs.Scoping.{count, level_behind, seen_through}
 use Rattle.bc_scope_defs.specs.Sides.{side_levels}
-use Rattle.bc_scope_defs.specs.Source.{Around, worth, run_command}
+use Rattle.bc_scope_defs.specs.Meaning.{Around, worth, run_command}
 use Rattle.bc_scope_defs.specs.Translation.{Forms, forms, forms_of_all, core_arguments, core_declarations, core_command, valofs_of, core_of}
 use Rattle.bc_scope_defs.specs.Found.{Thing, AValof, ARoutine, Data, FoundRoutine, found, found_in_command, found_in_section}
 use Rattle.bc_scope_defs.specs.Frames.{width, width_of_declarations, width_of_command, frame_of}

@@ -7,7 +7,7 @@ ghost use Rattle.bc_core.specs.Commands.{Call, Goto, If, Nested, ResultIs, Test,
 ghost use Rattle.bc_core.specs.Tree.{Call as call_of};
 ghost use Rattle.bc_core.specs.View.{variable, declarations as declarations_of, command as command_of, items as items_of, block_of as core_block_of};
 ghost use Rattle.bc_parse_tree.specs.View.{exp_view, exps_view, command_view, block_view, declaration_view, declarations_view, definition_view, definitions_view, entries_view, label_view, labels_view, item_view, items_view};
-ghost use Rattle.bc_scope_defs.specs.Source.{label_number as label_number_of};
+ghost use Rattle.bc_scope_defs.specs.Meaning.{label_number as label_number_of};
 ghost use Rattle.bc_scope_defs.specs.Scoping.{in_entries, in_declaration, in_declarations, in_list, in_for, cells_in, level_behind};
 ghost use Rattle.bc_scope_defs.specs.Scope.{behind_labels, meant_by};
 ghost use Rattle.bc_scope_defs.specs.Numbering.{labels_of, labels_in as labels_in_of, behind_entries, behind, behind_all, behind_block, behind_declarations, behind_definitions, behind_declaration, behind_definition as behind_definition_of, behind_items, behind_item, behind_command};
