@@ -445,8 +445,9 @@ table_two : (T : Table) → IsTrue (has_tests_of_zero T) → T ≡ Two
 table_two tables.One h = cc
 table_two tables.Two h = refl
 
-test_of_zero : (T : Table) (a b g : Exp) (aim : Aim) (s : ℕ) (t : Tree) (ts : Trees) (r : Rule) (x : Option ℕ) → one t ≡ ts → (rule_of : (q : Beside T (beside_zero a b) (Gets Any))
-    → Derives T g aim) → ((q : Beside T (beside_zero a b) (Gets Any)) → cost (rule_of q) s ≡ cost q.derivation (s + 1) + 2)
+test_of_zero : (T : Table) (a b g : Exp) (aim : Aim) (s : ℕ) (t : Tree) (ts : Trees) (r : Rule) (x : Option ℕ) → one t ≡ ts
+    → (rule_of : (q : Beside T (beside_zero a b) (Gets Any)) → Derives T g aim)
+    → ((q : Beside T (beside_zero a b) (Gets Any)) → cost (rule_of q) s ≡ cost q.derivation (s + 1) + 2)
     → ((q : Beside T (beside_zero a b) (Gets Any)) → shape (rule_of q) ≡ by r (one (shape q.derivation)))
     → ((q : Beside T (beside_zero a b) (Gets Any)) → IsLeast q.derivation (s + 1) × HasLeastParts q.derivation (s + 1) → HasLeastParts (rule_of q) s)
     → Makes (Beside T (beside_zero a b) (Gets Any)) (λ q. cost q.derivation (s + 1)) (λ q. IsPart (s + 1) t q.derivation) x
