@@ -2,7 +2,6 @@
 #![tactic(auto, unfolding(bc_select_defs::specs::Options::better, bc_select_defs::specs::Options::least_from, bc_select_defs::specs::Options::operand_cost))]
 
 ghost use Rattle.std.specs.Prelude.{◌≡◌, ◌<◌, ◌≤◌, ◌+◌, ◌^◌, None, true, false};
-ghost use Rattle.bc_core.specs.Operand.{content_of};
 ghost use Rattle.bc_select_defs.specs.Options.{words_of, least_from as least_of};
 ghost use Rattle.bc_select_defs.specs.Choices.{number_tests, leaf_choices as leaf_of, number_choices as number_of, unary_choices as unary_of, not_choices as not_of, cond_choices as cond_of, call_choices as call_of, valof_choices as valof_of, by_value as by_value_of};
 ghost use Rattle.bc_select.specs.Small.{Small, AreSmall};
@@ -12,22 +11,6 @@ use bc_core::Operand;
 use bc_rules_defs::{Rule, jumps, number_words};
 use bc_select_defs::{Choice, Choices};
 use bc_word::Word;
-
-/// The content of the cell at an operand, if one instruction can take it.
-pub fn content(operand: Option<Operand>) -> Option<Operand>
-    ensures { result ≡ content_of operand }
-{
-    let operand = operand?;
-    if operand.direct {
-        Some(Operand {
-            direct: false,
-            base: operand.base,
-            n: operand.n,
-        })
-    } else {
-        None
-    }
-}
 
 /// The choice of a test that is made of a value.
 fn value_test(any: Option<Choice>) -> Option<Choice>

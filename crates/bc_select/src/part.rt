@@ -4,8 +4,7 @@ ghost use Rattle.std.specs.Prelude.{◌≡◌};
 ghost use Rattle.bc_core.specs.View.{exp};
 ghost use Rattle.bc_core.specs.Operand.{operand_of, content_of};
 
-use crate::line::content;
-use bc_core::{CoreExp, Operand, operand};
+use bc_core::{CoreExp, Operand, content, operand};
 use bc_select_defs::Choices;
 
 /// A node, as the whole that it is part of sees it.
