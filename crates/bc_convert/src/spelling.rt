@@ -190,35 +190,22 @@ fn replace_if_other(source: Source<'_>, notes: &mut Notes, index: usize, bytes: 
 
 /// What becomes of a reserved word or a sign.
 fn respell_sign(source: Source<'_>, notes: &mut Notes, index: usize, kind: Kind, dialect: Dialect) {
+    let bytes = source.bytes(index);
+    if let Some(word) = reserved(bytes, dialect.has_small_words)
+        && kind != Kind::Header
+    {
+        return replace_if_other(source, notes, index, word.spelling);
+    }
     match kind {
+        Kind::Query => notes.replace(index, b"0"),
+        Kind::Underline => notes.replace(index, b":="),
+        Kind::Not => replace_if_other(source, notes, index, b"~"),
+        Kind::Relation if matches!(bytes, [b'\\' | 0xc2, ..]) => notes.replace(index, b"~="),
+        Kind::OpenRound => replace_if_other(source, notes, index, b"("),
+        Kind::CloseRound => replace_if_other(source, notes, index, b")"),
         Kind::OpenSection => respell_section(source, notes, index, b"$("),
         Kind::CloseSection => respell_section(source, notes, index, b"$)"),
-        _ => {
-            if let Some(spelling) = spelling_of(source.bytes(index), kind, dialect) {
-                replace_if_other(source, notes, index, spelling);
-            }
-        }
-    }
-}
-
-/// How a reserved word or a sign is spelled here, where it may have been spelled otherwise.
-fn spelling_of(bytes: &[u8], kind: Kind, dialect: Dialect) -> Option<&'static [u8]> {
-    match reserved(bytes, dialect.has_small_words) {
-        Some(word) if kind != Kind::Header => Some(word.spelling),
-        _ => sign_of(bytes, kind),
-    }
-}
-
-/// The same of a sign.
-fn sign_of(bytes: &[u8], kind: Kind) -> Option<&'static [u8]> {
-    match kind {
-        Kind::Query => Some(b"0"),
-        Kind::Underline => Some(b":="),
-        Kind::Not => Some(b"~"),
-        Kind::Relation if matches!(bytes, [b'\\' | 0xc2, ..]) => Some(b"~="),
-        Kind::OpenRound => Some(b"("),
-        Kind::CloseRound => Some(b")"),
-        _ => None,
+        _ => {}
     }
 }
 

@@ -6,3 +6,4 @@ pub mod Endings
 pub mod Code
 pub mod Sections
 pub mod Stepped
+pub mod Tested

@@ -1,18 +1,20 @@
 // What is done where control leaves a command, and behind a store.
 
+ghost use Rattle.std.specs.Prelude.{ℕ, List};
 ghost use Rattle.bc_core.specs.Exit.{Past};
-ghost use Rattle.bc_core.specs.View.{block_of};
+ghost use Rattle.bc_core.specs.Outcome.{in_turn};
+ghost use Rattle.bc_core.specs.View.{exp, items as items_view, block_of};
 ghost use Rattle.bc_interpret_defs.specs.Machine as machine;
 ghost use Rattle.bc_interpret_steps.specs.declared.state.State.{State as StateValue};
-ghost use Rattle.bc_interpret_steps.specs.Code.{spot_of, exit_of, exit_rest, nothing_rest};
-ghost use Rattle.bc_interpret_steps.specs.Came.{IsBehind, IsBehindCases};
+ghost use Rattle.bc_interpret_steps.specs.Code.{spot_of, exit_of, exit_rest, nothing_rest, work_of};
+ghost use Rattle.bc_interpret_steps.specs.Came.{IsBehind, IsBehindCases, CameOrMalformed};
 ghost use Rattle.bc_interpret_steps.specs.Stepped.{Takes, TakesOrMalformed, GivesOrMalformed, GivesIfOk};
 
 use crate::forms::{Entry, Exit, Progress, Spot, Work};
 use crate::lists::{has_label, listing};
 use crate::rests::{ExitRest, NothingRest, Rest, TruthRest, ValueRest, above, put};
 use crate::state::{Stacks, State, put_word, turn};
-use bc_core::Block;
+use bc_core::{Block, Condition, ListItem};
 use bc_interpret_quiet::{Cause, cell_of};
 use bc_interpret_store::Cell;
 use bc_word::Memory;
@@ -77,99 +79,155 @@ pub(crate) fn exit_taken<'c>(
             stacks.next = resulted(exit);
             Ok(())
         }
-        ExitRest::WhileBody(spot, condition, body, s) => match behind(exit) {
-            Some(left) => {
-                stacks.next = Progress::On(Work::Left(left));
-                Ok(())
-            }
-            None => {
-                if !turn(state) {
-                    stacks.next = Progress::Going;
-                    return Ok(());
-                }
-                stacks.next = Progress::On(Work::While(*spot, condition, body, *s));
-                Ok(())
-            }
-        },
-        ExitRest::RepeatBody(spot, body, s) => match behind(exit) {
-            Some(left) => {
-                stacks.next = Progress::On(Work::Left(left));
-                Ok(())
-            }
-            None => {
-                if !turn(state) {
-                    stacks.next = Progress::Going;
-                    return Ok(());
-                }
-                stacks.next = Progress::On(Work::Repeat(*spot, body, *s));
-                Ok(())
-            }
-        },
-        ExitRest::RepeatWhileBody(spot, body, condition, s) => match behind(exit) {
-            Some(left) => {
-                stacks.next = Progress::On(Work::Left(left));
-                Ok(())
-            }
-            None => {
-                put(
-                    Rest::Truth(TruthRest::RepeatWhiles(*spot, body, condition, *s)),
-                    &mut stacks.rests,
-                )?;
-                stacks.next = Progress::On(Work::Decide(*spot, &condition.test, *s));
-                Ok(())
-            }
-        },
-        ExitRest::ForBody(spot, limit, by, body, s) => match behind(exit) {
-            Some(left) => {
-                stacks.next = Progress::On(Work::Left(left));
-                Ok(())
-            }
-            None => {
-                stacks.next = step_variable(*spot, *limit, *by, body, *s, state)?;
-                Ok(())
-            }
-        },
+        ExitRest::WhileBody(spot, condition, body, s) => {
+            stacks.next = loop_on(exit, Work::While(*spot, condition, body, *s), state);
+            Ok(())
+        }
+        ExitRest::RepeatBody(spot, body, s) => {
+            stacks.next = loop_on(exit, Work::Repeat(*spot, body, *s), state);
+            Ok(())
+        }
+        ExitRest::RepeatWhileBody(spot, body, condition, s) => {
+            decide_on(*spot, body, condition, *s, exit, stacks)
+        }
+        ExitRest::ForBody(spot, limit, by, body, s) => {
+            step_on(*spot, (*limit, *by), body, *s, exit, stacks, state)
+        }
         ExitRest::Cases => {
             stacks.next = Progress::On(Work::Left(behind_cases(exit)));
             Ok(())
         }
-        ExitRest::Follows(spot, items, s) => match exit {
-            Exit::Past => {
-                stacks.next = Progress::On(Work::Listing(*spot, items, *s, Entry::Beginning));
-                Ok(())
+        ExitRest::Follows(spot, items, s) => {
+            stacks.next = follow(*spot, items, *s, exit);
+            Ok(())
+        }
+        ExitRest::Listed(spot, items, s) => list_left(*spot, items, *s, exit, stacks, state),
+    }
+}
+
+/// A WHILE or a REPEAT whose body control leaves so: it goes on with this, which takes a turn, or is left.
+#[inline(always)]
+fn loop_on<'c>(exit: Exit, again: Work<'c>, state: &mut State) -> Progress<'c>
+    ensures { (rs : List machine.Rest) (vs : List ℕ) → CameOrMalformed (machine.behind (in_turn (machine.go (work_of vs again.entry) rs)) (exit_of exit) rs) state.old
+        result rs vs state.new }
+{
+    match behind(exit) {
+        Some(left) => Progress::On(Work::Left(left)),
+        None => {
+            if !turn(state) {
+                return Progress::Going;
             }
-            Exit::Broke
-            | Exit::Looped
-            | Exit::LeftCases
-            | Exit::Returned
-            | Exit::Resulted(_)
-            | Exit::Jumped(_) => {
-                stacks.next = Progress::On(Work::Left(exit));
-                Ok(())
+            Progress::On(again)
+        }
+    }
+}
+
+/// A REPEATWHILE or REPEATUNTIL whose body control leaves so: its condition comes next, or it is left.
+#[inline(always)]
+fn decide_on<'c>(
+    spot: Spot<'c>,
+    body: &'c Block,
+    condition: &'c Condition,
+    s: u32,
+    exit: Exit,
+    stacks: &mut Stacks<'c>,
+) -> Result<(), Memory>
+    ensures { (st : StateValue) → TakesOrMalformed (machine.RepeatWhileBody (spot_of spot.entry) (block_of body.now) condition.now.sense (exp
+        condition.now.test) s) (machine.Left (exit_of exit)) stacks.old.rests st result stacks.new.next stacks.new.rests st }
+{
+    match behind(exit) {
+        Some(left) => {
+            stacks.next = Progress::On(Work::Left(left));
+            Ok(())
+        }
+        None => {
+            put(
+                Rest::Truth(TruthRest::RepeatWhiles(spot, body, condition, s)),
+                &mut stacks.rests,
+            )?;
+            stacks.next = Progress::On(Work::Decide(spot, &condition.test, s));
+            Ok(())
+        }
+    }
+}
+
+/// A FOR with this limit and this step whose body control leaves so: its variable is stepped, or it is left.
+#[inline(always)]
+fn step_on<'c>(
+    spot: Spot<'c>,
+    bounds: (u16, u16),
+    body: &'c Block,
+    s: u32,
+    exit: Exit,
+    stacks: &mut Stacks<'c>,
+    state: &mut State,
+) -> Result<(), Memory>
+    ensures { TakesOrMalformed (machine.ForBody (spot_of spot.entry) bounds.0 bounds.1 (block_of body.now) s) (machine.Left (exit_of exit)) stacks.old.rests
+        state.old result stacks.new.next stacks.new.rests state.new }
+{
+    let (limit, by) = bounds;
+    match behind(exit) {
+        Some(left) => {
+            stacks.next = Progress::On(Work::Left(left));
+            Ok(())
+        }
+        None => {
+            stacks.next = step_variable(spot, limit, by, body, s, state)?;
+            Ok(())
+        }
+    }
+}
+
+/// The items behind a command that control leaves so: they come next where it goes past.
+#[inline(always)]
+fn follow<'c>(spot: Spot<'c>, items: &'c [ListItem], s: u32, exit: Exit) -> Progress<'c>
+    ensures { (st : StateValue) → GivesOrMalformed (machine.Follows (spot_of spot.entry) (items_view items.now) s) (machine.Left (exit_of exit)) st result st }
+{
+    match exit {
+        Exit::Past => Progress::On(Work::Listing(spot, items, s, Entry::Beginning)),
+        Exit::Broke
+        | Exit::Looped
+        | Exit::LeftCases
+        | Exit::Returned
+        | Exit::Resulted(_)
+        | Exit::Jumped(_) => Progress::On(Work::Left(exit)),
+    }
+}
+
+/// A whole list that control leaves so: a jump to one of its labels enters it again.
+#[inline(always)]
+fn list_left<'c>(
+    spot: Spot<'c>,
+    items: &'c [ListItem],
+    s: u32,
+    exit: Exit,
+    stacks: &mut Stacks<'c>,
+    state: &mut State,
+) -> Result<(), Memory>
+    ensures { TakesOrMalformed (machine.Listed (spot_of spot.entry) (items_view items.now) s) (machine.Left (exit_of exit)) stacks.old.rests state.old result
+        stacks.new.next stacks.new.rests state.new }
+{
+    match exit {
+        Exit::Jumped(label) => {
+            if has_label(items, label) {
+                put(
+                    Rest::Exit(ExitRest::Listed(spot, items, s)),
+                    &mut stacks.rests,
+                )?;
+                return Ok(listing(spot, items, s, Entry::AtLabel(label), stacks, state)?);
             }
-        },
-        ExitRest::Listed(spot, items, s) => match exit {
-            Exit::Jumped(label) => {
-                if has_label(items, label) {
-                    put(
-                        Rest::Exit(ExitRest::Listed(*spot, items, *s)),
-                        &mut stacks.rests,
-                    )?;
-                    return Ok(listing(*spot, items, *s, Entry::AtLabel(label), stacks, state)?);
-                }
-                stacks.next = Progress::On(Work::Left(exit));
-                Ok(())
-            }
-            Exit::Past
-            | Exit::Broke
-            | Exit::Looped
-            | Exit::LeftCases
-            | Exit::Returned
-            | Exit::Resulted(_) => {
-                stacks.next = Progress::On(Work::Left(exit));
-                Ok(())
-            }
-        },
+            stacks.next = Progress::On(Work::Left(exit));
+            Ok(())
+        }
+        Exit::Past
+        | Exit::Broke
+        | Exit::Looped
+        | Exit::LeftCases
+        | Exit::Returned
+        | Exit::Resulted(_) => {
+            stacks.next = Progress::On(Work::Left(exit));
+            Ok(())
+        }
     }
 }
 

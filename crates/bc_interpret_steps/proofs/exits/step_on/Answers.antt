@@ -1,0 +1,21 @@
+use Rattle.std.proofs.Common.{subst}
+use Rattle.bc_core.specs.Exit.{Past}
+use Rattle.bc_core.specs.View.{block_of}
+use Rattle.bc_interpret_defs.specs.Machine.{Left, ForBody, next}
+use Rattle.bc_interpret_steps.specs.Code.{spot_of, exit_of, stack, given}
+use Rattle.bc_interpret_steps.specs.Came.{CameOrMalformed}
+use Rattle.bc_interpret_steps.proofs.Loops.{for_behind}
+use Rattle.bc_interpret_steps.proofs.Quiet.{loosen}
+use Rattle.bc_interpret_steps.proofs.exits.step_on.Goals as goal
+
+pub returns-in_ok-stacks-in-None : goal.returns-in_ok-stacks-in-None
+returns-in_ok-stacks-in-None c program =
+    let before = c.args.stacks.now.rests.items in
+    let old = c.args.state.now in
+    let new = c.step_variable.new.state in
+    let E = spot_of c.args.spot in
+    let b = block_of c.args.body.now in
+    let came = c.in_ok-stacks-in-None in
+    subst (λ r. CameOrMalformed r old came.field-0 (stack before) (given before) new)
+    (for_behind program E c.args.bounds.0 c.args.bounds.1 b c.args.s (exit_of c.args.exit) (stack before) c.in-None.ensures)
+    (loosen (next program (ForBody E c.args.bounds.0 c.args.bounds.1 b c.args.s) (Left Past) (stack before)) old came.field-0 (stack before) (given before) new (came.ensures program (stack before) (given before)))
