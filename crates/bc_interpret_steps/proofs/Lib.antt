@@ -2,7 +2,6 @@ pub mod Argues
 pub mod Arrivals
 pub mod Assigns
 pub mod Counts
-pub mod Decides
 pub mod Entries
 pub mod Frames
 pub mod Gathers

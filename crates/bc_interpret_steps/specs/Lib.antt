@@ -6,4 +6,3 @@ pub mod Endings
 pub mod Code
 pub mod Sections
 pub mod Stepped
-pub mod Tested

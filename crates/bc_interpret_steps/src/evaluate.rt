@@ -9,7 +9,6 @@ ghost use Rattle.bc_interpret_quiet.specs.Views.{IsWorth, IsTruth};
 ghost use Rattle.bc_interpret_steps.specs.declared.state.State.{State as StateValue};
 ghost use Rattle.bc_interpret_steps.specs.Came.{progress_of, progress_of_truth, sight};
 ghost use Rattle.bc_interpret_steps.specs.Stepped.{Proceeds, ProceedsOrMalformed};
-ghost use Rattle.bc_interpret_steps.specs.Tested.{IsTest};
 
 use crate::arguments::argue;
 use crate::forms::{Arguments, Ending, Progress, Spot, Work};
@@ -273,41 +272,7 @@ pub(crate) fn decide<'c>(
     }
 }
 
-/// What an expression is as a test.
-#[derive(Clone, Copy)]
-enum Test<'c> {
-    /// The opposite of another test.
-    Opposite(&'c CoreExp),
-    Both(&'c CoreExp, &'c CoreExp),
-    Either(&'c CoreExp, &'c CoreExp),
-    /// A number, which is true if it isn't 0.
-    Number,
-}
-
-/// What an expression is as a test.
-#[inline(always)]
-fn as_test(e: &CoreExp) -> Test<'_>
-    ensures { IsTest result e.now }
-{
-    match e {
-        CoreExp::Not(part) => Test::Opposite(part),
-        CoreExp::Bin(Op::And, left, right) => Test::Both(left, right),
-        CoreExp::Bin(Op::Or, left, right) => Test::Either(left, right),
-        CoreExp::Bin(_, _, _)
-        | CoreExp::Num(_)
-        | CoreExp::Frame(_)
-        | CoreExp::Glob(_)
-        | CoreExp::Place(_)
-        | CoreExp::Load(_)
-        | CoreExp::Neg(_)
-        | CoreExp::Cond(_, _, _)
-        | CoreExp::Call(_, _)
-        | CoreExp::Valof(_) => Test::Number,
-    }
-}
-
 /// One step into an expression in which a call stands and whose truth is wanted.
-#[tactic(auto, using(crate::proofs::Decides::of_a_test))]
 fn decide_parts<'c>(
     spot: Spot<'c>,
     e: &'c CoreExp,
@@ -317,13 +282,13 @@ fn decide_parts<'c>(
     ensures { (st : StateValue) → Proceeds
         (machine.decide_parts (spot_of spot.entry) (exp e.now) s) stacks.old.rests st result stacks.new.next stacks.new.rests st }
 {
-    match as_test(e) {
-        Test::Opposite(part) => {
+    match e {
+        CoreExp::Not(part) => {
             put(Rest::Truth(TruthRest::Opposes), &mut stacks.rests)?;
             stacks.next = Progress::On(Work::Decide(spot, part, s));
             Ok(())
         }
-        Test::Both(left, right) => {
+        CoreExp::Bin(Op::And, left, right) => {
             put(
                 Rest::Truth(TruthRest::Conjoins(spot, right, s)),
                 &mut stacks.rests,
@@ -331,7 +296,7 @@ fn decide_parts<'c>(
             stacks.next = Progress::On(Work::Decide(spot, left, above(s, 1)?));
             Ok(())
         }
-        Test::Either(left, right) => {
+        CoreExp::Bin(Op::Or, left, right) => {
             put(
                 Rest::Truth(TruthRest::Disjoins(spot, right, s)),
                 &mut stacks.rests,
@@ -339,7 +304,16 @@ fn decide_parts<'c>(
             stacks.next = Progress::On(Work::Decide(spot, left, above(s, 1)?));
             Ok(())
         }
-        Test::Number => {
+        CoreExp::Bin(_, _, _)
+        | CoreExp::Num(_)
+        | CoreExp::Frame(_)
+        | CoreExp::Glob(_)
+        | CoreExp::Place(_)
+        | CoreExp::Load(_)
+        | CoreExp::Neg(_)
+        | CoreExp::Cond(_, _, _)
+        | CoreExp::Call(_, _)
+        | CoreExp::Valof(_) => {
             put(Rest::Number(NumberRest::Tests), &mut stacks.rests)?;
             stacks.next = Progress::On(Work::Evaluate(spot, e, s));
             Ok(())

@@ -108,8 +108,8 @@ pub(crate) fn exit_taken<'c>(
 /// A WHILE or a REPEAT whose body control leaves so: it goes on with this, which takes a turn, or is left.
 #[inline(always)]
 fn loop_on<'c>(exit: Exit, again: Work<'c>, state: &mut State) -> Progress<'c>
-    ensures { (rs : List machine.Rest) (vs : List ℕ) → CameOrMalformed (machine.behind (in_turn (machine.go (work_of vs again.entry) rs)) (exit_of exit) rs) state.old
-        result rs vs state.new }
+    ensures { (rs : List machine.Rest) (vs : List ℕ) → CameOrMalformed (machine.behind (in_turn (machine.go (work_of vs again.entry) rs))
+        (exit_of exit) rs) state.old result rs vs state.new }
 {
     match behind(exit) {
         Some(left) => Progress::On(Work::Left(left)),
