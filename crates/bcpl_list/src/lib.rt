@@ -2,6 +2,7 @@
 #![tactic(auto)]
 
 mod listing;
+mod page;
 mod references;
 mod strings;
 

@@ -1,7 +1,7 @@
+use crate::page::Page;
 use crate::references::{Manner, Reference, of_label, references};
-use crate::strings::{run_behind, said_of_bytes};
+use crate::strings::{run_behind, say_bytes};
 use bc_machine_image::Image;
-use bc_show::ShownItem;
 use bc_text_items::{Base, Function, Item, Segment};
 use bc_word::{Memory, Word};
 use bcpl_segments::{addresses, instruction, is_long, library_name};
@@ -64,7 +64,7 @@ struct Listed<'p> {
 #[derive(Drop)]
 struct Listing<'p> {
     alloc: Global,
-    text: String,
+    page: Page,
     program: Program<'p>,
     /// How many of the notes were told.
     told: usize,
@@ -93,43 +93,65 @@ fn address_of(image: &Image, segment: usize, label: Word) -> Option<u16> {
     Some(address.get())
 }
 
+/// Whether an operation is a jump.
+fn is_jump(function: Function) -> bool {
+    matches!(
+        function,
+        Function::Jump | Function::JumpIfTrue | Function::JumpIfFalse
+    )
+}
+
+/// The byte that shares its word with the byte in front of the item with this index.
+fn second_byte(listed: &Listed<'_>, index: usize, address: usize) -> Option<u8> {
+    let next = listed.addresses.as_slice().get(index)?;
+    match listed.items.get(index)? {
+        Item::Byte(second) if *next == address => Some(*second),
+        _ => None,
+    }
+}
+
+/// Whether the item with this index is the second byte of a word.
+fn is_second_byte(listed: &Listed<'_>, index: usize, last: Option<usize>) -> bool {
+    let address = listed.addresses.as_slice().get(index).copied();
+    matches!(listed.items.get(index), Some(Item::Byte(_))) && address == last
+}
+
 impl<'p> Listing<'p> {
-    /// A line of a word: its address, itself, its item, and what is said of it.
-    fn add_word(&mut self, address: usize, item: &str, said: &str) -> Result<(), Memory> {
+    /// Begins the line of a word: its address, and itself.
+    fn begin_word(&mut self, address: usize) {
         let word = word_at(self.program.image, address);
-        write!(self.text, "{address:>6} {word:>6}")?;
-        self.add_item(item, said)
+        self.page.add_column(address);
+        self.page.add(" ");
+        self.page.add_column(usize::from(word));
     }
 
-    /// The rest of a line.
-    fn add_item(&mut self, item: &str, said: &str) -> Result<(), Memory> {
-        if said.is_empty() && item.is_empty() {
-            self.text.push('\n')?;
-        } else if said.is_empty() {
-            writeln!(self.text, "  {item}")?;
-        } else {
-            writeln!(self.text, "  {item:<14} / {said}")?;
-        }
-        Ok(())
+    /// Begins a line that belongs to no word, with its item to follow.
+    fn begin_alone(&mut self) {
+        self.page.add("             ");
+        self.page.begin_item();
     }
 
-    /// A line that belongs to no word.
-    fn add_item_alone(&mut self, item: &str, said: &str) -> Result<(), Memory> {
-        write!(self.text, "             ")?;
-        self.add_item(item, said)
+    /// A word of the boot.
+    fn add_boot_word(&mut self, address: usize, said: &str) {
+        let word = Word::new(word_at(self.program.image, address));
+        let following = Word::new(word_at(self.program.image, address.saturating_add(1)));
+        let Ok(item) = instruction(self.alloc, word, following) else {
+            return self.page.refuse();
+        };
+        self.begin_word(address);
+        self.page.begin_item();
+        self.page.add(item.as_str());
+        self.page.say(said);
+        self.page.end_line();
     }
 
     /// The boot's words.
-    fn add_boot(&mut self) -> Result<(), Memory> {
-        self.text
-            .push_str("/ boot\n/ addr   word  item           / what it is\n")?;
+    fn add_boot(&mut self) {
+        self.page
+            .add("/ boot\n/ addr   word  item           / what it is\n");
         for (address, said) in BOOT.iter().enumerate() {
-            let word = Word::new(word_at(self.program.image, address));
-            let following = Word::new(word_at(self.program.image, address.saturating_add(1)));
-            let item = instruction(self.alloc, word, following)?;
-            self.add_word(address, item.as_str(), said)?;
+            self.add_boot_word(address, said);
         }
-        Ok(())
     }
 
     /// The globals that are set, by their numbers.
@@ -151,30 +173,42 @@ impl<'p> Listing<'p> {
     }
 
     /// The cells of the globals that are set.
-    fn add_globals(&mut self) -> Result<(), Memory> {
+    fn add_globals(&mut self) {
         let last = FIRST_CELL.saturating_add(GLOBALS).saturating_sub(1);
-        writeln!(
-            self.text,
-            "\n/ globals that are set; their cells are {FIRST_CELL} to {last}"
-        )?;
-        let settings = self.settings()?;
-        for setting in &settings {
-            self.add_setting(*setting)?;
+        self.page.add("\n/ globals that are set; their cells are ");
+        self.page.add_number(FIRST_CELL);
+        self.page.add(" to ");
+        self.page.add_number(last);
+        self.page.end_line();
+        match self.settings() {
+            Ok(settings) => self.add_settings(settings.as_slice()),
+            Err(_) => self.page.refuse(),
         }
-        Ok(())
+    }
+
+    fn add_settings(&mut self, settings: &[Setting]) {
+        for setting in settings {
+            self.add_setting(*setting);
+        }
     }
 
     /// The cell of a global that is set, with the library's name for it, if it has one.
-    fn add_setting(&mut self, setting: Setting) -> Result<(), Memory> {
-        let number = setting.number;
-        let label = setting.label;
-        let segment = setting.segment;
-        let name = self.name_of(segment);
-        let (known, sign) = known_name(number);
-        let item = format!(in self.alloc; "G{number}L{label}")?;
-        let said = format!(in self.alloc; "{known}{sign}of segment {segment}, {name}")?;
-        let cell = FIRST_CELL.saturating_add(usize::from(number));
-        self.add_word(cell, item.as_str(), said.as_str())
+    fn add_setting(&mut self, setting: Setting) {
+        let number = usize::from(setting.number);
+        let (known, sign) = known_name(setting.number);
+        let name = self.name_of(setting.segment);
+        self.begin_word(FIRST_CELL.saturating_add(number));
+        self.page.begin_item();
+        self.page.add("G");
+        self.page.add_number(number);
+        self.page.add("L");
+        self.page.add_number(usize::from(setting.label));
+        self.page.say(known);
+        self.page.say(sign);
+        self.page.say_number("of segment ", setting.segment);
+        self.page.say(", ");
+        self.page.say(name);
+        self.page.end_line();
     }
 
     /// What a segment is called.
@@ -185,203 +219,264 @@ impl<'p> Listing<'p> {
         }
     }
 
+    /// A note.
+    fn add_note(&mut self, said: &str) {
+        self.page.add("/ ");
+        self.page.add(said);
+        self.page.end_line();
+    }
+
     /// Tells the notes on the items up to this one that were not told.
-    fn add_notes(&mut self, segment: usize, item: usize) -> Result<(), Memory> {
+    fn add_notes(&mut self, segment: usize, item: usize) {
         let notes = self.program.notes;
         for index in self.told..notes.len() {
             let note = &notes[index];
             if note.segment > segment || (note.segment == segment && note.item > item) {
-                return Ok(());
+                return;
             }
-            let said = note.said;
-            writeln!(self.text, "/ {said}")?;
+            self.add_note(note.said);
             self.told = index.saturating_add(1);
         }
-        Ok(())
     }
 
-    /// What speaks of a label, some in each line.
-    fn said_of_uses(&self, references: &[Reference]) -> Result<String, Memory> {
-        let mut said = String::new(self.alloc);
-        for reference in references {
-            if !said.is_empty() {
-                said.push_str(", ")?;
-            }
-            let at = reference.at;
-            match reference.manner {
-                Manner::Global => write!(said, "global {at}")?,
-                Manner::Operation(letter) => write!(said, "{letter} at {at}")?,
-                Manner::Data => write!(said, "word at {at}")?,
-            }
+    /// Says that this speaks of a label.
+    fn say_use(&mut self, reference: Reference) {
+        let at = reference.at;
+        match reference.manner {
+            Manner::Global => self.page.say_number("global ", at),
+            Manner::Operation(letter) => self.say_operation(letter, at),
+            Manner::Data => self.page.say_number("word at ", at),
         }
-        Ok(said)
+    }
+
+    /// Says that the operation with this letter at an address speaks of a label.
+    fn say_operation(&mut self, letter: char, at: usize) {
+        self.page.say("");
+        self.page.add_sign(letter);
+        self.page.say_number(" at ", at);
+    }
+
+    /// Says what speaks of a label.
+    fn say_uses(&mut self, references: &[Reference]) {
+        for (index, reference) in references.iter().enumerate() {
+            if index > 0 {
+                self.page.say(", ");
+            }
+            self.say_use(*reference);
+        }
+    }
+
+    /// Further lines on what speaks of a label.
+    fn add_uses(&mut self, references: &[Reference]) {
+        for some in references.chunks(IN_A_LINE) {
+            self.begin_alone();
+            self.say_uses(some);
+            self.page.end_line();
+        }
     }
 
     /// A label, what it is of, and in the same line or those behind it what speaks of it.
-    fn add_label(&mut self, listed: &Listed<'p>, index: usize, label: u16) -> Result<(), Memory> {
-        let mut said = self.said_of_run(run_behind(listed.items, index))?;
+    fn add_label(&mut self, listed: &Listed<'p>, index: usize, label: u16) {
+        self.begin_alone();
+        self.page.add_number(usize::from(label));
+        self.say_run(run_behind(listed.items, index));
         let uses = of_label(listed.references.as_slice(), label);
-        let beside = if said.is_empty() {
+        let beside = if self.page.said() == 0 {
             uses.len().min(IN_A_LINE)
         } else {
             0
         };
         let (front, others) = uses.split_at(beside);
-        let told = self.said_of_uses(front)?;
-        said.push_str(told.as_str())?;
-        let item = format!(in self.alloc; "{label}")?;
-        self.add_item_alone(item.as_str(), said.as_str())?;
-        for some in others.chunks(IN_A_LINE) {
-            let told = self.said_of_uses(some)?;
-            self.add_item_alone("", told.as_str())?;
-        }
-        Ok(())
+        self.say_uses(front);
+        self.page.end_line();
+        self.add_uses(others);
     }
 
-    /// What the bytes or words of data are that stand behind a label; nothing where there are none.
-    fn said_of_run(&self, run: &[Item]) -> Result<String, Memory> {
+    /// Says what the bytes or words of data are that stand behind a label; nothing where there are none.
+    fn say_run(&mut self, run: &[Item]) {
         match run.first() {
-            Some(Item::Byte(_)) => said_of_bytes(self.alloc, run),
-            Some(Item::Data(_) | Item::DataLabel(_)) => {
-                let count = run.len();
-                let words = if count == 1 { "word" } else { "words" };
-                Ok(format!(in self.alloc; "{count} {words} of data")?)
-            }
-            _ => Ok(String::new(self.alloc)),
+            Some(Item::Byte(_)) => say_bytes(&mut self.page, run),
+            Some(Item::Data(_) | Item::DataLabel(_)) => self.say_words(run.len()),
+            _ => {}
         }
     }
 
-    /// What is said of an operation: where it jumps to, or which address it takes.
-    fn said_of_operation(&self, segment: usize, item: &Item) -> Result<String, Memory> {
-        let Item::Operation {
-            function,
-            base,
-            number,
-            ..
-        } = item
-        else {
-            return Ok(String::new(self.alloc));
-        };
-        match base {
-            Base::Label => {
-                let Some(address) = address_of(self.program.image, segment, *number) else {
-                    return Ok(String::new(self.alloc));
-                };
-                let is_jump = matches!(
-                    function,
-                    Function::Jump | Function::JumpIfTrue | Function::JumpIfFalse
-                );
-                let way = if is_jump { "to" } else { "at" };
-                Ok(format!(in self.alloc; "{way} {address}")?)
-            }
-            Base::G => self.said_of_global(number.get()),
-            Base::Number | Base::P => Ok(String::new(self.alloc)),
+    /// Says that so many words of data stand there.
+    fn say_words(&mut self, count: usize) {
+        self.page.say_number("", count);
+        self.page.say(if count == 1 {
+            " word of data"
+        } else {
+            " words of data"
+        });
+    }
+
+    /// Says at which address a label stands, if it has one, behind this word.
+    fn say_address(&mut self, segment: usize, label: Word, word: &str) {
+        if let Some(address) = address_of(self.program.image, segment, label) {
+            self.page.say_number(word, usize::from(address));
         }
     }
 
-    /// A global, with the library's name for it, if it has one, and what it begins as, if it is set.
-    fn said_of_global(&self, number: u16) -> Result<String, Memory> {
+    /// Says where an operation on a label jumps to, or which address it takes.
+    fn say_target(&mut self, segment: usize, function: Function, label: Word) {
+        let word = if is_jump(function) { "to " } else { "at " };
+        self.say_address(segment, label, word);
+    }
+
+    /// Says of a global how the library calls it, if it does, and what it begins as, if it is set.
+    fn say_global(&mut self, number: u16) {
         let index = usize::from(number);
         let begins = word_at(self.program.image, FIRST_CELL.saturating_add(index));
-        let mut said = format!(in self.alloc; "global {number}")?;
+        self.page.say_number("global ", index);
         if let Some(name) = library_name(number) {
-            write!(said, ", {name}")?;
+            self.page.say(", ");
+            self.page.say(name);
         }
         if index < GLOBALS && begins != 0 {
-            write!(said, ", which begins as {begins}")?;
+            self.page
+                .say_number(", which begins as ", usize::from(begins));
         }
-        Ok(said)
     }
 
-    /// A word of data with the address of a label.
-    fn said_of_data(&self, segment: usize, item: &Item) -> Result<String, Memory> {
+    /// Says what an operation or a word of data has to do with.
+    fn say_of(&mut self, segment: usize, item: &Item) {
         match item {
-            Item::DataLabel(label) => match address_of(self.program.image, segment, *label) {
-                Some(address) => Ok(format!(in self.alloc; "at {address}")?),
-                None => Ok(String::new(self.alloc)),
-            },
-            _ => Ok(String::new(self.alloc)),
+            Item::Operation {
+                function,
+                base: Base::Label,
+                number,
+                ..
+            } => self.say_target(segment, *function, *number),
+            Item::Operation {
+                base: Base::G,
+                number,
+                ..
+            } => self.say_global(number.get()),
+            Item::DataLabel(label) => self.say_address(segment, *label, "at "),
+            _ => {}
         }
     }
 
     /// An item that has words, where it stands at this address.
-    fn add_operation(&mut self, segment: usize, item: &Item, address: usize) -> Result<(), Memory> {
-        let shown = ShownItem(item);
-        let text = format!(in self.alloc; "{shown}")?;
-        let said = match item {
-            Item::Operation { .. } => self.said_of_operation(segment, item)?,
-            _ => self.said_of_data(segment, item)?,
-        };
-        self.add_word(address, text.as_str(), said.as_str())?;
+    fn add_operation(&mut self, segment: usize, item: &Item, address: usize) {
+        self.begin_word(address);
+        self.page.begin_item();
+        self.page.add_item(item);
+        self.say_of(segment, item);
+        self.page.end_line();
         if is_long(item) {
-            self.add_word(address.saturating_add(1), "", "")?;
+            self.begin_word(address.saturating_add(1));
+            self.page.end_line();
         }
-        Ok(())
+    }
+
+    /// A byte as an item.
+    fn add_byte(&mut self, front: &str, byte: u8) {
+        self.page.add(front);
+        self.page.add_number(usize::from(byte));
     }
 
     /// A byte, and the one that shares its word.
-    fn add_bytes(&mut self, first: u8, second: Option<u8>, address: usize) -> Result<(), Memory> {
-        let item = match second {
-            Some(second) => format!(in self.alloc; "C{first} C{second}")?,
-            None => format!(in self.alloc; "C{first}")?,
-        };
-        self.add_word(address, item.as_str(), "")
+    fn add_bytes(&mut self, first: u8, second: Option<u8>, address: usize) {
+        self.begin_word(address);
+        self.page.begin_item();
+        self.add_byte("C", first);
+        if let Some(second) = second {
+            self.add_byte(" C", second);
+        }
+        self.page.end_line();
     }
 
-    /// The item with this index.
-    fn add(&mut self, listed: &Listed<'p>, index: usize) -> Result<(), Memory> {
-        let (Some(item), Some(address)) = (
-            listed.items.get(index),
-            listed.addresses.as_slice().get(index).copied(),
-        ) else {
-            return Ok(());
-        };
-        self.add_notes(listed.segment, index)?;
+    /// An item at this address, with this index.
+    fn add_at(&mut self, listed: &Listed<'p>, index: usize, item: &Item, address: usize) {
         match item {
             Item::Label(label) => self.add_label(listed, index, label.get()),
-            Item::Global { .. } => Ok(()),
+            Item::Global { .. } => {}
             Item::Byte(first) => {
-                let behind = index.saturating_add(1);
-                let next = listed.addresses.as_slice().get(behind).copied();
-                let second = match listed.items.get(behind) {
-                    Some(Item::Byte(second)) if next == Some(address) => Some(*second),
-                    _ => None,
-                };
-                self.add_bytes(*first, second, address)
+                let second = second_byte(listed, index.saturating_add(1), address);
+                self.add_bytes(*first, second, address);
             }
             _ => self.add_operation(listed.segment, item, address),
         }
     }
 
-    /// A segment.
-    fn add_segment(&mut self, segment: usize, items: &'p [Item]) -> Result<(), Memory> {
-        let start = match self.program.image.places.as_slice().get(segment) {
-            Some(place) => usize::from(place.start.get()),
-            None => 0,
-        };
+    /// The item with this index.
+    fn add(&mut self, listed: &Listed<'p>, index: usize) {
+        let item = listed.items.get(index);
+        let address = listed.addresses.as_slice().get(index).copied();
+        if let (Some(item), Some(address)) = (item, address) {
+            self.add_notes(listed.segment, index);
+            self.add_at(listed, index, item, address);
+        }
+    }
+
+    /// What there is to know of a segment before it is listed.
+    fn listed(
+        &self,
+        segment: usize,
+        items: &'p [Item],
+        start: usize,
+    ) -> Result<Listed<'p>, Memory> {
         let (addresses, _) = addresses(self.alloc, start, items)?;
         let references = references(self.alloc, items, addresses.as_slice())?;
-        let name = self.name_of(segment);
-        writeln!(self.text, "\n/ segment {segment}, {name}: from {start} on")?;
-        let listed = Listed {
+        Ok(Listed {
             segment,
             items,
             addresses,
             references,
-        };
+        })
+    }
+
+    /// The line in front of a segment, which begins at this address.
+    fn add_head(&mut self, segment: usize, start: usize) {
+        let name = self.name_of(segment);
+        self.page.add("\n/ segment ");
+        self.page.add_number(segment);
+        self.page.add(", ");
+        self.page.add(name);
+        self.page.add(": from ");
+        self.page.add_number(start);
+        self.page.add(" on\n");
+    }
+
+    /// The items of a segment.
+    fn add_items(&mut self, listed: &Listed<'p>) {
         let mut last = None;
-        for index in 0..items.len() {
-            let address = listed.addresses.as_slice().get(index).copied();
-            let is_second = matches!(items.get(index), Some(Item::Byte(_))) && address == last;
-            last = match items.get(index) {
-                Some(Item::Byte(_)) if !is_second => address,
+        for index in 0..listed.items.len() {
+            let is_second = is_second_byte(listed, index, last);
+            last = match listed.items.get(index) {
+                Some(Item::Byte(_)) if !is_second => {
+                    listed.addresses.as_slice().get(index).copied()
+                }
                 _ => None,
             };
             if !is_second {
-                self.add(&listed, index)?;
+                self.add(listed, index);
             }
         }
-        self.add_notes(segment, items.len())
+        self.add_notes(listed.segment, listed.items.len());
+    }
+
+    /// A segment.
+    fn add_segment(&mut self, segment: usize, items: &'p [Item]) {
+        let start = match self.program.image.places.as_slice().get(segment) {
+            Some(place) => usize::from(place.start.get()),
+            None => 0,
+        };
+        self.add_head(segment, start);
+        match self.listed(segment, items, start) {
+            Ok(listed) => self.add_items(&listed),
+            Err(_) => self.page.refuse(),
+        }
+    }
+
+    /// The end of the image.
+    fn add_end(&mut self) {
+        let base = self.program.image.stack_base.get();
+        self.page.add("\n/ the stack begins at ");
+        self.page.add_number(usize::from(base));
+        self.page.end_line();
     }
 }
 
@@ -391,16 +486,15 @@ impl<'p> Listing<'p> {
 pub fn image_listing(alloc: Global, program: Program<'_>) -> Result<String, Memory> {
     let mut listing = Listing {
         alloc,
-        text: String::new(alloc),
+        page: Page::new(alloc),
         program,
         told: 0,
     };
-    listing.add_boot()?;
-    listing.add_globals()?;
+    listing.add_boot();
+    listing.add_globals();
     for (segment, items) in program.segments.iter().enumerate() {
-        listing.add_segment(segment, items.items())?;
+        listing.add_segment(segment, items.items());
     }
-    let base = program.image.stack_base.get();
-    writeln!(listing.text, "\n/ the stack begins at {base}")?;
-    Ok(listing.text)
+    listing.add_end();
+    listing.page.into_text()
 }

@@ -1,8 +1,7 @@
 //! Bytes as text.
 
+use crate::page::Page;
 use bc_text_items::Item;
-use bc_word::Memory;
-use std::alloc::Global;
 
 /// How long what is told of a string may grow before the rest is left out.
 const WIDTH: usize = 60;
@@ -34,17 +33,22 @@ pub fn run_behind(items: &[Item], index: usize) -> &[Item] {
     }
 }
 
-/// Puts a byte behind the text, as BCPL spells it.
-fn push_byte(text: &mut String, byte: u8) -> Result<(), Memory> {
+/// Adds a byte as BCPL spells it.
+fn add_byte(page: &mut Page, byte: u8) {
     match byte {
-        b'\n' => text.push_str("*N")?,
-        b'\t' => text.push_str("*T")?,
-        b'"' => text.push_str("*\"")?,
-        b'*' => text.push_str("**")?,
-        32..=126 => text.push(char::from(byte))?,
-        _ => write!(text, "\\x{byte:02x}")?,
+        b'\n' => page.add("*N"),
+        b'\t' => page.add("*T"),
+        b'"' => page.add("*\""),
+        b'*' => page.add("**"),
+        32..=126 => page.add_sign(char::from(byte)),
+        _ => add_code(page, byte),
     }
-    Ok(())
+}
+
+/// Adds a byte by its number.
+fn add_code(page: &mut Page, byte: u8) {
+    page.add("\\x");
+    page.add_digits(byte);
 }
 
 /// The byte that an item is.
@@ -55,26 +59,39 @@ fn byte_of(item: &Item) -> Option<u8> {
     }
 }
 
-/// What a run of bytes is: a string, where its first byte is the number of the others, and its front.
-pub fn said_of_bytes(alloc: Global, items: &[Item]) -> Result<String, Memory> {
-    let count = items.len();
-    let length = match items.first() {
-        Some(Item::Byte(byte)) => usize::from(*byte),
-        _ => count,
+/// Whether a run of bytes is a string: its first byte is the number of the others.
+fn is_string(items: &[Item]) -> bool {
+    let Some((first, others)) = items.split_first() else {
+        return false;
     };
-    if count == 0 || length != count.saturating_sub(1) {
-        return Ok(format!(in alloc; "{count} bytes")?);
+    match byte_of(first) {
+        Some(length) => usize::from(length) == others.len(),
+        None => false,
     }
-    let mut text = format!(in alloc; "string of {length} bytes \"")?;
+}
+
+/// Says what a run of bytes is: a string with its front, or bytes.
+pub fn say_bytes(page: &mut Page, items: &[Item]) {
+    let count = items.len();
+    if is_string(items) {
+        page.say_number("string of ", count.saturating_sub(1));
+        page.say(" bytes \"");
+        add_front(page, items);
+    } else {
+        page.say_number("", count);
+        page.say(" bytes");
+    }
+}
+
+/// Adds the bytes of a string, as far as the line goes, and the sign at its end.
+fn add_front(page: &mut Page, items: &[Item]) {
     for item in items.iter().skip(1) {
-        if text.len() >= WIDTH {
-            text.push_str("...\"")?;
-            return Ok(text);
+        if page.said() >= WIDTH {
+            return page.add("...\"");
         }
         if let Some(byte) = byte_of(item) {
-            push_byte(&mut text, byte)?;
+            add_byte(page, byte);
         }
     }
-    text.push('"')?;
-    Ok(text)
+    page.add("\"");
 }
