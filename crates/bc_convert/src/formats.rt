@@ -1,8 +1,8 @@
-use crate::library::further_bit;
 use crate::names::{has_routine, renamed};
 use crate::options::Renaming;
 use crate::spelling::inside;
 use bc_convert_tokens::{Kind, Source, span};
+use bc_library_ext::further_bit;
 
 /// How a call of WRITEF hands over its format.
 #[derive(Clone, Copy)]

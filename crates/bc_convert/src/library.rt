@@ -1,85 +1,18 @@
-/// The names of LIBHDR.
-static BASIC: [&[u8]; 16] = [
-    b"START",
-    b"SELECTINPUT",
-    b"SELECTOUTPUT",
-    b"RDCH",
-    b"WRCH",
-    b"FINDINPUT",
-    b"FINDOUTPUT",
-    b"ENDREAD",
-    b"ENDWRITE",
-    b"GETBYTE",
-    b"PUTBYTE",
-    b"WRITES",
-    b"WRITEN",
-    b"NEWLINE",
-    b"WRITEF",
-    b"ENDSTREAMCH",
-];
+// The names of the library.
 
-/// The names that EXTHDR alone has.
-static FURTHER: [&[u8]; 27] = [
-    b"WRITED",
-    b"WRITEU",
-    b"WRITEOCT",
-    b"WRITEHEX",
-    b"WRITET",
-    b"NEWPAGE",
-    b"READN",
-    b"TERMINATOR",
-    b"UNRDCH",
-    b"INPUT",
-    b"OUTPUT",
-    b"PACKSTRING",
-    b"UNPACKSTRING",
-    b"CAPITALCH",
-    b"COMPSTRING",
-    b"INITVEC",
-    b"GETVEC",
-    b"FREEVEC",
-    b"MULDIV",
-    b"RESULT2",
-    b"RANDOM",
-    b"RANDOMISE",
-    b"STOP",
-    b"BYTESPERWORD",
-    b"MAXINT",
-    b"MININT",
-    b"FIRSTFREEGLOBAL",
-];
-
-/// The name in a list that a word is in either case.
-fn listed(list: &[&'static [u8]], word: &[u8]) -> Option<&'static [u8]> {
-    for name in list {
-        if word.eq_ignore_ascii_case(name) {
-            return Some(name);
-        }
-    }
-    None
-}
+use bc_library::{is_of_library, library_word};
+use bc_library_ext::{further_word, is_of_further_library};
 
 /// The name of the library that a word is in either case, or `None`.
 pub fn library_name(word: &[u8]) -> Option<&'static [u8]> {
-    match listed(&BASIC, word) {
-        Some(name) => Some(name),
-        None => listed(&FURTHER, word),
-    }
+    let name = match library_word(word) {
+        Some(name) => name,
+        None => further_word(word)?,
+    };
+    Some(name.as_bytes())
 }
 
-/// A bit of its own for each name that EXTHDR alone has; 0 where a word is, in either case, none of them.
-pub fn further_bit(word: &[u8]) -> u32 {
-    let mut bit: u32 = 1;
-    for name in &FURTHER {
-        if word.eq_ignore_ascii_case(name) {
-            return bit;
-        }
-        bit = bit.saturating_mul(2);
-    }
-    0
-}
-
-/// Whether a word is a name of the library, spelled as it is there.
+/// Whether a word is a name of the library, in its own letters.
 pub fn is_library_name(word: &[u8]) -> bool {
-    library_name(word).is_some_and(|name| name == word)
+    is_of_library(word) || is_of_further_library(word)
 }
