@@ -20,6 +20,8 @@ struct Layout<'p, 's> {
     file: usize,
     /// Whether that is a file of the library, for which a GET stands.
     is_got: bool,
+    /// How many GETs were told for it.
+    gets: usize,
     /// The file that was told last; at first the source's own.
     told: usize,
     /// For each section bracket that is open whether it is that of a list of globals.
@@ -133,7 +135,27 @@ fn glued(kinds: &[TokenKind<'_>], place: usize) -> usize {
 }
 
 impl Layout<'_, '_> {
-    /// Tells the file of a declaration, where it is another than that of the one before: by a GET, which stands for all that the
+    /// How many GETs stand for what is there of this file of the library from here on: one for each time that it was got, but for the
+    /// time that a further file of the library got it.
+    fn gets_ahead(&self, file: usize) -> usize {
+        let Some(first) = self.leaves.get(self.met) else {
+            return 0;
+        };
+        let mut count: usize = 0;
+        for place in self.met..self.leaves.len() {
+            match self.leaves.get(place) {
+                Some(leaf) if leaf.file != file => {
+                    let is_got_by_it = self.files.is_of_library(leaf.file);
+                    return count.saturating_sub(usize::from(is_got_by_it));
+                }
+                Some(leaf) if leaf.start == first.start => count = count.saturating_add(1),
+                Some(_) | None => {}
+            }
+        }
+        count
+    }
+
+    /// Tells the file of a declaration, where it is another than that of the one before: by GETs, each of which stands for all that the
     /// library's file has, or by a comment, where it isn't the one that was told last.
     fn tell_file(&mut self) {
         let file = match self.leaves.get(self.met) {
@@ -143,11 +165,16 @@ impl Layout<'_, '_> {
         if file == self.file {
             return;
         }
-        if self.is_got {
+        if self.gets > 0 {
             self.page.end_line();
         }
         self.file = file;
         self.is_got = self.files.is_of_library(file);
+        self.gets = if self.is_got {
+            self.gets_ahead(file)
+        } else {
+            0
+        };
         let path = self.files.path(file);
         self.tell_path(path);
     }
@@ -156,9 +183,10 @@ impl Layout<'_, '_> {
     fn tell_path(&mut self, path: &str) {
         if self.is_got {
             let fields = [Field::Text("GET \""), Field::Text(path), Field::Text("\"")];
-            return self.page.add_line(&fields);
-        }
-        if self.file != self.told {
+            for _ in 0..self.gets {
+                self.page.add_line(&fields);
+            }
+        } else if self.file != self.told {
             self.told = self.file;
             self.page.add_line(&[Field::Text("// "), Field::Text(path)]);
         }
@@ -319,6 +347,7 @@ pub fn tree_listing<'s>(
         met: 0,
         file: main,
         is_got: false,
+        gets: 0,
         told: main,
         opened: Vec::new(alloc),
         breaks: false,
