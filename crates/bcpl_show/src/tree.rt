@@ -5,6 +5,7 @@ use bc_lex_tokens::{Symbol, Token, TokenKind};
 use bc_parse_close::is_symbol_end;
 use bc_parse_spell::render;
 use bc_word::Memory;
+use bcpl_places::way_to;
 use std::alloc::Global;
 
 /// How far a tree's listing is.
@@ -28,6 +29,15 @@ struct Layout<'p, 's> {
     opened: Vec<bool>,
     /// Whether the next token begins a line.
     breaks: bool,
+}
+
+/// What stands of a file from a place on.
+#[derive(Clone, Copy)]
+struct Run {
+    /// How often it stands there.
+    count: usize,
+    /// The file that stands behind it, if there is one.
+    behind: Option<usize>,
 }
 
 /// The symbol that a token is, if it is one.
@@ -135,24 +145,51 @@ fn glued(kinds: &[TokenKind<'_>], place: usize) -> usize {
 }
 
 impl Layout<'_, '_> {
-    /// How many GETs stand for what is there of this file of the library from here on: one for each time that it was got, but for the
-    /// time that a further file of the library got it.
-    fn gets_ahead(&self, file: usize) -> usize {
-        let Some(first) = self.leaves.get(self.met) else {
-            return 0;
+    /// Whether GETs lead from that file of the library, `by`, to this one.
+    fn is_got_by(&mut self, file: usize, by: usize) -> bool {
+        if !self.files.is_of_library(by) {
+            return false;
+        }
+        match way_to(self.page.alloc(), self.files.sources, by, file) {
+            Ok(way) => !way.is_empty(),
+            Err(_) => {
+                self.page.refuse();
+                false
+            }
+        }
+    }
+
+    /// How often the tokens of this file stand here one behind the other, and the file that stands behind them, if there is one.
+    fn run_ahead(&self, file: usize) -> Run {
+        let mut run = Run {
+            count: 0,
+            behind: None,
         };
-        let mut count: usize = 0;
+        let Some(first) = self.leaves.get(self.met) else {
+            return run;
+        };
         for place in self.met..self.leaves.len() {
             match self.leaves.get(place) {
                 Some(leaf) if leaf.file != file => {
-                    let is_got_by_it = self.files.is_of_library(leaf.file);
-                    return count.saturating_sub(usize::from(is_got_by_it));
+                    run.behind = Some(leaf.file);
+                    return run;
                 }
-                Some(leaf) if leaf.start == first.start => count = count.saturating_add(1),
+                Some(leaf) if leaf.start == first.start => run.count = run.count.saturating_add(1),
                 Some(_) | None => {}
             }
         }
-        count
+        run
+    }
+
+    /// How many GETs stand for what is there of this file of the library from here on: one for each time that it was got, but for the
+    /// time that the library's file behind it got it.
+    fn gets_ahead(&mut self, file: usize) -> usize {
+        let run = self.run_ahead(file);
+        let is_got_by_it = match run.behind {
+            Some(by) => self.is_got_by(file, by),
+            None => false,
+        };
+        run.count.saturating_sub(usize::from(is_got_by_it))
     }
 
     /// Tells the file of a declaration, where it is another than that of the one before: by GETs, each of which stands for all that the
