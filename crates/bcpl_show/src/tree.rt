@@ -181,9 +181,12 @@ impl Layout<'_, '_> {
         run
     }
 
-    /// How many GETs stand for what is there of this file of the library from here on: one for each time that it was got, but for the
-    /// time that the library's file behind it got it.
+    /// How many GETs stand for what is there of this file from here on: for one of the library one for each time that it was got, but
+    /// for the time that the library's file behind it got it; for others none.
     fn gets_ahead(&mut self, file: usize) -> usize {
+        if !self.files.is_of_library(file) {
+            return 0;
+        }
         let run = self.run_ahead(file);
         let is_got_by_it = match run.behind {
             Some(by) => self.is_got_by(file, by),
@@ -207,11 +210,7 @@ impl Layout<'_, '_> {
         }
         self.file = file;
         self.is_got = self.files.is_of_library(file);
-        self.gets = if self.is_got {
-            self.gets_ahead(file)
-        } else {
-            0
-        };
+        self.gets = self.gets_ahead(file);
         let path = self.files.path(file);
         self.tell_path(path);
     }
