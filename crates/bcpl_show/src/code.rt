@@ -60,6 +60,13 @@ struct Sizes {
     data: u64,
 }
 
+/// A line of a file: the file's index among the sources, and the line's number.
+#[derive(Clone, Copy)]
+struct Line {
+    file: usize,
+    number: usize,
+}
+
 /// A listing of code that is being written.
 #[derive(Drop)]
 struct Listing<'p, 's> {
@@ -75,8 +82,8 @@ struct Listing<'p, 's> {
     begun: Vec<bool>,
     /// How many lines of the file are told.
     told: usize,
-    /// The line that was told last, if it was one of the file.
-    last: Option<usize>,
+    /// The line that was told last.
+    last: Option<Line>,
     sizes: Sizes,
 }
 
@@ -85,7 +92,8 @@ impl<'p, 's> Listing<'p, 's> {
     fn tell(&mut self, number: usize) {
         let line = self.lines.line(self.text, number);
         let sign = if line.is_empty() { " |" } else { " | " };
-        self.last = Some(number);
+        let file = self.program.main;
+        self.last = Some(Line { file, number });
         self.page.add_line(&[
             Field::Text("/ "),
             Field::Number(number as u64, 4),
@@ -94,14 +102,25 @@ impl<'p, 's> Listing<'p, 's> {
         ]);
     }
 
-    /// Tells that a line of another file is meant.
+    /// Whether the line of this file with this number was told last.
+    fn is_last(&self, file: usize, number: usize) -> bool {
+        match self.last {
+            Some(last) => last.file == file && last.number == number,
+            None => false,
+        }
+    }
+
+    /// Tells that a line of another file is meant, where it wasn't told last.
     fn tell_elsewhere(&mut self, file: usize, at: usize) {
         let text = self.program.files.text(file);
-        self.last = None;
         let Ok(lines) = Lines::new(self.page.alloc(), text) else {
             return self.page.refuse();
         };
         let number = lines.number_at(at);
+        if self.is_last(file, number) {
+            return;
+        }
+        self.last = Some(Line { file, number });
         self.page.add_line(&[
             Field::Text("/ "),
             Field::Text(self.program.files.path(file)),
@@ -125,9 +144,9 @@ impl<'p, 's> Listing<'p, 's> {
         if number > self.told {
             return self.tell_further(number);
         }
-        match self.last {
-            Some(last) if last == number => {}
-            _ => self.tell(number),
+        let main = self.program.main;
+        if !self.is_last(main, number) {
+            self.tell(number);
         }
     }
 
@@ -339,11 +358,25 @@ impl<'p, 's> Listing<'p, 's> {
             Field::Text(what),
             Field::Front(token.text, SHOWN),
         ]);
-        if token.file != self.program.main {
-            return self.page.end_line();
+        self.tell_line_of(token);
+    }
+
+    /// Ends a line with that on which a token stands.
+    fn tell_line_of(&mut self, token: Token<'s>) {
+        if token.file == self.program.main {
+            let number = self.lines.number_at(token.start);
+            return self.page.add_line(&[Field::Text(" of line "), Field::Number(number as u64, 0)]);
         }
-        let number = self.lines.number_at(token.start);
-        self.page.add_line(&[Field::Text(" of line "), Field::Number(number as u64, 0)]);
+        let text = self.program.files.text(token.file);
+        let Ok(lines) = Lines::new(self.page.alloc(), text) else {
+            return self.page.refuse();
+        };
+        self.page.add_line(&[
+            Field::Text(" of "),
+            Field::Text(self.program.files.path(token.file)),
+            Field::Text(":"),
+            Field::Number(lines.number_at(token.start) as u64, 0),
+        ]);
     }
 
     /// A global that is set.

@@ -5,6 +5,7 @@ use bc_lex_tokens::{Symbol, Token, TokenKind};
 use bc_parse_close::is_symbol_end;
 use bc_parse_spell::render;
 use bc_word::Memory;
+use bcpl_places::way_to;
 use std::alloc::Global;
 
 /// How far a tree's listing is.
@@ -20,12 +21,23 @@ struct Layout<'p, 's> {
     file: usize,
     /// Whether that is a file of the library, for which a GET stands.
     is_got: bool,
+    /// How many GETs were told for it.
+    gets: usize,
     /// The file that was told last; at first the source's own.
     told: usize,
     /// For each section bracket that is open whether it is that of a list of globals.
     opened: Vec<bool>,
     /// Whether the next token begins a line.
     breaks: bool,
+}
+
+/// What stands of a file from a place on.
+#[derive(Clone, Copy)]
+struct Run {
+    /// How often it stands there.
+    count: usize,
+    /// The file that stands behind it, if there is one.
+    behind: Option<usize>,
 }
 
 /// The symbol that a token is, if it is one.
@@ -133,7 +145,57 @@ fn glued(kinds: &[TokenKind<'_>], place: usize) -> usize {
 }
 
 impl Layout<'_, '_> {
-    /// Tells the file of a declaration, where it is another than that of the one before: by a GET, which stands for all that the
+    /// Whether GETs lead from that file of the library, `by`, to this one.
+    fn is_got_by(&mut self, file: usize, by: usize) -> bool {
+        if !self.files.is_of_library(by) {
+            return false;
+        }
+        match way_to(self.page.alloc(), self.files.sources, by, file) {
+            Ok(way) => !way.is_empty(),
+            Err(_) => {
+                self.page.refuse();
+                false
+            }
+        }
+    }
+
+    /// How often the tokens of this file stand here one behind the other, and the file that stands behind them, if there is one.
+    fn run_ahead(&self, file: usize) -> Run {
+        let mut run = Run {
+            count: 0,
+            behind: None,
+        };
+        let Some(first) = self.leaves.get(self.met) else {
+            return run;
+        };
+        for place in self.met..self.leaves.len() {
+            match self.leaves.get(place) {
+                Some(leaf) if leaf.file != file => {
+                    run.behind = Some(leaf.file);
+                    return run;
+                }
+                Some(leaf) if leaf.start == first.start => run.count = run.count.saturating_add(1),
+                Some(_) | None => {}
+            }
+        }
+        run
+    }
+
+    /// How many GETs stand for what is there of this file from here on: for one of the library one for each time that it was got, but
+    /// for the time that the library's file behind it got it; for others none.
+    fn gets_ahead(&mut self, file: usize) -> usize {
+        if !self.files.is_of_library(file) {
+            return 0;
+        }
+        let run = self.run_ahead(file);
+        let is_got_by_it = match run.behind {
+            Some(by) => self.is_got_by(file, by),
+            None => false,
+        };
+        run.count.saturating_sub(usize::from(is_got_by_it))
+    }
+
+    /// Tells the file of a declaration, where it is another than that of the one before: by GETs, each of which stands for all that the
     /// library's file has, or by a comment, where it isn't the one that was told last.
     fn tell_file(&mut self) {
         let file = match self.leaves.get(self.met) {
@@ -143,11 +205,12 @@ impl Layout<'_, '_> {
         if file == self.file {
             return;
         }
-        if self.is_got {
+        if self.gets > 0 {
             self.page.end_line();
         }
         self.file = file;
         self.is_got = self.files.is_of_library(file);
+        self.gets = self.gets_ahead(file);
         let path = self.files.path(file);
         self.tell_path(path);
     }
@@ -156,9 +219,10 @@ impl Layout<'_, '_> {
     fn tell_path(&mut self, path: &str) {
         if self.is_got {
             let fields = [Field::Text("GET \""), Field::Text(path), Field::Text("\"")];
-            return self.page.add_line(&fields);
-        }
-        if self.file != self.told {
+            for _ in 0..self.gets {
+                self.page.add_line(&fields);
+            }
+        } else if self.file != self.told {
             self.told = self.file;
             self.page.add_line(&[Field::Text("// "), Field::Text(path)]);
         }
@@ -319,6 +383,7 @@ pub fn tree_listing<'s>(
         met: 0,
         file: main,
         is_got: false,
+        gets: 0,
         told: main,
         opened: Vec::new(alloc),
         breaks: false,
