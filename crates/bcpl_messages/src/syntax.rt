@@ -7,7 +7,7 @@ use crate::likeness::reserved_word;
 use crate::neighbours::{help_for_name, help_for_neighbours, help_for_token};
 use crate::read::Read;
 use crate::sides::says_sides;
-use crate::trial::{Change, reach};
+use crate::trial::{Change, reached};
 use crate::wanted::{could_be, say_wanted};
 use crate::words::{back, is_at, is_symbol};
 use bc_lex::{Source, lex};
@@ -88,7 +88,7 @@ fn is_remedy(
         return false;
     }
     let kind = TokenKind::Symbol(remedy.meant);
-    reach(draft, tokens, at, Change::Replace(kind)).is_behind(refused)
+    reached(draft, tokens, at, Change::Replace(kind)).is_behind(refused)
 }
 
 /// In how many tokens, the one that is refused and those in front of it, a remedy is looked for.
@@ -221,7 +221,7 @@ fn is_outside(draft: &mut Draft, tokens: &[Token<'_>], index: usize) -> bool {
 
 /// Whether more is read than the token at a place with a change there.
 fn gets_further(draft: &mut Draft, tokens: &[Token<'_>], index: usize, change: Change) -> bool {
-    reach(draft, tokens, index, change).is_behind(index)
+    reached(draft, tokens, index, change).is_behind(index)
 }
 
 /// Whether the parser takes what a guess tries.

@@ -191,7 +191,7 @@ fn read_up_to(
 }
 
 /// The same, for a message.
-pub fn reach(draft: &mut Draft, tokens: &[Token<'_>], index: usize, change: Change) -> Reach {
+pub fn reached(draft: &mut Draft, tokens: &[Token<'_>], index: usize, change: Change) -> Reach {
     let read = read_with(draft.alloc(), tokens, index, change);
     draft.found(read, Reach::Before)
 }

@@ -1,5 +1,5 @@
 use crate::draft::Draft;
-use crate::trial::{Change, is_whole, reach};
+use crate::trial::{Change, is_whole, reached};
 use bc_lex_tokens::{Symbol, Token, TokenKind};
 
 /// The symbols that are told one by one where they could stand, as a sentence quotes them, those that tell most first.
@@ -32,7 +32,7 @@ fn could_stand(
     index: usize,
     kind: TokenKind<'static>,
 ) -> bool {
-    reach(draft, tokens, index, Change::Insert(kind)).is_read()
+    reached(draft, tokens, index, Change::Insert(kind)).is_read()
 }
 
 /// Whether a symbol could stand in front of the token at the place.
@@ -104,7 +104,7 @@ fn could_be_section(
     index: usize,
     begun: Beginnings,
 ) -> bool {
-    !begun.command && reach(draft, tokens, index, Change::InsertSection).is_read()
+    !begun.command && reached(draft, tokens, index, Change::InsertSection).is_read()
 }
 
 /// Adds the constructs that could begin in front of the token at the place.
@@ -145,6 +145,6 @@ pub fn say_wanted(draft: &mut Draft, tokens: &[Token<'_>], index: usize) {
             ", "
         };
         draft.say(front, &[]);
-        draft.say(thing, &[]);
+        draft.say(*thing, &[]);
     }
 }

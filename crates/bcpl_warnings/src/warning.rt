@@ -274,7 +274,7 @@ fn warn_at(draft: &mut Draft, main: &Main<'_, '_>, at: usize) {
 
 /// The warnings on a program that was accepted, as they are being told.
 #[derive(Drop)]
-struct Warnings<'p, 's> {
+struct Telling<'p, 's> {
     alloc: Global,
     named: Named<'p, 's>,
     /// How many of the sources are the library's.
@@ -284,9 +284,9 @@ struct Warnings<'p, 's> {
     lines: String,
 }
 
-impl<'p, 's> Warnings<'p, 's> {
-    fn new(alloc: Global, named: Named<'p, 's>, library: usize) -> Warnings<'p, 's> {
-        Warnings {
+impl<'p, 's> Telling<'p, 's> {
+    fn new(alloc: Global, named: Named<'p, 's>, library: usize) -> Telling<'p, 's> {
+        Telling {
             alloc,
             named,
             library,
@@ -410,7 +410,7 @@ pub fn warnings(
     mains: &[usize],
 ) -> Result<String, Memory> {
     let settings = Settings::of(alloc, named.sources, mains)?;
-    let mut warnings = Warnings::new(alloc, named, library);
+    let mut warnings = Telling::new(alloc, named, library);
     for main in mains {
         warnings.add_main(&settings, *main)?;
     }
@@ -444,7 +444,7 @@ pub fn likely_starts(
     library: usize,
     mains: &[usize],
 ) -> Result<String, Memory> {
-    let mut warnings = Warnings::new(alloc, named, library);
+    let mut warnings = Telling::new(alloc, named, library);
     for main in mains {
         warnings.add_starts(*main)?;
     }
