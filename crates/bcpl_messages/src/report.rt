@@ -45,8 +45,8 @@ impl Told<'_, '_> {
         add_sentence(&mut self.lines, sentence, parts)
     }
 
-    /// Adds `PATH:LINE:COLUMN: SENTENCE`.
-    fn add_position(&mut self, span: Span, sentence: &str) -> Result<(), Memory> {
+    /// Adds `PATH:LINE:COLUMN: `.
+    fn add_position(&mut self, span: Span) -> Result<(), Memory> {
         let text = self.named.text(span.file);
         let at = span.start.min(text.len());
         let line = line_at(text, at);
@@ -54,12 +54,11 @@ impl Told<'_, '_> {
         let column = column_at(self.alloc, &text[start..], at - start)?;
         let path = self.named.path(span.file);
         self.say(
-            "{}:{}:{}: {}\n",
+            "{}:{}:{}: ",
             &[
                 Part::Text(path),
                 Part::Number(line.number as u64),
                 Part::Number(column as u64),
-                Part::Text(sentence),
             ],
         )
     }
@@ -75,7 +74,8 @@ impl Told<'_, '_> {
 
     /// Adds a place with a sentence, and its line.
     fn add_place(&mut self, span: Span, sentence: &str) -> Result<(), Memory> {
-        self.add_position(span, sentence)?;
+        self.add_position(span)?;
+        self.say("{}\n", &[Part::Text(sentence)])?;
         self.add_excerpt(span)
     }
 

@@ -286,7 +286,7 @@ fn name_of<'s>(token: Option<&Token<'s>>) -> Option<&'s [u8]> {
 }
 
 /// Says of a name that it is this reserved word in other letters.
-fn say_reserved(draft: &mut Draft, name: &[u8], word: &str, is_first: bool) {
+fn say_reserved<'a>(draft: &mut Draft, name: &'a [u8], word: &'a str, is_first: bool) {
     let old = if is_first {
         "; bcpl convert brings old sources across"
     } else {

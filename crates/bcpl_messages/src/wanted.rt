@@ -119,7 +119,7 @@ fn add_constructs(draft: &mut Draft, things: &mut Vec<&'static str>, begun: Begi
 
 /// The things that could stand in front of the token at the place.
 fn things(draft: &mut Draft, tokens: &[Token<'_>], index: usize) -> Vec<&'static str> {
-    let mut things = Vec::new(draft.alloc());
+    let mut things: Vec<&'static str> = Vec::new(draft.alloc());
     let begun = what_begins(draft, tokens, index);
     add_constructs(draft, &mut things, begun);
     let is_section = could_be_section(draft, tokens, index, begun);

@@ -447,11 +447,11 @@ fn said_of_others(draft: &mut Draft, left: usize) -> String {
 }
 
 /// Adds a call that led to where the run stands, and what more there is to say of it.
-fn add_leading(
+fn add_leading<'a>(
     draft: &mut Draft,
-    leading: Leading<'_>,
-    not_handed: Option<&NotHanded>,
-    more: &str,
+    leading: Leading<'a>,
+    not_handed: Option<&'a NotHanded>,
+    more: &'a str,
 ) {
     let more = Part::Text(more);
     let span = leading.span;
