@@ -21,8 +21,8 @@ const MOST: usize = 10;
 
 /// What is known of a main.
 #[derive(Clone, Copy)]
-struct Main<'m, 's> {
-    sources: &'m [Source<'s>],
+struct Main<'m, 'p, 's> {
+    sources: &'p [Source<'s>],
     /// How many of the sources are the library's.
     library: usize,
     tokens: &'m [Token<'s>],
@@ -32,7 +32,7 @@ struct Main<'m, 's> {
     settings: &'m Settings,
 }
 
-impl<'s> Main<'_, 's> {
+impl<'s> Main<'_, '_, 's> {
     /// How the token with this index is spelled.
     fn text(&self, at: usize) -> &'s [u8] {
         match self.tokens.get(at) {
@@ -55,7 +55,7 @@ fn begin(draft: &mut Draft, tokens: &[Token<'_>], at: usize) {
 }
 
 /// Says so where the token with this index names a global of the library otherwise; whether it does.
-fn warns_of_library_global(draft: &mut Draft, main: &Main<'_, '_>, at: usize) -> bool {
+fn warns_of_library_global(draft: &mut Draft, main: &Main<'_, '_, '_>, at: usize) -> bool {
     let Some((number, name)) = library_global(main.tokens, at) else {
         return false;
     };
@@ -76,7 +76,7 @@ fn warns_of_library_global(draft: &mut Draft, main: &Main<'_, '_>, at: usize) ->
 }
 
 /// Says so where the token with this index gives a global a further name; whether it does.
-fn warns_of_number(draft: &mut Draft, main: &Main<'_, '_>, at: usize) -> bool {
+fn warns_of_number(draft: &mut Draft, main: &Main<'_, '_, '_>, at: usize) -> bool {
     let Some((number, name)) = number_twice(main.tokens, main.declarations, at) else {
         return false;
     };
@@ -97,7 +97,7 @@ fn warns_of_number(draft: &mut Draft, main: &Main<'_, '_>, at: usize) -> bool {
 }
 
 /// Says so where the token with this index calls a global that nothing sets; whether it does.
-fn warns_of_unset(draft: &mut Draft, main: &Main<'_, '_>, at: usize) -> bool {
+fn warns_of_unset(draft: &mut Draft, main: &Main<'_, '_, '_>, at: usize) -> bool {
     let unset = unset_global(main.tokens, main.declarations, main.settings, at);
     let Some(number) = unset else {
         return false;
@@ -115,7 +115,7 @@ fn warns_of_unset(draft: &mut Draft, main: &Main<'_, '_>, at: usize) -> bool {
 }
 
 /// Says so where the token with this index assigns to a routine of the library; whether it does.
-fn warns_of_assignment(draft: &mut Draft, main: &Main<'_, '_>, at: usize) -> bool {
+fn warns_of_assignment(draft: &mut Draft, main: &Main<'_, '_, '_>, at: usize) -> bool {
     if !is_library_assigned(main.tokens, main.declarations, main.library, at) {
         return false;
     }
@@ -132,7 +132,7 @@ fn warns_of_assignment(draft: &mut Draft, main: &Main<'_, '_>, at: usize) -> boo
 }
 
 /// Says so where the token with this index is called with fewer arguments than it has parameters; whether it is.
-fn warns_of_arguments(draft: &mut Draft, main: &Main<'_, '_>, at: usize) -> bool {
+fn warns_of_arguments(draft: &mut Draft, main: &Main<'_, '_, '_>, at: usize) -> bool {
     let Some(missing) = missing_arguments(main.tokens, main.declarations, at) else {
         return false;
     };
@@ -165,7 +165,7 @@ fn warns_of_arguments(draft: &mut Draft, main: &Main<'_, '_>, at: usize) -> bool
 }
 
 /// Says so where the token with this index is a format that WRITEF doesn't know; whether it is.
-fn warns_of_format(draft: &mut Draft, main: &Main<'_, '_>, at: usize) -> bool {
+fn warns_of_format(draft: &mut Draft, main: &Main<'_, '_, '_>, at: usize) -> bool {
     let unknown = unknown_format(main.tokens, main.declarations, main.library, at);
     let Some((letter, is_further)) = unknown else {
         return false;
@@ -189,7 +189,7 @@ fn warns_of_format(draft: &mut Draft, main: &Main<'_, '_>, at: usize) -> bool {
 }
 
 /// Says so where the value of a routine of BE is used at the token with this index; whether it is.
-fn warns_of_value(draft: &mut Draft, main: &Main<'_, '_>, at: usize) -> bool {
+fn warns_of_value(draft: &mut Draft, main: &Main<'_, '_, '_>, at: usize) -> bool {
     if !is_used(main.tokens, main.routines, at) {
         return false;
     }
@@ -206,7 +206,7 @@ fn warns_of_value(draft: &mut Draft, main: &Main<'_, '_>, at: usize) -> bool {
 }
 
 /// Says so where nothing comes to the command behind the token with this index; whether that is so.
-fn warns_of_unreached(draft: &mut Draft, main: &Main<'_, '_>, at: usize) -> bool {
+fn warns_of_unreached(draft: &mut Draft, main: &Main<'_, '_, '_>, at: usize) -> bool {
     let Some(behind) = unreached(main.tokens, at) else {
         return false;
     };
@@ -223,7 +223,7 @@ fn warns_of_unreached(draft: &mut Draft, main: &Main<'_, '_>, at: usize) -> bool
 }
 
 /// Says so where the token with this index is a string with a backslash; whether it is.
-fn warns_of_backslash(draft: &mut Draft, main: &Main<'_, '_>, at: usize) -> bool {
+fn warns_of_backslash(draft: &mut Draft, main: &Main<'_, '_, '_>, at: usize) -> bool {
     if !has_backslash(main.tokens, at) {
         return false;
     }
@@ -234,7 +234,7 @@ fn warns_of_backslash(draft: &mut Draft, main: &Main<'_, '_>, at: usize) -> bool
 }
 
 /// Says so where a line that begins with the token with this index looks otherwise than it is read.
-fn warn_of_line(draft: &mut Draft, main: &Main<'_, '_>, at: usize) {
+fn warn_of_line(draft: &mut Draft, main: &Main<'_, '_, '_>, at: usize) {
     let (sentence, help) = match misread(main.sources, main.tokens, at) {
         Some(Looks::Apart) => (
             "this line goes on with the expression of the line before",
@@ -252,7 +252,7 @@ fn warn_of_line(draft: &mut Draft, main: &Main<'_, '_>, at: usize) {
 }
 
 /// Says so where a global or a call at the token with this index is likely wrong; whether one is.
-fn warns_of_use(draft: &mut Draft, main: &Main<'_, '_>, at: usize) -> bool {
+fn warns_of_use(draft: &mut Draft, main: &Main<'_, '_, '_>, at: usize) -> bool {
     warns_of_library_global(draft, main, at)
         || warns_of_number(draft, main, at)
         || warns_of_unset(draft, main, at)
@@ -262,7 +262,7 @@ fn warns_of_use(draft: &mut Draft, main: &Main<'_, '_>, at: usize) -> bool {
 }
 
 /// Says what is likely wrong at the token with this index.
-fn warn_at(draft: &mut Draft, main: &Main<'_, '_>, at: usize) {
+fn warn_at(draft: &mut Draft, main: &Main<'_, '_, '_>, at: usize) {
     let is_told = warns_of_use(draft, main, at)
         || warns_of_value(draft, main, at)
         || warns_of_unreached(draft, main, at)
@@ -321,7 +321,12 @@ impl<'p, 's> Telling<'p, 's> {
     }
 
     /// Adds the warning on a token, if there is one.
-    fn add_token(&mut self, known: &Main<'_, '_>, main: usize, at: usize) -> Result<(), Memory> {
+    fn add_token(
+        &mut self,
+        known: &Main<'_, '_, '_>,
+        main: usize,
+        at: usize,
+    ) -> Result<(), Memory> {
         let mut draft = Draft::new(self.alloc, main);
         warn_at(&mut draft, known, at);
         match draft.end()? {
@@ -331,11 +336,11 @@ impl<'p, 's> Telling<'p, 's> {
     }
 
     /// Adds the warnings on a main with these tokens, in their order.
-    fn add_tokens(
+    fn add_tokens<'m>(
         &mut self,
-        settings: &Settings,
+        settings: &'m Settings,
         main: usize,
-        tokens: &[Token<'_>],
+        tokens: &'m [Token<'s>],
     ) -> Result<(), Memory> {
         let routines = Routines::of(self.alloc, tokens)?;
         let declarations = Declarations::of(self.alloc, tokens)?;

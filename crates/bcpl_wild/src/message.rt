@@ -471,14 +471,14 @@ fn add_leading<'a>(
 }
 
 /// Tells where a run stands, and the calls that led there.
-fn tell_calls(
+fn tell_calls<'s>(
     draft: &mut Draft,
-    program: &Program<'_, '_>,
+    program: &Program<'_, 's>,
     stand: Stand<'_>,
     exact: Option<Span>,
-    not_handed: Option<&NotHanded>,
+    not_handed: Option<&'s NotHanded>,
 ) {
-    let mut walk = Walk {
+    let mut walk: Walk<'s> = Walk {
         exact,
         is_placed: false,
         called: None,
