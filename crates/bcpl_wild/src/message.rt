@@ -476,7 +476,7 @@ fn tell_calls<'s>(
     program: &Program<'_, 's>,
     stand: Stand<'_>,
     exact: Option<Span>,
-    not_handed: Option<&'s NotHanded>,
+    not_handed: Option<&NotHanded>,
 ) {
     let mut walk: Walk<'s> = Walk {
         exact,
