@@ -189,12 +189,16 @@ impl Lacking<'_> {
 
     /// What is said of a call of the routine with so many arguments.
     fn said_of_few(&self, draft: &mut Draft, arguments: usize) -> String {
-        let hands = said_of_arguments(draft, arguments);
         let number = self.parameter.number;
+        let sentence = if arguments == 1 {
+            "this call hands over {} argument, and {} has {} {}: {} is the {}{}"
+        } else {
+            "this call hands over {} arguments, and {} has {} {}: {} is the {}{}"
+        };
         draft.filled(
-            "{}, and {} has {} {}: {} is the {}{}",
+            sentence,
             &[
-                Part::Text(hands.as_str()),
+                Part::Number(arguments as u64),
                 Part::Shown(self.routine),
                 Part::Number(self.parameter.count as u64),
                 Part::Text(self.parameters()),
@@ -230,16 +234,6 @@ impl Lacking<'_> {
             _ => self.said(draft),
         }
     }
-}
-
-/// How many arguments a call hands over.
-fn said_of_arguments(draft: &mut Draft, arguments: usize) -> String {
-    let sentence = if arguments == 1 {
-        "this call hands over {} argument"
-    } else {
-        "this call hands over {} arguments"
-    };
-    draft.filled(sentence, &[Part::Number(arguments as u64)])
 }
 
 /// The parameter that was read, if it is one for which the call handed nothing over: a parameter that has no value is such a one.
@@ -446,6 +440,11 @@ fn said_of_others(draft: &mut Draft, left: usize) -> String {
     draft.filled(sentence, &[Part::Number(left as u64)])
 }
 
+/// What is said behind a call of those that are left out: all of it behind the last call that is told.
+fn behind(others: &str, is_last: bool) -> &str {
+    if is_last { others } else { "" }
+}
+
 /// Adds a call that led to where the run stands, and what more there is to say of it.
 fn add_leading<'a>(
     draft: &mut Draft,
@@ -492,7 +491,11 @@ fn tell_calls<'s>(
     let count = walk.calls.len();
     for (number, leading) in walk.calls.iter().enumerate() {
         let is_last = number.saturating_add(1) == count;
-        let more = if is_last { others.as_str() } else { "" };
-        add_leading(draft, *leading, not_handed, more);
+        add_leading(
+            draft,
+            *leading,
+            not_handed,
+            behind(others.as_str(), is_last),
+        );
     }
 }
