@@ -1,3 +1,4 @@
+use crate::draft::Draft;
 use crate::words::is_symbol;
 use bc_lex_tokens::{Symbol, Token};
 use bc_word::Memory;
@@ -38,4 +39,10 @@ pub fn open_before(alloc: Global, tokens: &[Token<'_>], end: usize) -> Result<Ve
         }
     }
     Ok(open)
+}
+
+/// The same, for a message.
+pub fn open_at(draft: &mut Draft, tokens: &[Token<'_>], end: usize) -> Vec<usize> {
+    let alloc = draft.alloc();
+    draft.found(open_before(alloc, tokens, end), Vec::new(alloc))
 }

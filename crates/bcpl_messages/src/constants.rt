@@ -1,11 +1,10 @@
 //! Why an expression is no constant.
 
 use crate::declared::{Declared, meaning_of};
+use crate::draft::Draft;
 use crate::syntax::list_word;
 use crate::words::is_symbol;
 use bc_lex_tokens::{Symbol, Token, TokenKind};
-use bc_word::Memory;
-use std::alloc::Global;
 
 /// Why an expression is none.
 #[derive(Clone, Copy)]
@@ -27,41 +26,29 @@ fn sentence_on(word: Option<Symbol>) -> &'static str {
 
 /// Why a name that is declared so is no constant at another place; none where it may be one.
 fn judged(
-    alloc: Global,
+    draft: &mut Draft,
     tokens: &[Token<'_>],
     used: usize,
     declared: Declared,
-) -> Result<Option<Declared>, Memory> {
-    let word = list_word(alloc, tokens, declared.index)?;
-    let is_manifest = matches!(word, Some(Symbol::Manifest));
-    Ok(if is_manifest && declared.index > used {
-        Some(declared)
-    } else if is_manifest {
-        None
-    } else {
-        Some(Declared {
+) -> Option<Declared> {
+    let word = list_word(draft, tokens, declared.index);
+    if !matches!(word, Some(Symbol::Manifest)) {
+        return Some(Declared {
             index: declared.index,
             sentence: sentence_on(word),
-        })
-    })
+        });
+    }
+    (declared.index > used).then_some(declared)
 }
 
 /// Why the name at the token with this index is no constant; none where that isn't seen, or where no name stands there.
-fn reason_at(
-    alloc: Global,
-    tokens: &[Token<'_>],
-    index: usize,
-) -> Result<Option<Declared>, Memory> {
-    let Some(token) = tokens.get(index) else {
-        return Ok(None)
+fn reason_at(draft: &mut Draft, tokens: &[Token<'_>], index: usize) -> Option<Declared> {
+    let TokenKind::Name(name) = tokens.get(index)?.kind else {
+        return None;
     };
-    let TokenKind::Name(name) = token.kind else {
-        return Ok(None)
-    };
-    match meaning_of(alloc, tokens, index, name)? {
-        Some(declared) => judged(alloc, tokens, index, declared),
-        None => Ok(None),
-    }
+    let meaning = meaning_of(draft.alloc(), tokens, index, name);
+    let declared = draft.found(meaning, None)?;
+    judged(draft, tokens, index, declared)
 }
 
 /// Whether a token is a division or a remainder.
@@ -106,20 +93,19 @@ fn divides_by_zero(all: &[Token<'_>], first: usize, tokens: &[Token<'_>]) -> boo
     tokens.iter().any(divides)
 }
 
-/// Why the expression of the tokens from `first` to `last` is no constant; none where that isn't seen. Memory is answered where a growth
-/// was refused.
+/// Why the expression of the tokens from `first` to `last` is no constant; none where that isn't seen.
 pub fn reason_of(
-    alloc: Global,
+    draft: &mut Draft,
     tokens: &[Token<'_>],
     first: usize,
     last: usize,
-) -> Result<Option<Reason>, Memory> {
+) -> Option<Reason> {
     let behind = last.saturating_add(1);
     for index in first..behind {
-        if let Some(declared) = reason_at(alloc, tokens, index)? {
-            return Ok(Some(Reason::Name(index, declared)));
+        if let Some(declared) = reason_at(draft, tokens, index) {
+            return Some(Reason::Name(index, declared));
         }
     }
     let expression = tokens.get(first..behind).unwrap_or(&[]);
-    Ok(divides_by_zero(tokens, first, expression).then_some(Reason::Division))
+    divides_by_zero(tokens, first, expression).then_some(Reason::Division)
 }

@@ -1,7 +1,7 @@
 //! Where a name is declared that means nothing at the place where it is used.
 
 use crate::brackets::open_before;
-use crate::words::is_symbol;
+use crate::words::is_at;
 use bc_lex_tokens::{Symbol, Token, TokenKind};
 use bc_word::Memory;
 use std::alloc::Global;
@@ -63,14 +63,6 @@ fn behind(listed: Listed, token: &Token<'_>) -> Listed {
             Listed::Constants => listed,
             _ => Listed::Nothing,
         },
-    }
-}
-
-/// Whether the token at a place is this symbol.
-fn is_at(tokens: &[Token<'_>], place: usize, symbol: Symbol) -> bool {
-    match tokens.get(place) {
-        Some(token) => is_symbol(token, symbol),
-        None => false,
     }
 }
 

@@ -1,9 +1,6 @@
-use crate::message::Message;
-use crate::words::shown;
+use crate::draft::{Draft, Part};
 use bc_lex::{LexError, Source};
-use bc_word::Memory;
-use bcpl_places::{Span, gets_of};
-use std::alloc::Global;
+use bcpl_places::{Get, Span, gets_of};
 
 /// What is said of a byte that begins no token.
 const BYTES: [(u8, &str); 12] = [
@@ -148,12 +145,12 @@ fn unterminated(text: &[u8], at: usize) -> (&'static str, &'static str) {
 }
 
 /// The span of this many bytes from a place on.
-fn span(file: usize, at: usize, size: usize) -> Option<Span> {
-    Some(Span {
+fn span(file: usize, at: usize, size: usize) -> Span {
+    Span {
         file,
         start: at,
         end: at.saturating_add(size),
-    })
+    }
 }
 
 /// Whether this name is meant for the header of the library: LIBHDR in any letters, and perhaps with an ending.
@@ -165,58 +162,59 @@ fn is_libhdr(name: &[u8]) -> bool {
     bare.eq_ignore_ascii_case(b"LIBHDR")
 }
 
-/// What to do where GET names no source, whose name is this.
-fn help_for_get(alloc: Global, name: &[u8]) -> Result<String, Memory> {
+/// Says what to do where GET names no source, whose name is this.
+fn help_for_get(draft: &mut Draft, name: &[u8]) {
     if is_libhdr(name) {
-        Ok(String::from_str(alloc, "the header of the library is LIBHDR, in capitals")?)
+        draft.help("the header of the library is LIBHDR, in capitals", &[]);
     } else if name == b"EXTHDR".as_slice() {
-        Ok(String::from_str(
-            alloc,
-            "it is the header of a further library: --library ext",
-        )?)
+        draft.help("it is the header of a further library: --library ext", &[]);
     } else {
-        let name = shown(alloc, name)?;
-        Ok(format!(in alloc; "say which file it is, by --get {name}=PATH")?)
+        draft.help(
+            "say which file it is, by --get {}=PATH",
+            &[Part::Shown(name)],
+        );
     }
 }
 
-/// What is said where GET names no source.
-fn get_missing(alloc: Global, site: Site<'_>, main: usize) -> Result<Message, Memory> {
+/// Tells of a GET that names no source.
+fn tell_missing(draft: &mut Draft, file: usize, get: &Get<'_>) {
+    let size = get.end.saturating_sub(get.start);
+    draft.place(span(file, get.start, size));
+    draft.say("no source has the name {}", &[Part::Shown(get.name)]);
+    help_for_get(draft, get.name);
+}
+
+/// Tells of a GET without the name of a source, or with one that none has.
+fn tell_get(draft: &mut Draft, site: Site<'_>) {
     let Site { text, file, at } = site;
-    for get in &gets_of(alloc, text)? {
+    let alloc = draft.alloc();
+    let gets = draft.found(gets_of(alloc, text), Vec::new(alloc));
+    for get in &gets {
         if get.start == at {
-            let name = shown(alloc, get.name)?;
-            let sentence = format!(in alloc; "no source has the name {name}")?;
-            let place = span(file, at, get.end.saturating_sub(at));
-            let mut message = Message::new(alloc, main, place, sentence.as_str())?;
-            message.set_help(alloc, help_for_get(alloc, get.name)?.as_str())?;
-            return Ok(message);
+            return tell_missing(draft, file, get);
         }
     }
-    let sentence = "behind GET stands no string with the name of a source";
-    let mut message = Message::new(alloc, main, span(file, at, 3), sentence)?;
-    message.set_help(alloc, "it is written GET \"LIBHDR\"")?;
-    Ok(message)
+    draft.place(span(file, at, 3));
+    draft.say("behind GET stands no string with the name of a source", &[]);
+    draft.help("it is written GET \"LIBHDR\"", &[]);
 }
 
-/// What is said of an escape that there isn't.
-fn bad_escape(alloc: Global, site: Site<'_>, main: usize) -> Result<Message, Memory> {
+/// Tells of an escape that there isn't.
+fn tell_escape(draft: &mut Draft, site: Site<'_>) {
     let Site { text, file, at } = site;
     let behind = text.get(at.saturating_add(1)).copied().unwrap_or(0);
-    let sentence = if behind.is_ascii_graphic() {
-        let sign = char::from(behind);
-        format!(in alloc; "no escape is written *{sign}")?
+    draft.place(span(file, at, 2));
+    if behind.is_ascii_graphic() {
+        draft.say("no escape is written *{}", &[Part::Shown(&[behind])]);
     } else if behind == b' ' {
-        String::from_str(alloc, "no escape is written by * and a blank")?
+        draft.say("no escape is written by * and a blank", &[]);
     } else {
-        String::from_str(alloc, "no escape is written so")?
-    };
-    let mut message = Message::new(alloc, main, span(file, at, 2), sentence.as_str())?;
-    message.set_help(
-        alloc,
+        draft.say("no escape is written so", &[]);
+    }
+    draft.help(
         "behind * stands N, T, S, B, P, C, a quote or *; the sign * itself is written **",
-    )?;
-    Ok(message)
+        &[],
+    );
 }
 
 /// Where a fault stands: the text of its file, the file, and the offset.
@@ -285,25 +283,24 @@ fn said_of(site: Site<'_>, fault: LexError) -> (usize, &'static str, Option<&'st
     }
 }
 
-/// What is said of a text that has no tokens.
-pub fn lexical_message(
-    alloc: Global,
-    sources: &[Source<'_>],
-    main: usize,
-    fault: LexError,
-) -> Result<Option<Message>, Memory> {
+/// Tells of any other fault.
+fn tell_fault(draft: &mut Draft, site: Site<'_>, fault: LexError) {
+    let (size, sentence, help) = said_of(site, fault);
+    draft.place(span(site.file, site.at, size));
+    draft.say(sentence, &[]);
+    if let Some(help) = help {
+        draft.help(help, &[]);
+    }
+}
+
+/// Tells of a text that has no tokens.
+pub fn tell_lexical(draft: &mut Draft, sources: &[Source<'_>], fault: LexError) {
     let Some(site) = site_of(sources, fault) else {
-        return Ok(None)
+        return;
     };
     match fault {
-        LexError::GetMissing(..) => return Ok(Some(get_missing(alloc, site, main)?)),
-        LexError::BadEscape(..) => return Ok(Some(bad_escape(alloc, site, main)?)),
-        _ => {}
+        LexError::GetMissing(..) => tell_get(draft, site),
+        LexError::BadEscape(..) => tell_escape(draft, site),
+        _ => tell_fault(draft, site, fault),
     }
-    let (size, sentence, help) = said_of(site, fault);
-    let mut message = Message::new(alloc, main, span(site.file, site.at, size), sentence)?;
-    if let Some(help) = help {
-        message.set_help(alloc, help)?;
-    }
-    Ok(Some(message))
 }

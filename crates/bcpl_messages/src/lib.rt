@@ -5,11 +5,13 @@
 mod brackets;
 mod constants;
 mod declared;
+mod draft;
 mod lexical;
 mod likeness;
 mod linking;
 mod message;
 mod neighbours;
+mod read;
 mod report;
 mod scopes;
 mod sides;
@@ -18,6 +20,7 @@ mod trial;
 mod wanted;
 mod words;
 
+pub use draft::{Draft, Part};
 pub use linking::is_set;
 pub use message::{Message, Note, message_of};
 pub use report::{Named, told_lines};

@@ -1,4 +1,4 @@
-use crate::message::Message;
+use crate::draft::{Draft, Part};
 use crate::syntax::span_of;
 use crate::words::{is_symbol, shown};
 use bc_core::{Core, Place};
@@ -118,29 +118,24 @@ pub fn is_set(
     Ok(!setters_of(alloc, sources, mains, number)?.is_empty())
 }
 
-/// What is said of a global that two routines set.
-fn global_twice(
-    alloc: Global,
-    sources: &[Source<'_>],
-    mains: &[usize],
-    number: u16,
-) -> Result<Option<Message>, Memory> {
-    let found = setters_of(alloc, sources, mains, number)?;
+/// Tells of a global that two routines set.
+fn tell_twice(draft: &mut Draft, sources: &[Source<'_>], mains: &[usize], number: u16) {
+    let alloc = draft.alloc();
+    let found = draft.found(setters_of(alloc, sources, mains, number), Vec::new(alloc));
     let (Some((_, first)), Some((main, second))) = (found.first(), found.get(1)) else {
-        return Ok(None)
+        return;
     };
-    let name = shown(alloc, second.name)?;
-    let sentence = format!(in alloc;
-        "the routine {name} sets the global {number}, which another routine sets already"
-    )?;
-    let message = Message::new(alloc, *main, Some(second.span), sentence.as_str())?;
-    let help =
-        "a routine that is declared while its name means a global sets that global; one of all files does so";
-    Ok(Some(
-        message
-            .noted(alloc, first.span, "the other routine")?
-            .helped(alloc, Some(help))?,
-    ))
+    draft.set_main(*main);
+    draft.place(second.span);
+    draft.say(
+        "the routine {} sets the global {}, which another routine sets already",
+        &[Part::Shown(second.name), Part::Number(u64::from(number))],
+    );
+    draft.note(first.span, "the other routine", &[]);
+    draft.help(
+        "a routine that is declared while its name means a global sets that global; one of all files does so",
+        &[],
+    );
 }
 
 /// How many words the segment of a main takes; none of a main that is refused itself.
@@ -176,21 +171,20 @@ fn sizes_of(
     Ok(sizes)
 }
 
-/// What is said of segments that can't be linked.
-pub fn linking_message(
-    alloc: Global,
-    sources: &[Source<'_>],
-    mains: &[usize],
-    fault: LinkError,
-) -> Result<Option<Message>, Memory> {
+/// Tells of segments that take more words than there are.
+fn tell_sizes(draft: &mut Draft, sources: &[Source<'_>], mains: &[usize]) {
+    let alloc = draft.alloc();
+    let sizes = draft.found(sizes_of(alloc, sources, mains), Vec::new(alloc));
+    let sentence = draft.found(too_large(alloc, sizes.as_slice()), String::new(alloc));
+    draft.say("{}", &[Part::Text(sentence.as_str())]);
+}
+
+/// Tells of segments that can't be linked.
+pub fn tell_linking(draft: &mut Draft, sources: &[Source<'_>], mains: &[usize], fault: LinkError) {
     match fault {
-        LinkError::GlobalTwice(number) => global_twice(alloc, sources, mains, number.get()),
-        LinkError::TooLarge => {
-            let sizes = sizes_of(alloc, sources, mains)?;
-            let sentence = too_large(alloc, sizes.as_slice())?;
-            Ok(Some(Message::new(alloc, 0, None, sentence.as_str())?))
-        }
-        _ => Ok(None),
+        LinkError::GlobalTwice(number) => tell_twice(draft, sources, mains, number.get()),
+        LinkError::TooLarge => tell_sizes(draft, sources, mains),
+        _ => {}
     }
 }
 
@@ -264,21 +258,19 @@ fn busiest(
     })
 }
 
-/// What is said of a main whose code has too many labels.
-pub fn labels_message(
-    alloc: Global,
-    sources: &[Source<'_>],
-    main: usize,
-) -> Result<Option<Message>, Memory> {
-    let message = match busiest(alloc, sources, main)? {
-        Some((place, count)) => {
-            let sentence = format!(in alloc;
-                "{TOO_MANY_LABELS}; of its routines this one has the most words and signs that make labels, {count}"
-            )?;
-            Message::new(alloc, main, Some(place), sentence.as_str())?
-        }
-        None => Message::new(alloc, main, None, TOO_MANY_LABELS)?,
-    };
-    let help = "cut it into several files, which share routines by GLOBAL";
-    Ok(Some(message.helped(alloc, Some(help))?))
+/// Tells of a main whose code has too many labels.
+pub fn tell_labels(draft: &mut Draft, sources: &[Source<'_>], main: usize) {
+    let busiest = busiest(draft.alloc(), sources, main);
+    draft.say(TOO_MANY_LABELS, &[]);
+    if let Some((place, count)) = draft.found(busiest, None) {
+        draft.place(place);
+        draft.say(
+            "; of its routines this one has the most words and signs that make labels, {}",
+            &[Part::Number(count as u64)],
+        );
+    }
+    draft.help(
+        "cut it into several files, which share routines by GLOBAL",
+        &[],
+    );
 }

@@ -1,7 +1,8 @@
-use crate::lexical::lexical_message;
-use crate::linking::{labels_message, linking_message};
-use crate::scopes::scope_message;
-use crate::syntax::syntax_message;
+use crate::draft::Draft;
+use crate::lexical::tell_lexical;
+use crate::linking::{tell_labels, tell_linking};
+use crate::scopes::tell_scope;
+use crate::syntax::tell_syntax;
 use bc_build::BuildError;
 use bc_lex::Source;
 use bc_word::Memory;
@@ -78,6 +79,17 @@ impl Message {
     }
 }
 
+/// The main that was refused; the first one, where it is the program.
+fn main_of(error: &BuildError) -> usize {
+    match error {
+        BuildError::Lex(main, _) => *main,
+        BuildError::Parse(main, _) => *main,
+        BuildError::Scope(main, _) => *main,
+        BuildError::Gen(main, _) => *main,
+        BuildError::Link(_) | BuildError::Memory => 0,
+    }
+}
+
 /// What is to be said of this refusal of a build of these sources, `mains` being the indexes of those that were to become a
 /// segment each; none where nothing more is known. Memory is answered where a growth was refused.
 pub fn message_of(
@@ -86,12 +98,15 @@ pub fn message_of(
     mains: &[usize],
     error: &BuildError,
 ) -> Result<Option<Message>, Memory> {
+    let main = main_of(error);
+    let mut draft = Draft::new(alloc, main);
     match error {
-        BuildError::Lex(main, fault) => lexical_message(alloc, sources, *main, *fault),
-        BuildError::Parse(main, fault) => syntax_message(alloc, sources, *main, *fault),
-        BuildError::Scope(main, fault) => scope_message(alloc, sources, *main, fault),
-        BuildError::Gen(main, _) => labels_message(alloc, sources, *main),
-        BuildError::Link(fault) => linking_message(alloc, sources, mains, *fault),
-        BuildError::Memory => Ok(None),
+        BuildError::Lex(_, fault) => tell_lexical(&mut draft, sources, *fault),
+        BuildError::Parse(_, fault) => tell_syntax(&mut draft, sources, main, *fault),
+        BuildError::Scope(_, fault) => tell_scope(&mut draft, sources, main, fault),
+        BuildError::Gen(_, _) => tell_labels(&mut draft, sources, main),
+        BuildError::Link(fault) => tell_linking(&mut draft, sources, mains, *fault),
+        BuildError::Memory => {}
     }
+    draft.end()
 }

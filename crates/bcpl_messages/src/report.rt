@@ -1,4 +1,5 @@
-use crate::message::Message;
+use crate::draft::{Part, add_sentence};
+use crate::message::{Message, Note};
 use bc_lex::Source;
 use bc_word::Memory;
 use bcpl_places::{Excerpt, Span, column_at, line_at, way_to};
@@ -12,9 +13,9 @@ pub struct Named<'a, 's> {
     pub paths: &'a [&'a str],
 }
 
-impl Named<'_, '_> {
+impl<'a, 's> Named<'a, 's> {
     /// The text of a source; nothing for one that isn't there.
-    fn text(&self, file: usize) -> &[u8] {
+    fn text(&self, file: usize) -> &'s [u8] {
         match self.sources.get(file) {
             Some(source) => source.text,
             None => b"",
@@ -22,7 +23,7 @@ impl Named<'_, '_> {
     }
 
     /// The path of a source.
-    fn path(&self, file: usize) -> &str {
+    fn path(&self, file: usize) -> &'a str {
         match self.paths.get(file) {
             Some(path) => path,
             None => "",
@@ -30,55 +31,106 @@ impl Named<'_, '_> {
     }
 }
 
-/// Adds `PATH:LINE:COLUMN`.
-fn add_position(
+/// The lines that a message is told in.
+#[derive(Drop)]
+struct Told<'a, 's> {
     alloc: Global,
-    report: &mut String,
-    named: Named<'_, '_>,
-    span: Span,
-) -> Result<(), Memory> {
-    let text = named.text(span.file);
-    let at = span.start.min(text.len());
-    let line = line_at(text, at);
-    let start = line.start.min(at);
-    let column = column_at(alloc, &text[start..], at - start)?;
-    let path = named.path(span.file);
-    let number = line.number;
-    write!(report, "{path}:{number}:{column}")?;
-    Ok(())
+    named: Named<'a, 's>,
+    lines: String,
 }
 
-/// Adds the line on which a place stands, with a mark below it.
-fn add_excerpt(
-    alloc: Global,
-    report: &mut String,
-    named: Named<'_, '_>,
-    span: Span,
-) -> Result<(), Memory> {
-    let text = named.text(span.file);
-    let line = line_at(text, span.start.min(text.len()));
-    let excerpt = Excerpt::new(alloc, text, line, span.start, span.end)?;
-    let shown = excerpt.to_string(alloc)?;
-    report.push_str(shown.as_str())?;
-    report.push_str("\n")?;
-    Ok(())
-}
-
-/// Adds the GETs that led to the file of a place.
-fn add_way(
-    alloc: Global,
-    report: &mut String,
-    named: Named<'_, '_>,
-    main: usize,
-    span: Span,
-) -> Result<(), Memory> {
-    for get in &way_to(alloc, named.sources, main, span.file)? {
-        let text = named.text(get.file);
-        let number = line_at(text, get.start.min(text.len())).number;
-        let path = named.path(get.file);
-        writeln!(report, "  GET from {path}:{number}")?;
+impl Told<'_, '_> {
+    /// Adds a sentence, in which each `{}` is the place of the next of these parts.
+    fn say(&mut self, sentence: &str, parts: &[Part<'_>]) -> Result<(), Memory> {
+        add_sentence(&mut self.lines, sentence, parts)
     }
-    Ok(())
+
+    /// Adds `PATH:LINE:COLUMN: `.
+    fn add_position(&mut self, span: Span) -> Result<(), Memory> {
+        let text = self.named.text(span.file);
+        let at = span.start.min(text.len());
+        let line = line_at(text, at);
+        let start = line.start.min(at);
+        let column = column_at(self.alloc, &text[start..], at - start)?;
+        let path = self.named.path(span.file);
+        self.say(
+            "{}:{}:{}: ",
+            &[
+                Part::Text(path),
+                Part::Number(line.number as u64),
+                Part::Number(column as u64),
+            ],
+        )
+    }
+
+    /// Adds the line on which a place stands, with a mark below it.
+    fn add_excerpt(&mut self, span: Span) -> Result<(), Memory> {
+        let text = self.named.text(span.file);
+        let line = line_at(text, span.start.min(text.len()));
+        let excerpt = Excerpt::new(self.alloc, text, line, span.start, span.end)?;
+        writeln!(self.lines, "{excerpt}")?;
+        Ok(())
+    }
+
+    /// Adds a place with a sentence, and its line.
+    fn add_place(&mut self, span: Span, sentence: &str) -> Result<(), Memory> {
+        self.add_position(span)?;
+        self.say("{}\n", &[Part::Text(sentence)])?;
+        self.add_excerpt(span)
+    }
+
+    /// Adds a GET that led to a file.
+    fn add_get(&mut self, get: Span) -> Result<(), Memory> {
+        let text = self.named.text(get.file);
+        let number = line_at(text, get.start.min(text.len())).number;
+        let path = self.named.path(get.file);
+        self.say(
+            "  GET from {}:{}\n",
+            &[Part::Text(path), Part::Number(number as u64)],
+        )
+    }
+
+    /// Adds the GETs that led to a file.
+    fn add_way(&mut self, main: usize, file: usize) -> Result<(), Memory> {
+        for get in &way_to(self.alloc, self.named.sources, main, file)? {
+            self.add_get(*get)?;
+        }
+        Ok(())
+    }
+
+    /// Adds what is wrong, with its place, if it has one.
+    fn add_first(&mut self, message: &Message) -> Result<(), Memory> {
+        let sentence = message.sentence.as_str();
+        match message.span {
+            Some(span) => {
+                self.add_place(span, sentence)?;
+                self.add_way(message.main, span.file)
+            }
+            None => self.say("{}\n", &[Part::Text(sentence)]),
+        }
+    }
+
+    /// Adds a further place.
+    fn add_note(&mut self, note: &Note) -> Result<(), Memory> {
+        self.say("  ", &[])?;
+        self.add_place(note.span, note.sentence.as_str())
+    }
+
+    /// Adds what one may have meant.
+    fn add_help(&mut self, help: &Option<String>) -> Result<(), Memory> {
+        match help {
+            Some(help) => self.say("  help: {}\n", &[Part::Text(help.as_str())]),
+            None => Ok(()),
+        }
+    }
+
+    fn add_all(&mut self, message: &Message) -> Result<(), Memory> {
+        self.add_first(message)?;
+        for note in &message.notes {
+            self.add_note(note)?;
+        }
+        self.add_help(&message.help)
+    }
 }
 
 /// The lines that a message is told in: the place with the sentence, the line with a mark, the GETs that led there, further places,
@@ -88,30 +140,11 @@ pub fn told_lines(
     named: Named<'_, '_>,
     message: &Message,
 ) -> Result<String, Memory> {
-    let mut lines = String::new(alloc);
-    match message.span {
-        Some(span) => {
-            add_position(alloc, &mut lines, named, span)?;
-            let sentence = message.sentence.as_str();
-            writeln!(lines, ": {sentence}")?;
-            add_excerpt(alloc, &mut lines, named, span)?;
-            add_way(alloc, &mut lines, named, message.main, span)?;
-        }
-        None => {
-            let sentence = message.sentence.as_str();
-            writeln!(lines, "{sentence}")?;
-        }
-    }
-    for note in &message.notes {
-        lines.push_str("  ")?;
-        add_position(alloc, &mut lines, named, note.span)?;
-        let sentence = note.sentence.as_str();
-        writeln!(lines, ": {sentence}")?;
-        add_excerpt(alloc, &mut lines, named, note.span)?;
-    }
-    if let Some(help) = &message.help {
-        let help = help.as_str();
-        writeln!(lines, "  help: {help}")?;
-    }
-    Ok(lines)
+    let mut told = Told {
+        alloc,
+        named,
+        lines: String::new(alloc),
+    };
+    told.add_all(message)?;
+    Ok(told.lines)
 }

@@ -1,11 +1,11 @@
 use crate::constants::{Reason, reason_of};
 use crate::declared::{Declared, declaration_of};
+use crate::draft::{Draft, Part};
 use crate::likeness::nearest;
-use crate::message::Message;
 use crate::neighbours::VECTOR_WITHOUT_SIZE;
-use crate::syntax::span_of;
+use crate::read::Read;
 use crate::trial::replaced;
-use crate::words::{back, is_symbol, shown};
+use crate::words::{back, is_symbol};
 use bc_build::ScopeFault;
 use bc_lex::{Source, lex};
 use bc_lex_tokens::{Symbol, Token, TokenKind};
@@ -15,14 +15,15 @@ use bc_parse::parse;
 use bc_scope::resolve;
 use bc_scope_places::{Also, FaultPlace, Span as TokenSpan, fault_place};
 use bc_word::Memory;
-use bcpl_places::{Span, gets_of};
+use bcpl_places::gets_of;
 use std::alloc::Global;
 
 /// What is said of a fault: the words in front of a name and behind it, and a help.
 #[derive(Clone, Copy)]
 struct Said<'a> {
     front: &'static str,
-    name: Option<&'a [u8]>,
+    /// The name; nothing, where there is none.
+    name: &'a [u8],
     behind: &'static str,
     help: Option<&'static str>,
 }
@@ -32,20 +33,25 @@ impl<'a> Said<'a> {
     fn plain(sentence: &'static str, help: &'static str) -> Said<'a> {
         Said {
             front: sentence,
-            name: None,
+            name: b"",
             behind: "",
             help: Some(help),
         }
     }
 
-    /// The sentence. Memory is answered where a growth was refused.
-    fn sentence(&self, alloc: Global) -> Result<String, Memory> {
-        let mut sentence = String::from_str(alloc, self.front)?;
-        if let Some(name) = self.name {
-            sentence.push_str(shown(alloc, name)?.as_str())?;
+    /// Says so.
+    fn say(&self, draft: &mut Draft) {
+        draft.say(
+            "{}{}{}",
+            &[
+                Part::Text(self.front),
+                Part::Shown(self.name),
+                Part::Text(self.behind),
+            ],
+        );
+        if let Some(help) = self.help {
+            draft.help(help, &[]);
         }
-        sentence.push_str(self.behind)?;
-        Ok(sentence)
     }
 }
 
@@ -160,7 +166,7 @@ fn said_of_name(fault: &ScopeFault) -> Option<Said<'_>> {
     };
     Some(Said {
         front,
-        name: Some(name.as_slice()),
+        name: name.as_slice(),
         behind,
         help,
     })
@@ -195,47 +201,15 @@ fn said_of<'a>(fault: &ScopeFault, tokens: &[Token<'_>], index: usize) -> Option
     Some(Said::plain(sentence, help))
 }
 
-/// The stretch of these tokens, the last one with it.
-fn stretch(tokens: &[Token<'_>], sources: &[Source<'_>], main: usize, span: TokenSpan) -> Span {
-    let first = span_of(tokens, sources, main, span.first);
-    let last = span_of(tokens, sources, main, span.last);
-    if first.file == last.file && first.start <= last.end {
-        Span {
-            end: last.end,
-            ..first
-        }
-    } else {
-        first
-    }
-}
-
-/// A main's tokens, among its sources.
-#[derive(Clone, Copy)]
-struct Read<'a, 's> {
-    sources: &'a [Source<'s>],
-    main: usize,
-    tokens: &'a [Token<'s>],
-}
-
-impl Read<'_, '_> {
-    /// The stretch of these tokens.
-    fn stretch(&self, span: TokenSpan) -> Span {
-        stretch(self.tokens, self.sources, self.main, span)
-    }
-
-    /// Whether the text of the main gets the header of the library. Memory is answered where a growth was refused.
-    fn gets_library(&self, alloc: Global) -> Result<bool, Memory> {
-        let text = match self.sources.get(self.main) {
-            Some(source) => source.text,
-            None => b"",
-        };
-        for get in &gets_of(alloc, text)? {
-            if get.name == b"LIBHDR".as_slice() {
-                return Ok(true);
-            }
-        }
-        Ok(false)
-    }
+/// Whether the text of the main gets the header of the library.
+fn gets_library(draft: &mut Draft, read: Read<'_, '_>) -> bool {
+    let text = match read.sources.get(read.main) {
+        Some(source) => source.text,
+        None => b"",
+    };
+    let alloc = draft.alloc();
+    let gets = draft.found(gets_of(alloc, text), Vec::new(alloc));
+    gets.iter().any(|get| get.name == b"LIBHDR".as_slice())
 }
 
 /// The place of the first fault of these tokens; none where they have none, or where it isn't known.
@@ -252,44 +226,43 @@ fn first_fault(alloc: Global, tokens: &[Token<'_>]) -> Result<Option<FaultPlace>
     }
 }
 
-/// Whether a name has a meaning at a place where another one has none, and where no fault stands in front.
-fn is_known<'s>(
-    alloc: Global,
-    tokens: &[Token<'s>],
-    place: usize,
-    name: &'s [u8],
-) -> Result<bool, Memory> {
-    let changed = replaced(alloc, tokens, place, TokenKind::Name(name))?;
-    Ok(match first_fault(alloc, changed.as_slice())? {
+/// Whether the first fault of changed tokens is none at this place.
+fn is_mended(draft: &mut Draft, changed: &[Token<'_>], place: usize) -> bool {
+    let fault = first_fault(draft.alloc(), changed);
+    match draft.found(fault, None) {
         Some(found) => found.at.first != place,
         None => true,
-    })
+    }
+}
+
+/// Whether a name has a meaning at a place where another one has none, and where no fault stands in front.
+fn is_known<'s>(draft: &mut Draft, tokens: &[Token<'s>], place: usize, name: &'s [u8]) -> bool {
+    let alloc = draft.alloc();
+    let changed = replaced(alloc, tokens, place, TokenKind::Name(name));
+    let changed = draft.found(changed, Vec::new(alloc));
+    is_mended(draft, changed.as_slice(), place)
 }
 
 /// Adds the second place of a fault, or the numbers that belong to it.
-fn add_second(
-    alloc: Global,
-    message: &mut Message,
-    read: Read<'_, '_>,
-    second: Also,
-) -> Result<(), Memory> {
-    let help = match second {
-        Also::Nothing => return Ok(()),
-        Also::First(span) => return message.add_note(alloc, read.stretch(span), "the first one"),
-        Also::Declared(span) => {
-            return message.add_note(alloc, read.stretch(span), "it is declared here");
-        }
-        Also::Number(number) => format!(in alloc;
-            "its number is {number}; globals are numbered from 0 to 511"
-        )?,
-        Also::Cells(cells) => format!(in alloc;
-            "it has {cells} cells: vectors, variables, parameters and what is held while it works"
-        )?,
-        Also::Places(places) => format!(in alloc;
-            "it has {places}; cut it into several files, which share routines by GLOBAL"
-        )?,
+fn add_second(draft: &mut Draft, read: Read<'_, '_>, second: Also) {
+    let (sentence, number) = match second {
+        Also::Nothing => return,
+        Also::First(span) => return draft.note(read.stretch(span), "the first one", &[]),
+        Also::Declared(span) => return draft.note(read.stretch(span), "it is declared here", &[]),
+        Also::Number(number) => (
+            "its number is {}; globals are numbered from 0 to 511",
+            u64::from(number),
+        ),
+        Also::Cells(cells) => (
+            "it has {} cells: vectors, variables, parameters and what is held while it works",
+            cells,
+        ),
+        Also::Places(places) => (
+            "it has {}; cut it into several files, which share routines by GLOBAL",
+            places,
+        ),
     };
-    message.set_help(alloc, help.as_str())
+    draft.help(sentence, &[Part::Number(number)]);
 }
 
 /// Where names are known.
@@ -304,93 +277,97 @@ const BEHIND_ITS_ENTRY: &str =
 const MOST_LIKE: usize = 4;
 
 /// Adds the place of a declaration, with what is said of the name there.
-fn add_found(
-    alloc: Global,
-    message: &mut Message,
-    read: Read<'_, '_>,
-    name: &[u8],
-    found: Declared,
-) -> Result<(), Memory> {
-    let mut sentence = shown(alloc, name)?;
-    sentence.push_str(" ")?;
-    sentence.push_str(found.sentence)?;
-    let span = span_of(read.tokens, read.sources, read.main, found.index);
-    message.add_note(alloc, span, sentence.as_str())
+fn add_found(draft: &mut Draft, read: Read<'_, '_>, name: &[u8], found: Declared) {
+    draft.note(
+        read.place(found.index),
+        "{} {}",
+        &[Part::Shown(name), Part::Text(found.sentence)],
+    );
 }
 
 /// Adds where a name is declared; whether it is anywhere.
-fn add_declared(
-    alloc: Global,
-    message: &mut Message,
-    read: Read<'_, '_>,
-    place: usize,
-    name: &[u8],
-) -> Result<bool, Memory> {
-    let Some(found) = declaration_of(alloc, read.tokens, place, name)? else {
-        return Ok(false)
+fn add_declared(draft: &mut Draft, read: Read<'_, '_>, place: usize, name: &[u8]) -> bool {
+    let declaration = declaration_of(draft.alloc(), read.tokens, place, name);
+    let Some(found) = draft.found(declaration, None) else {
+        return false;
     };
-    add_found(alloc, message, read, name, found)?;
-    message.set_help(alloc, KNOWN)?;
-    Ok(true)
+    add_found(draft, read, name, found);
+    draft.help(KNOWN, &[]);
+    true
+}
+
+/// What the names among the tokens have that are like one that means nothing.
+#[derive(Clone, Copy)]
+struct Like<'s> {
+    /// The one most like it.
+    first: Option<&'s [u8]>,
+    /// The first of them that is known there.
+    known: Option<&'s [u8]>,
+}
+
+/// Goes through the names that are like one which means nothing, those first that are most like it.
+fn like_names<'s>(draft: &mut Draft, read: Read<'_, 's>, place: usize, name: &[u8]) -> Like<'s> {
+    let alloc = draft.alloc();
+    let mut passed: Vec<&'s [u8]> = Vec::new(alloc);
+    for _ in 0..MOST_LIKE {
+        let near = nearest(alloc, read.tokens, name, passed.as_slice());
+        let Some(near) = draft.found(near, None) else {
+            break;
+        };
+        if passed.push(near).is_err() {
+            draft.refuse();
+        }
+        if is_known(draft, read.tokens, place, near) {
+            return Like {
+                first: None,
+                known: Some(near),
+            };
+        }
+    }
+    Like {
+        first: passed.first().copied(),
+        known: None,
+    }
 }
 
 /// Adds a name that is like one that means nothing, and known there; else where the one most like it is declared.
-fn add_like<'s>(
-    alloc: Global,
-    message: &mut Message,
-    read: Read<'_, 's>,
-    place: usize,
-    name: &[u8],
-) -> Result<(), Memory> {
-    let mut passed: Vec<&'s [u8]> = Vec::new(alloc);
-    for _ in 0..MOST_LIKE {
-        let Some(near) = nearest(alloc, read.tokens, name, passed.as_slice())? else {
-            break
-        };
-        if is_known(alloc, read.tokens, place, near)? {
-            let near = shown(alloc, near)?;
-            let help = format!(in alloc;
-                "did you mean {near}? Names are as they are written, capitals and small letters apart"
-            )?;
-            return message.set_help(alloc, help.as_str());
-        }
-        passed.push(near)?;
+fn add_like(draft: &mut Draft, read: Read<'_, '_>, place: usize, name: &[u8]) {
+    let like = like_names(draft, read, place, name);
+    if let Some(near) = like.known {
+        return draft.help(
+            "did you mean {}? Names are as they are written, capitals and small letters apart",
+            &[Part::Shown(near)],
+        );
     }
-    if let Some(near) = passed.first() {
-        if add_declared(alloc, message, read, place, near)? {
-            return Ok(());
+    if let Some(near) = like.first {
+        if add_declared(draft, read, place, near) {
+            return;
         }
     }
-    message.set_help(
-        alloc,
+    draft.help(
         "declare it in front of its use; capitals and small letters are told apart",
-    )
+        &[],
+    );
 }
 
 /// Adds what is said of a name that means nothing at a place.
-fn add_undeclared(
-    alloc: Global,
-    message: &mut Message,
-    read: Read<'_, '_>,
-    place: usize,
-    name: &[u8],
-) -> Result<(), Memory> {
-    if is_of_library(name) && !read.gets_library(alloc)? {
-        return message.set_help(
-            alloc,
+fn add_undeclared(draft: &mut Draft, read: Read<'_, '_>, place: usize, name: &[u8]) {
+    if is_of_library(name) && !gets_library(draft, read) {
+        return draft.help(
             "the library declares it: write GET \"LIBHDR\" at the head of the file",
+            &[],
         );
     }
-    if add_declared(alloc, message, read, place, name)? {
-        return Ok(());
+    if add_declared(draft, read, place, name) {
+        return;
     }
     if is_of_further_library(name) {
-        return message.set_help(
-            alloc,
+        return draft.help(
             "the further library has it: GET \"EXTHDR\", and build with --library ext",
+            &[],
         );
     }
-    add_like(alloc, message, read, place, name)
+    add_like(draft, read, place, name);
 }
 
 /// Whether the token with this index stands behind VEC.
@@ -410,104 +387,71 @@ fn help_for_size(tokens: &[Token<'_>], index: usize) -> &'static str {
     }
 }
 
-/// Adds why an expression is no constant, where that is seen, and what to do.
-fn add_reason(
-    alloc: Global,
-    message: &mut Message,
-    read: Read<'_, '_>,
-    at: TokenSpan,
-) -> Result<(), Memory> {
-    if stands_behind_vector(read.tokens, at.first) {
-        message.set_help(alloc, help_for_size(read.tokens, at.first))?;
+/// Adds that a name, which is used at the token with this index, is no constant by its declaration.
+fn add_name(draft: &mut Draft, read: Read<'_, '_>, used: usize, declared: Declared) {
+    if declared.index > used {
+        draft.help(BEHIND_ITS_ENTRY, &[]);
     }
-    match reason_of(alloc, read.tokens, at.first, at.last)? {
-        Some(Reason::Name(used, declared)) => {
-            let name = match read.tokens.get(used) {
-                Some(token) => token.text,
-                None => b"",
-            };
-            if declared.index > used {
-                message.set_help(alloc, BEHIND_ITS_ENTRY)?;
-            }
-            add_found(alloc, message, read, name, declared)
-        }
-        Some(Reason::Division) => message.set_help(
-            alloc,
-            "a division or a remainder by 0 has no value",
-        ),
-        None => Ok(()),
+    add_found(draft, read, read.text(used), declared);
+}
+
+/// Adds why an expression is no constant, where that is seen, and what to do.
+fn add_reason(draft: &mut Draft, read: Read<'_, '_>, at: TokenSpan) {
+    if stands_behind_vector(read.tokens, at.first) {
+        draft.help(help_for_size(read.tokens, at.first), &[]);
+    }
+    match reason_of(draft, read.tokens, at.first, at.last) {
+        Some(Reason::Name(used, declared)) => add_name(draft, read, used, declared),
+        Some(Reason::Division) => draft.help("a division or a remainder by 0 has no value", &[]),
+        None => {}
     }
 }
 
 /// Adds what is said of a fault at a place beside its sentence.
-fn add_more(
-    alloc: Global,
-    message: &mut Message,
-    read: Read<'_, '_>,
-    fault: &ScopeFault,
-    found: FaultPlace,
-) -> Result<(), Memory> {
-    add_second(alloc, message, read, found.also)?;
+fn add_more(draft: &mut Draft, read: Read<'_, '_>, fault: &ScopeFault, found: FaultPlace) {
+    add_second(draft, read, found.also);
     let place = found.at.first;
     match fault {
-        ScopeFault::Undeclared(name) => add_undeclared(
-            alloc,
-            message,
-            read,
-            place,
-            name.as_slice(),
-        ),
-        ScopeFault::NotConstant => add_reason(alloc, message, read, found.at),
-        _ => Ok(()),
+        ScopeFault::Undeclared(name) => add_undeclared(draft, read, place, name.as_slice()),
+        ScopeFault::NotConstant => add_reason(draft, read, found.at),
+        _ => {}
     }
 }
 
-/// What is said of a fault of the scopes of a main whose tokens were read.
-fn message_on(
-    alloc: Global,
-    read: Read<'_, '_>,
-    fault: &ScopeFault,
-) -> Result<Option<Message>, Memory> {
-    let found = first_fault(alloc, read.tokens)?;
-    let index = match found {
-        Some(found) => found.at.first,
-        None => read.tokens.len(),
-    };
-    let Some(said) = said_of_name(fault).or(said_of(fault, read.tokens, index)) else {
-        return Ok(None)
-    };
-    let place = match found {
-        Some(found) => Some(read.stretch(found.at)),
-        None => None,
-    };
-    let sentence = said.sentence(alloc)?;
-    let mut message = Message::new(alloc, read.main, place, sentence.as_str())?;
-    if let Some(help) = said.help {
-        message.set_help(alloc, help)?;
+/// Tells of a fault without a place.
+fn tell_anywhere(draft: &mut Draft, read: Read<'_, '_>, fault: &ScopeFault) {
+    let end = read.tokens.len();
+    if let Some(said) = said_of_name(fault).or(said_of(fault, read.tokens, end)) {
+        said.say(draft);
     }
-    if let Some(found) = found {
-        add_more(alloc, &mut message, read, fault, found)?;
-    }
-    Ok(Some(message))
 }
 
-/// What is said of a fault of the scopes of a main.
-pub fn scope_message(
-    alloc: Global,
-    sources: &[Source<'_>],
-    main: usize,
-    fault: &ScopeFault,
-) -> Result<Option<Message>, Memory> {
+/// Tells of a fault at a place.
+fn tell_at(draft: &mut Draft, read: Read<'_, '_>, fault: &ScopeFault, found: FaultPlace) {
+    let index = found.at.first;
+    if let Some(said) = said_of_name(fault).or(said_of(fault, read.tokens, index)) {
+        draft.place(read.stretch(found.at));
+        said.say(draft);
+        add_more(draft, read, fault, found);
+    }
+}
+
+/// Tells of a fault of the scopes of a main.
+pub fn tell_scope(draft: &mut Draft, sources: &[Source<'_>], main: usize, fault: &ScopeFault) {
     if main >= sources.len() {
-        return Ok(None);
+        return;
     }
-    let Ok(tokens) = lex(alloc, sources, main) else {
-        return Ok(None)
+    let Ok(tokens) = lex(draft.alloc(), sources, main) else {
+        return;
     };
     let read = Read {
         sources,
         main,
         tokens: tokens.as_slice(),
     };
-    message_on(alloc, read, fault)
+    let found = first_fault(draft.alloc(), read.tokens);
+    match draft.found(found, None) {
+        Some(found) => tell_at(draft, read, fault, found),
+        None => tell_anywhere(draft, read, fault),
+    }
 }

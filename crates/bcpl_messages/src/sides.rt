@@ -1,9 +1,8 @@
 //! Names and values, or places and values, that are not as many.
 
-use crate::words::is_symbol;
+use crate::draft::{Draft, Part};
+use crate::words::{is_at, is_symbol};
 use bc_lex_tokens::{Symbol, Token};
-use bc_word::Memory;
-use std::alloc::Global;
 
 /// Whether a token is one of these symbols.
 fn is_one_of(token: &Token<'_>, symbols: &[Symbol]) -> bool {
@@ -138,44 +137,30 @@ fn sides_of(tokens: &[Token<'_>], sign: usize, index: usize) -> Option<Sides> {
     })
 }
 
-/// What is said where the names, or the places that are assigned to, are not as many as the values in front of this place. Memory is
-/// answered where a growth was refused.
-pub fn help_for_sides(
-    alloc: Global,
-    tokens: &[Token<'_>],
-    index: usize,
-) -> Result<Option<String>, Memory> {
-    let Some(sign) = sign_before(tokens, index) else {
-        return Ok(None)
-    };
-    let Some(sides) = sides_of(tokens, sign, index) else {
-        return Ok(None)
-    };
-    let is_at_comma = match tokens.get(index) {
-        Some(token) => is_symbol(token, Symbol::Comma),
-        None => false,
-    };
-    let Sides {
-        left,
-        right,
-        is_assignment,
-    } = sides;
-    let is_wrong = if is_at_comma {
-        left < right
+/// The sides of the sign in front of a place, where the names, or the places that are assigned to, are not as many as the values there.
+fn wrong_sides(tokens: &[Token<'_>], index: usize) -> Option<Sides> {
+    let sign = sign_before(tokens, index)?;
+    let sides = sides_of(tokens, sign, index)?;
+    let is_wrong = if is_at(tokens, index, Symbol::Comma) {
+        sides.left < sides.right
     } else {
-        left > right
+        sides.left > sides.right
     };
-    if !is_wrong {
-        return Ok(None);
-    }
-    let help = if is_assignment {
-        format!(in alloc;
-            "each place has its value: on the left of := stand {left}, on the right {right}"
-        )?
+    is_wrong.then_some(sides)
+}
+
+/// Says so where the names, or the places that are assigned to, are not as many as the values in front of this place; whether that is so.
+pub fn says_sides(draft: &mut Draft, tokens: &[Token<'_>], index: usize) -> bool {
+    let Some(sides) = wrong_sides(tokens, index) else {
+        return false;
+    };
+    let sentence = if sides.is_assignment {
+        "each place has its value: on the left of := stand {}, on the right {}"
     } else {
-        format!(in alloc;
-            "each name has its value: on the left of = stand {left}, on the right {right}"
-        )?
+        "each name has its value: on the left of = stand {}, on the right {}"
     };
-    Ok(Some(help))
+    let left = Part::Number(sides.left as u64);
+    let right = Part::Number(sides.right as u64);
+    draft.help(sentence, &[left, right]);
+    true
 }

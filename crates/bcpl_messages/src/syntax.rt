@@ -1,20 +1,19 @@
 ghost use Rattle.std.specs.Prelude.{slice_get};
 ghost use Rattle.bcpl_messages.specs.Spans.{IsSpanOf};
 
-use crate::brackets::{open_before, tag};
+use crate::brackets::{open_at, tag};
+use crate::draft::{Draft, Part};
 use crate::likeness::reserved_word;
-use crate::message::Message;
 use crate::neighbours::{help_for_name, help_for_neighbours, help_for_token};
-use crate::sides::help_for_sides;
-use crate::trial::{Change, read_with};
-use crate::wanted::{could_be, wanted_at};
-use crate::words::{back, is_symbol, shown};
+use crate::read::Read;
+use crate::sides::says_sides;
+use crate::trial::{Change, reached};
+use crate::wanted::{could_be, say_wanted};
+use crate::words::{back, is_at, is_symbol};
 use bc_lex::{Source, lex};
 use bc_lex_tokens::{Symbol, Token, TokenKind};
 use bc_parse::ParseError;
-use bc_word::Memory;
 use bcpl_places::Span;
-use std::alloc::Global;
 
 /// A change that is tried, and what is said where it helps.
 struct Remedy {
@@ -77,41 +76,34 @@ pub fn span_of(tokens: &[Token<'_>], sources: &[Source<'_>], main: usize, index:
     }
 }
 
-/// How far reading gets with a remedy at a token, if the token is what the remedy is for.
+/// Whether more is read than the token that is refused with a remedy at another, which is the one that the remedy is for.
 fn is_remedy(
-    alloc: Global,
+    draft: &mut Draft,
     tokens: &[Token<'_>],
     refused: usize,
     at: usize,
     remedy: &Remedy,
-) -> Result<bool, Memory> {
-    let Some(token) = tokens.get(at) else {
-        return Ok(false)
-    };
-    if !is_symbol(token, remedy.found) {
-        return Ok(false);
+) -> bool {
+    if !is_at(tokens, at, remedy.found) {
+        return false;
     }
     let kind = TokenKind::Symbol(remedy.meant);
-    Ok(read_with(alloc, tokens, at, Change::Replace(kind))?.is_behind(refused))
+    reached(draft, tokens, at, Change::Replace(kind)).is_behind(refused)
 }
 
 /// In how many tokens, the one that is refused and those in front of it, a remedy is looked for.
 const LOOK_BACK: usize = 12;
 
 /// The help of a remedy that gets further, if there is one.
-fn remedied(
-    alloc: Global,
-    tokens: &[Token<'_>],
-    index: usize,
-) -> Result<Option<&'static str>, Memory> {
+fn remedied(draft: &mut Draft, tokens: &[Token<'_>], index: usize) -> Option<&'static str> {
     for back in 0..LOOK_BACK {
         for remedy in &REMEDIES {
-            if index >= back && is_remedy(alloc, tokens, index, index - back, remedy)? {
-                return Ok(Some(remedy.help));
+            if index >= back && is_remedy(draft, tokens, index, index - back, remedy) {
+                return Some(remedy.help);
             }
         }
     }
-    Ok(None)
+    None
 }
 
 /// What must stand at a place, and in front of it, for a guess.
@@ -215,314 +207,272 @@ fn is_on_line(tokens: &[Token<'_>], index: usize) -> bool {
 fn is_site(tokens: &[Token<'_>], index: usize, site: Site) -> bool {
     match site {
         Site::Any => true,
-        Site::At(symbol) => match tokens.get(index) {
-            Some(token) => is_symbol(token, symbol),
-            None => false,
-        },
+        Site::At(symbol) => is_at(tokens, index, symbol),
         Site::BehindName => is_behind_name(tokens, index),
         Site::OnLine => is_on_line(tokens, index),
         Site::OnLineBehindName => is_on_line(tokens, index) && is_behind_name(tokens, index),
     }
 }
 
+/// Whether a declaration could stand at a place, and no command.
+fn is_outside(draft: &mut Draft, tokens: &[Token<'_>], index: usize) -> bool {
+    could_be(draft, tokens, index, Symbol::Let) && !could_be(draft, tokens, index, Symbol::Return)
+}
+
+/// Whether more is read than the token at a place with a change there.
+fn gets_further(draft: &mut Draft, tokens: &[Token<'_>], index: usize, change: Change) -> bool {
+    reached(draft, tokens, index, change).is_behind(index)
+}
+
 /// Whether the parser takes what a guess tries.
-fn is_taken(
-    alloc: Global,
-    tokens: &[Token<'_>],
-    index: usize,
-    trial: Trial,
-) -> Result<bool, Memory> {
+fn is_taken(draft: &mut Draft, tokens: &[Token<'_>], index: usize, trial: Trial) -> bool {
     let change = match trial {
-        Trial::Stands(symbol) => return could_be(alloc, tokens, index, symbol),
-        Trial::StandsOutside => {
-            return Ok(
-                could_be(alloc, tokens, index, Symbol::Let)?
-                    && !could_be(alloc, tokens, index, Symbol::Return)?,
-            );
-        }
+        Trial::Stands(symbol) => return could_be(draft, tokens, index, symbol),
+        Trial::StandsOutside => return is_outside(draft, tokens, index),
         Trial::Behind(symbol) => Change::Insert(TokenKind::Symbol(symbol)),
         Trial::BehindBrackets => Change::InsertBrackets,
         Trial::Enclosed => Change::Enclose,
     };
-    Ok(read_with(alloc, tokens, index, change)?.is_behind(index))
+    gets_further(draft, tokens, index, change)
 }
 
 /// What is said of the place that is refused, by what could stand there.
-fn help_for_place(
-    alloc: Global,
-    tokens: &[Token<'_>],
-    index: usize,
-) -> Result<Option<&'static str>, Memory> {
+fn help_for_place(draft: &mut Draft, tokens: &[Token<'_>], index: usize) -> Option<&'static str> {
     for guess in &GUESSES {
-        if is_site(tokens, index, guess.site) && is_taken(alloc, tokens, index, guess.trial)? {
-            return Ok(Some(guess.help));
+        if is_site(tokens, index, guess.site) && is_taken(draft, tokens, index, guess.trial) {
+            return Some(guess.help);
         }
     }
-    Ok(None)
+    None
 }
 
-/// The word of the list of names that is open in front of a place: MANIFEST, STATIC or GLOBAL, if there is one. Memory is answered where
-/// a growth was refused.
-pub fn list_word(
-    alloc: Global,
-    tokens: &[Token<'_>],
-    index: usize,
-) -> Result<Option<Symbol>, Memory> {
-    let open = open_before(alloc, tokens, index)?;
-    let Some(bracket) = open.last() else {
-        return Ok(None)
-    };
-    let Some(token) = back(tokens, *bracket, 1) else {
-        return Ok(None)
-    };
-    for symbol in [Symbol::Manifest, Symbol::Static, Symbol::Global] {
-        if is_symbol(token, symbol) {
-            return Ok(Some(symbol));
+/// The words that a list of names stands behind.
+const LISTS: [Symbol; 3] = [Symbol::Manifest, Symbol::Static, Symbol::Global];
+
+/// The word of the list of names that is open in front of a place: MANIFEST, STATIC or GLOBAL, if there is one.
+pub fn list_word(draft: &mut Draft, tokens: &[Token<'_>], index: usize) -> Option<Symbol> {
+    let bracket = *open_at(draft, tokens, index).last()?;
+    let token = back(tokens, bracket, 1)?;
+    for symbol in &LISTS {
+        if is_symbol(token, *symbol) {
+            return Some(*symbol);
         }
     }
-    Ok(None)
+    None
 }
 
 /// What is said of a place in a list of names.
-fn help_for_list(
-    alloc: Global,
-    tokens: &[Token<'_>],
-    index: usize,
-) -> Result<Option<&'static str>, Memory> {
-    let Some(word) = list_word(alloc, tokens, index)? else {
-        return Ok(None)
-    };
-    if is_site(tokens, index, Site::At(Symbol::Vector)) {
-        return Ok(Some(
+fn help_for_list(draft: &mut Draft, tokens: &[Token<'_>], index: usize) -> Option<&'static str> {
+    let word = list_word(draft, tokens, index)?;
+    if is_at(tokens, index, Symbol::Vector) {
+        Some(
             "such a name has a constant; a routine declares the vector, by LET V = VEC 10, and can keep its address in a static or a global",
-        ));
-    }
-    Ok(if !is_behind_name(tokens, index) {
+        )
+    } else if !is_behind_name(tokens, index) {
         None
     } else if word.is(Symbol::Global) {
         Some("each name has its number, as in GLOBAL $( N:100 $)")
     } else {
         Some("each name has its value, as in MANIFEST $( N = 10 $)")
-    })
+    }
 }
 
-/// What is said of a name that is a reserved word in other letters, or an operator or a bracket in other languages.
-fn help_for_word(
-    alloc: Global,
-    token: Option<&Token<'_>>,
-    is_first: bool,
-) -> Result<Option<String>, Memory> {
-    let Some(
-        Token {
-            kind: TokenKind::Name(name),
-            ..
-        },
-    ) = token
-    else {
-        return Ok(None);
+/// The name that a token is, if it is one.
+fn name_of<'s>(token: Option<&Token<'s>>) -> Option<&'s [u8]> {
+    match token?.kind {
+        TokenKind::Name(name) => Some(name),
+        _ => None,
+    }
+}
+
+/// Says of a name that it is this reserved word in other letters.
+fn say_reserved<'a>(draft: &mut Draft, name: &'a [u8], word: &'a str, is_first: bool) {
+    let old = if is_first {
+        "; bcpl convert brings old sources across"
+    } else {
+        ""
     };
-    if let Some(word) = reserved_word(alloc, name)? {
-        let name = shown(alloc, name)?;
-        let old = if is_first {
-            "; bcpl convert brings old sources across"
-        } else {
-            ""
-        };
-        return Ok(Some(format!(in alloc; "{name} is a name; the reserved word is {word}{old}")?));
+    draft.help(
+        "{} is a name; the reserved word is {}{}",
+        &[Part::Shown(name), Part::Text(word), Part::Text(old)],
+    );
+}
+
+/// Says so of a name that is a reserved word in other letters, or an operator or a bracket in other languages; whether it is.
+fn says_name(draft: &mut Draft, name: &[u8], is_first: bool) -> bool {
+    let reserved = reserved_word(draft.alloc(), name);
+    if let Some(word) = draft.found(reserved, None) {
+        say_reserved(draft, name, word.as_str(), is_first);
+        return true;
     }
     match help_for_name(name) {
-        Some(help) => Ok(Some(String::from_str(alloc, help)?)),
-        None => Ok(None),
+        Some(help) => {
+            draft.help(help, &[]);
+            true
+        }
+        None => false,
+    }
+}
+
+/// Says so of a token that is such a name; whether it is.
+fn says_word(draft: &mut Draft, token: Option<&Token<'_>>, is_first: bool) -> bool {
+    match name_of(token) {
+        Some(name) => says_name(draft, name, is_first),
+        None => false,
     }
 }
 
 /// Whether what is said of the token at a place by itself comes before all guesses.
 fn says_all(tokens: &[Token<'_>], index: usize) -> bool {
-    is_site(tokens, index, Site::At(Symbol::Else)) || is_site(tokens, index, Site::At(Symbol::And))
+    is_at(tokens, index, Symbol::Else) || is_at(tokens, index, Symbol::And)
 }
 
 /// What may have been meant, where that is always said in the same words.
-fn help_in_words(
-    alloc: Global,
-    tokens: &[Token<'_>],
-    index: usize,
-) -> Result<Option<&'static str>, Memory> {
-    if says_all(tokens, index) {
-        return Ok(help_for_token(tokens.get(index)));
-    }
-    if let Some(help) = remedied(alloc, tokens, index)? {
-        return Ok(Some(help));
-    }
-    if let Some(help) = help_for_list(alloc, tokens, index)? {
-        return Ok(Some(help));
-    }
-    if let Some(help) = help_for_place(alloc, tokens, index)? {
-        return Ok(Some(help));
-    }
-    Ok(help_for_token(tokens.get(index)))
-}
-
-/// What may have been meant, where tokens can't be read on at this index.
-fn help_for(alloc: Global, tokens: &[Token<'_>], index: usize) -> Result<Option<String>, Memory> {
-    let at = tokens.get(index);
-    let before = back(tokens, index, 1);
-    for token in [at, before] {
-        if let Some(help) = help_for_word(alloc, token, index == 0)? {
-            return Ok(Some(help));
+fn help_in_words(draft: &mut Draft, tokens: &[Token<'_>], index: usize) -> Option<&'static str> {
+    if !says_all(tokens, index) {
+        let guessed = guessed(draft, tokens, index);
+        if guessed.is_some() {
+            return guessed;
         }
     }
-    let known = help_for_neighbours(tokens, index);
-    if known.is_none() {
-        if let Some(help) = help_for_sides(alloc, tokens, index)? {
-            return Ok(Some(help));
-        }
+    help_for_token(tokens.get(index))
+}
+
+/// What may have been meant, by trying and by the list that the place is in.
+fn guessed(draft: &mut Draft, tokens: &[Token<'_>], index: usize) -> Option<&'static str> {
+    let help = remedied(draft, tokens, index);
+    if help.is_some() {
+        return help;
     }
-    let help = match known {
-        Some(help) => Some(help),
-        None => help_in_words(alloc, tokens, index)?,
-    };
-    Ok(match help {
-        Some(help) => Some(String::from_str(alloc, help)?),
-        None => None,
-    })
+    let help = help_for_list(draft, tokens, index);
+    if help.is_some() {
+        return help;
+    }
+    help_for_place(draft, tokens, index)
 }
 
-/// What is said of the token that can't stand where it stands.
-fn expected(
-    alloc: Global,
-    sources: &[Source<'_>],
-    main: usize,
-    tokens: &[Token<'_>],
-    index: usize,
-) -> Result<Message, Memory> {
-    let place = span_of(tokens, sources, main, index);
-    let wanted = wanted_at(alloc, tokens, index)?;
-    let found = match tokens.get(index) {
-        Some(token) => {
-            let text = shown(alloc, token.text)?;
-            format!(in alloc; "{text} can't stand here")?
-        }
-        None => String::from_str(alloc, "the file ends too early")?,
-    };
-    let sentence = if wanted.is_empty() {
-        found
-    } else {
-        format!(in alloc; "{found}; here could stand {wanted}")?
-    };
-    let help = help_for(alloc, tokens, index)?;
-    let message = Message::new(alloc, main, Some(place), sentence.as_str())?;
-    Ok(Message { help, ..message })
+/// Says what may have been meant, where no known mistake stands around the place.
+fn help_by_trying(draft: &mut Draft, tokens: &[Token<'_>], index: usize) {
+    if says_sides(draft, tokens, index) {
+        return;
+    }
+    if let Some(help) = help_in_words(draft, tokens, index) {
+        draft.help(help, &[]);
+    }
 }
 
-/// The sentence on a section bracket that is not closed, of so many that are open: the bracket is told with its tag.
-fn unclosed_sentence(
-    alloc: Global,
-    bracket: Option<&Token<'_>>,
-    count: usize,
-) -> Result<String, Memory> {
-    let bracket = match bracket {
-        Some(token) => shown(alloc, token.text)?,
-        None => String::from_str(alloc, "$(")?,
+/// Says what may have been meant, where tokens can't be read on at this index.
+fn help_for(draft: &mut Draft, tokens: &[Token<'_>], index: usize) {
+    let is_first = index == 0;
+    if says_word(draft, tokens.get(index), is_first)
+        || says_word(draft, back(tokens, index, 1), is_first)
+    {
+        return;
+    }
+    match help_for_neighbours(tokens, index) {
+        Some(help) => draft.help(help, &[]),
+        None => help_by_trying(draft, tokens, index),
+    }
+}
+
+/// Tells of the token that can't stand where it stands.
+fn tell_expected(draft: &mut Draft, read: Read<'_, '_>, index: usize) {
+    draft.place(read.place(index));
+    match read.tokens.get(index) {
+        Some(token) => draft.say("{} can't stand here", &[Part::Shown(token.text)]),
+        None => draft.say("the file ends too early", &[]),
+    }
+    say_wanted(draft, read.tokens, index);
+    help_for(draft, read.tokens, index);
+}
+
+/// Says of a section bracket that it is not closed, one of so many that are open: the bracket is told with its tag.
+fn say_unclosed(draft: &mut Draft, bracket: Option<&Token<'_>>, count: usize) {
+    let text: &[u8] = match bracket {
+        Some(token) => token.text,
+        None => b"$(",
     };
     let others = count.saturating_sub(1);
-    Ok(match others {
-        0 => format!(in alloc; "this {bracket} is not closed")?,
-        1 => format!(in alloc; "this {bracket} is not closed, nor is another one around it")?,
-        _ => format!(in alloc; "this {bracket} is not closed, nor are {others} others around it")?,
-    })
+    let sentence = match others {
+        0 => "this {} is not closed",
+        1 => "this {} is not closed, nor is another one around it",
+        _ => "this {} is not closed, nor are {} others around it",
+    };
+    draft.say(sentence, &[Part::Shown(text), Part::Number(others as u64)]);
 }
 
-/// What is said of sections that are open at the end.
-fn unclosed(
-    alloc: Global,
-    sources: &[Source<'_>],
-    main: usize,
-    tokens: &[Token<'_>],
-) -> Result<Message, Memory> {
-    let open = open_before(alloc, tokens, tokens.len())?;
-    let innermost = open.last().copied().unwrap_or(tokens.len());
-    let place = span_of(tokens, sources, main, innermost);
+/// Tells of sections that are open at the end.
+fn tell_unclosed(draft: &mut Draft, read: Read<'_, '_>) {
+    let end = read.tokens.len();
+    let open = open_at(draft, read.tokens, end);
+    let innermost = open.last().copied().unwrap_or(end);
     let count = open.len();
-    let sentence = unclosed_sentence(alloc, tokens.get(innermost), count)?;
-    let message = Message::new(alloc, main, Some(place), sentence.as_str())?;
-    let message = match open.first() {
-        Some(outermost) if count > 1 => {
-            message.noted(
-                alloc,
-                span_of(tokens, sources, main, *outermost),
-                "the outermost that is open",
-            )?
-        }
-        _ => message,
-    };
-    message.helped(
-        alloc,
-        Some(
-            "an untagged $) closes the innermost $( , and one with a tag all up to the $( with that tag",
-        ),
-    )
+    draft.place(read.place(innermost));
+    say_unclosed(draft, read.tokens.get(innermost), count);
+    if count > 1 {
+        let outermost = open.first().copied().unwrap_or(end);
+        draft.note(read.place(outermost), "the outermost that is open", &[]);
+    }
+    draft.help(
+        "an untagged $) closes the innermost $( , and one with a tag all up to the $( with that tag",
+        &[],
+    );
 }
 
-/// What is said of a `$)` that closes nothing.
-fn not_open(
-    alloc: Global,
-    sources: &[Source<'_>],
-    main: usize,
-    tokens: &[Token<'_>],
-    index: usize,
-) -> Result<Message, Memory> {
-    let place = span_of(tokens, sources, main, index);
-    let open = open_before(alloc, tokens, index)?;
-    let name = match tokens.get(index) {
-        Some(token) => shown(alloc, tag(token))?,
-        None => String::new(alloc),
+/// Tells of a `$)` whose tag no section has that is open, the innermost of which is this.
+fn tell_tag(draft: &mut Draft, read: Read<'_, '_>, index: usize, innermost: usize) {
+    let name = match read.tokens.get(index) {
+        Some(token) => tag(token),
+        None => b"",
     };
-    match open.last() {
-        Some(innermost) => {
-            let sentence = format!(in alloc; "no open $( has the tag {name}")?;
-            Message::new(alloc, main, Some(place), sentence.as_str())?.noted(
-                alloc,
-                span_of(tokens, sources, main, *innermost),
-                "the innermost that is open here",
-            )
-        }
-        None => Message::new(
-            alloc,
-            main,
-            Some(place),
-            "this $) closes nothing: no $( is open here",
-        ),
+    draft.say("no open $( has the tag {}", &[Part::Shown(name)]);
+    draft.note(
+        read.place(innermost),
+        "the innermost that is open here",
+        &[],
+    );
+}
+
+/// Tells of a `$)` that closes nothing.
+fn tell_not_open(draft: &mut Draft, read: Read<'_, '_>, index: usize) {
+    draft.place(read.place(index));
+    match open_at(draft, read.tokens, index).last() {
+        Some(innermost) => tell_tag(draft, read, index, *innermost),
+        None => draft.say("this $) closes nothing: no $( is open here", &[]),
     }
 }
 
-/// What is said of tokens that are no section.
-pub fn syntax_message(
-    alloc: Global,
-    sources: &[Source<'_>],
-    main: usize,
-    fault: ParseError,
-) -> Result<Option<Message>, Memory> {
+/// Tells of a token that stands in too many constructs.
+fn tell_too_deep(draft: &mut Draft, read: Read<'_, '_>, index: usize) {
+    draft.place(read.place(index));
+    draft.say(
+        "more than 200 definitions, commands and expressions stand one within another here, or 400 brackets are open",
+        &[],
+    );
+    draft.help(
+        "give a part a name: a routine of its own, or a variable",
+        &[],
+    );
+}
+
+/// Tells of tokens that are no section.
+pub fn tell_syntax(draft: &mut Draft, sources: &[Source<'_>], main: usize, fault: ParseError) {
     if main >= sources.len() {
-        return Ok(None);
+        return;
     }
-    let Ok(tokens) = lex(alloc, sources, main) else {
-        return Ok(None)
+    let Ok(tokens) = lex(draft.alloc(), sources, main) else {
+        return;
     };
-    let tokens = tokens.as_slice();
-    let message = match fault {
-        ParseError::Expected(index) => expected(alloc, sources, main, tokens, index)?,
-        ParseError::Unclosed => unclosed(alloc, sources, main, tokens)?,
-        ParseError::NotOpen(index) => not_open(alloc, sources, main, tokens, index)?,
-        ParseError::TooDeep(index) => {
-            let place = span_of(tokens, sources, main, index);
-            let sentence =
-                "more than 200 definitions, commands and expressions stand one within another here, or 400 brackets are open";
-            Message::new(alloc, main, Some(place), sentence)?.helped(
-                alloc,
-                Some("give a part a name: a routine of its own, or a variable"),
-            )?
-        }
-        ParseError::Memory => return Ok(None),
+    let read = Read {
+        sources,
+        main,
+        tokens: tokens.as_slice(),
     };
-    Ok(Some(message))
+    match fault {
+        ParseError::Expected(index) => tell_expected(draft, read, index),
+        ParseError::Unclosed => tell_unclosed(draft, read),
+        ParseError::NotOpen(index) => tell_not_open(draft, read, index),
+        ParseError::TooDeep(index) => tell_too_deep(draft, read, index),
+        ParseError::Memory => {}
+    }
 }

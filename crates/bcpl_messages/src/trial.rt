@@ -1,3 +1,4 @@
+use crate::draft::Draft;
 use bc_lex_tokens::{Symbol, Token, TokenKind};
 use bc_parse::{ParseError, parse};
 use bc_word::Memory;
@@ -97,41 +98,35 @@ fn add_pair<'s>(
     Ok(())
 }
 
+/// Adds a token between round brackets.
+fn add_enclosed<'s>(changed: &mut Vec<Token<'s>>, at: &Token<'s>) -> Result<(), Memory> {
+    let open = TokenKind::Symbol(Symbol::OpenBracket);
+    let close = TokenKind::Symbol(Symbol::CloseBracket);
+    for token in [in_place(open, at, false), *at, in_place(close, at, false)] {
+        changed.push(token)?;
+    }
+    Ok(())
+}
+
+/// Section brackets, and round ones.
+const SECTION: [Symbol; 2] = [Symbol::OpenSection, Symbol::CloseSection];
+
+const BRACKETS: [Symbol; 2] = [Symbol::OpenBracket, Symbol::CloseBracket];
+
 /// Adds what a change puts at the place of a token.
 fn add_change<'s>(
     changed: &mut Vec<Token<'s>>,
     at: &Token<'s>,
     change: Change,
 ) -> Result<(), Memory> {
-    let open = TokenKind::Symbol(Symbol::OpenBracket);
-    let close = TokenKind::Symbol(Symbol::CloseBracket);
     match change {
         Change::Insert(kind) | Change::Replace(kind) => {
-            changed.push(in_place(kind, at, at.line_before))?;
+            Ok(changed.push(in_place(kind, at, at.line_before))?)
         }
-        Change::InsertSection => {
-            add_pair(
-                changed,
-                [Symbol::OpenSection, Symbol::CloseSection],
-                at,
-                at.line_before,
-            )?;
-        }
-        Change::InsertBrackets => {
-            add_pair(
-                changed,
-                [Symbol::OpenBracket, Symbol::CloseBracket],
-                at,
-                false,
-            )?;
-        }
-        Change::Enclose => {
-            changed.push(in_place(open, at, false))?;
-            changed.push(*at)?;
-            changed.push(in_place(close, at, false))?;
-        }
+        Change::InsertSection => add_pair(changed, SECTION, at, at.line_before),
+        Change::InsertBrackets => add_pair(changed, BRACKETS, at, false),
+        Change::Enclose => add_enclosed(changed, at),
     }
-    Ok(())
 }
 
 /// The tokens with another one of this kind at a place. Memory is answered where a growth was refused.
@@ -149,8 +144,8 @@ pub fn replaced<'s>(
 }
 
 /// How far the tokens are read with a change at a place: the index of the token, counted without the change, which is refused, or
-/// the end where all are read. Memory is answered where a growth was refused.
-pub fn read_with(
+/// the end where all are read.
+fn read_with(
     alloc: Global,
     tokens: &[Token<'_>],
     index: usize,
@@ -166,13 +161,15 @@ pub fn read_with(
     read_up_to(alloc, changed.as_slice(), index, change.added())
 }
 
-/// Whether the tokens in front of a place are read by themselves, so that the end could stand there. Memory is answered where a growth
-/// was refused.
-pub fn is_whole(alloc: Global, tokens: &[Token<'_>], index: usize) -> Result<bool, Memory> {
-    match parse(alloc, tokens.get(..index).unwrap_or(&[])) {
-        Ok(_) => Ok(true),
-        Err(ParseError::Memory) => Err(Memory),
-        Err(_) => Ok(false),
+/// Whether the tokens in front of a place are read by themselves, so that the end could stand there.
+pub fn is_whole(draft: &mut Draft, tokens: &[Token<'_>], index: usize) -> bool {
+    match parse(draft.alloc(), tokens.get(..index).unwrap_or(&[])) {
+        Ok(_) => true,
+        Err(ParseError::Memory) => {
+            draft.refuse();
+            false
+        }
+        Err(_) => false,
     }
 }
 
@@ -191,4 +188,10 @@ fn read_up_to(
         }
         Err(_) => Ok(Reach::Before),
     }
+}
+
+/// The same, for a message.
+pub fn reached(draft: &mut Draft, tokens: &[Token<'_>], index: usize, change: Change) -> Reach {
+    let read = read_with(draft.alloc(), tokens, index, change);
+    draft.found(read, Reach::Before)
 }

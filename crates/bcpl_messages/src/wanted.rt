@@ -1,7 +1,6 @@
-use crate::trial::{Change, is_whole, read_with};
+use crate::draft::Draft;
+use crate::trial::{Change, is_whole, reached};
 use bc_lex_tokens::{Symbol, Token, TokenKind};
-use bc_word::Memory;
-use std::alloc::Global;
 
 /// The symbols that are told one by one where they could stand, as a sentence quotes them, those that tell most first.
 const TOLD: [(Symbol, &str); 16] = [
@@ -28,22 +27,17 @@ const MOST: usize = 4;
 
 /// Whether a token of this kind could stand there.
 fn could_stand(
-    alloc: Global,
+    draft: &mut Draft,
     tokens: &[Token<'_>],
     index: usize,
     kind: TokenKind<'static>,
-) -> Result<bool, Memory> {
-    Ok(read_with(alloc, tokens, index, Change::Insert(kind))?.is_read())
+) -> bool {
+    reached(draft, tokens, index, Change::Insert(kind)).is_read()
 }
 
-/// Whether a symbol could stand in front of the token at the place. Memory is answered where a growth was refused.
-pub fn could_be(
-    alloc: Global,
-    tokens: &[Token<'_>],
-    index: usize,
-    symbol: Symbol,
-) -> Result<bool, Memory> {
-    could_stand(alloc, tokens, index, TokenKind::Symbol(symbol))
+/// Whether a symbol could stand in front of the token at the place.
+pub fn could_be(draft: &mut Draft, tokens: &[Token<'_>], index: usize, symbol: Symbol) -> bool {
+    could_stand(draft, tokens, index, TokenKind::Symbol(symbol))
 }
 
 /// The kinds of constructs that could begin at a place.
@@ -58,14 +52,14 @@ struct Beginnings {
 }
 
 /// What could begin at a place.
-fn what_begins(alloc: Global, tokens: &[Token<'_>], index: usize) -> Result<Beginnings, Memory> {
-    Ok(Beginnings {
-        declaration: could_be(alloc, tokens, index, Symbol::Let)?,
-        command: could_be(alloc, tokens, index, Symbol::Return)?,
-        expression: could_stand(alloc, tokens, index, TokenKind::Number(0))?,
-        name: could_stand(alloc, tokens, index, TokenKind::Name(b"N"))?,
-        operator: could_be(alloc, tokens, index, Symbol::Multiply)?,
-    })
+fn what_begins(draft: &mut Draft, tokens: &[Token<'_>], index: usize) -> Beginnings {
+    Beginnings {
+        declaration: could_be(draft, tokens, index, Symbol::Let),
+        command: could_be(draft, tokens, index, Symbol::Return),
+        expression: could_stand(draft, tokens, index, TokenKind::Number(0)),
+        name: could_stand(draft, tokens, index, TokenKind::Name(b"N")),
+        operator: could_be(draft, tokens, index, Symbol::Multiply),
+    }
 }
 
 /// Whether a symbol goes without saying beside what could begin there.
@@ -80,67 +74,77 @@ fn is_hidden(symbol: Symbol, begun: Beginnings) -> bool {
     }
 }
 
-/// These things, and behind them the symbols that could stand in front of the token at the place.
-fn with_symbols(
-    alloc: Global,
-    things: Vec<&'static str>,
+/// Adds a thing, where it is wanted.
+fn add(draft: &mut Draft, things: &mut Vec<&'static str>, is_wanted: bool, thing: &'static str) {
+    if is_wanted && things.push(thing).is_err() {
+        draft.refuse();
+    }
+}
+
+/// Adds the symbols that could stand in front of the token at the place.
+fn add_symbols(
+    draft: &mut Draft,
+    things: &mut Vec<&'static str>,
     tokens: &[Token<'_>],
     index: usize,
     begun: Beginnings,
-) -> Result<Vec<&'static str>, Memory> {
-    let mut things = things;
+) {
     for (symbol, told) in &TOLD {
-        let is_asked = things.len() < MOST && !is_hidden(*symbol, begun);
-        if is_asked && could_be(alloc, tokens, index, *symbol)? {
-            things.push(*told)?;
-        }
+        let is_wanted = things.len() < MOST
+            && !is_hidden(*symbol, begun)
+            && could_be(draft, tokens, index, *symbol);
+        add(draft, things, is_wanted, *told);
     }
-    Ok(things)
+}
+
+/// Whether a pair of section brackets could stand in front of the token at the place, and no command.
+fn could_be_section(
+    draft: &mut Draft,
+    tokens: &[Token<'_>],
+    index: usize,
+    begun: Beginnings,
+) -> bool {
+    !begun.command && reached(draft, tokens, index, Change::InsertSection).is_read()
+}
+
+/// Adds the constructs that could begin in front of the token at the place.
+fn add_constructs(draft: &mut Draft, things: &mut Vec<&'static str>, begun: Beginnings) {
+    let is_expression = begun.expression && !begun.command;
+    let is_name = begun.name && !begun.expression && !begun.command;
+    add(draft, things, begun.declaration, "a declaration");
+    add(draft, things, begun.command, "a command");
+    add(draft, things, is_expression, "an expression");
+    add(draft, things, is_name, "a name");
 }
 
 /// The things that could stand in front of the token at the place.
-fn things(alloc: Global, tokens: &[Token<'_>], index: usize) -> Result<Vec<&'static str>, Memory> {
-    let begun = what_begins(alloc, tokens, index)?;
-    let has_section = !begun.command
-        && read_with(alloc, tokens, index, Change::InsertSection)?.is_read();
-    let kinds = [
-        (begun.declaration, "a declaration"),
-        (begun.command, "a command"),
-        (begun.expression && !begun.command, "an expression"),
-        (begun.name && !begun.expression && !begun.command, "a name"),
-        (has_section, "`$(`"),
-    ];
-    let mut things = Vec::new(alloc);
-    for (is_wanted, thing) in kinds {
-        if is_wanted {
-            things.push(thing)?;
-        }
-    }
-    let mut things = with_symbols(alloc, things, tokens, index, begun)?;
-    if begun.operator {
-        things.push("an operator")?;
-    }
-    if index > 0 && is_whole(alloc, tokens, index)? {
-        things.push("the end of the file")?;
-    }
-    Ok(things)
+fn things(draft: &mut Draft, tokens: &[Token<'_>], index: usize) -> Vec<&'static str> {
+    let mut things: Vec<&'static str> = Vec::new(draft.alloc());
+    let begun = what_begins(draft, tokens, index);
+    add_constructs(draft, &mut things, begun);
+    let is_section = could_be_section(draft, tokens, index, begun);
+    add(draft, &mut things, is_section, "`$(`");
+    add_symbols(draft, &mut things, tokens, index, begun);
+    add(draft, &mut things, begun.operator, "an operator");
+    let is_end = index > 0 && is_whole(draft, tokens, index);
+    add(draft, &mut things, is_end, "the end of the file");
+    things
 }
 
-/// What could stand in front of the token at the place, in words, as "an expression" or "`DO` or `:=`"; empty where that isn't
-/// known. It is found by trying, with the parser itself. Memory is answered where a growth was refused.
-pub fn wanted_at(alloc: Global, tokens: &[Token<'_>], index: usize) -> Result<String, Memory> {
-    let things = things(alloc, tokens, index)?;
+/// Says what could stand in front of the token at the place, as "an expression" or "`DO` or `:=`", where that is known. It is found by
+/// trying, with the parser itself.
+pub fn say_wanted(draft: &mut Draft, tokens: &[Token<'_>], index: usize) {
+    let things = things(draft, tokens, index);
     let count = things.len();
-    let mut list = String::new(alloc);
     for (number, thing) in things.iter().enumerate() {
-        if number > 0 {
-            list.push_str(if number.saturating_add(1) == count {
-                " or "
-            } else {
-                ", "
-            })?;
-        }
-        list.push_str(thing)?;
+        let front = if number == 0 {
+            "; here could stand "
+        } else if number.saturating_add(1) == count {
+            " or "
+        } else {
+            ", "
+        };
+        draft.say(front, &[]);
+        draft.say(*thing, &[]);
     }
-    Ok(list)
 }

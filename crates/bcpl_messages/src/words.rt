@@ -5,10 +5,8 @@ use std::alloc::Global;
 /// The most characters of a token that a sentence shows.
 const MOST: usize = 40;
 
-/// These bytes as text, cut where they are long. Bytes that are no ASCII are shown as `?`. Memory is answered where a growth
-/// was refused.
-pub fn shown(alloc: Global, bytes: &[u8]) -> Result<String, Memory> {
-    let mut text = String::new(alloc);
+/// Adds these bytes as text, cut where they are long. Bytes that are no ASCII are shown as `?`.
+pub(crate) fn push_shown(text: &mut String, bytes: &[u8]) -> Result<(), Memory> {
     for byte in &bytes[..bytes.len().min(MOST)] {
         let is_plain = byte.is_ascii_graphic() || *byte == b' ';
         text.push(if is_plain { char::from(*byte) } else { '?' })?;
@@ -16,6 +14,14 @@ pub fn shown(alloc: Global, bytes: &[u8]) -> Result<String, Memory> {
     if bytes.len() > MOST {
         text.push_str("...")?;
     }
+    Ok(())
+}
+
+/// These bytes as text, cut where they are long. Bytes that are no ASCII are shown as `?`. Memory is answered where a growth
+/// was refused.
+pub fn shown(alloc: Global, bytes: &[u8]) -> Result<String, Memory> {
+    let mut text = String::new(alloc);
+    push_shown(&mut text, bytes)?;
     Ok(text)
 }
 
@@ -24,6 +30,14 @@ pub fn is_symbol(token: &Token<'_>, symbol: Symbol) -> bool {
     match token.kind {
         TokenKind::Symbol(found) => found.is(symbol),
         _ => false,
+    }
+}
+
+/// Whether the token at a place is this symbol.
+pub fn is_at(tokens: &[Token<'_>], place: usize, symbol: Symbol) -> bool {
+    match tokens.get(place) {
+        Some(token) => is_symbol(token, symbol),
+        None => false,
     }
 }
 

@@ -1,4 +1,4 @@
-use crate::arguments::missing_arguments;
+use crate::arguments::{Missing, missing_arguments};
 use crate::declared::Declarations;
 use crate::formats::unknown_format;
 use crate::globals::{is_library_assigned, library_global, number_twice};
@@ -12,59 +12,17 @@ use crate::values::is_used;
 use bc_lex::{Source, lex};
 use bc_lex_tokens::Token;
 use bc_word::Memory;
-use bcpl_messages::{Message, Named, shown, told_lines};
+use bcpl_messages::{Draft, Message, Named, Part, told_lines};
 use bcpl_places::Span;
 use std::alloc::Global;
 
 /// The most warnings that are told.
 const MOST: usize = 10;
 
-/// What is said of a token.
-#[derive(Drop)]
-struct Said {
-    /// The index of the token.
-    at: usize,
-    /// What is likely wrong.
-    sentence: String,
-    /// What to do.
-    help: &'static str,
-}
-
-/// Where a token stands.
-fn span_of(token: &Token<'_>) -> Span {
-    Span {
-        file: token.file,
-        start: token.start,
-        end: token.end,
-    }
-}
-
-/// What is said of a line that looks otherwise than it is read.
-fn said_of_line(alloc: Global, looks: Looks, at: usize) -> Result<Said, Memory> {
-    Ok(match looks {
-        Looks::Apart => Said {
-            at,
-            sentence: String::from_str(
-                alloc,
-                "this line goes on with the expression of the line before",
-            )?,
-            help: "no command begins with `-`; where that is meant, indent the line",
-        },
-        Looks::Together => Said {
-            at,
-            sentence: String::from_str(
-                alloc,
-                "a command of its own begins here; it doesn't go on with the line before",
-            )?,
-            help: "a line goes on where the one before ends with an operator, a comma or an open bracket",
-        },
-    })
-}
-
 /// What is known of a main.
 #[derive(Clone, Copy)]
-struct Main<'m, 's> {
-    sources: &'m [Source<'s>],
+struct Main<'m, 'p, 's> {
+    sources: &'p [Source<'s>],
     /// How many of the sources are the library's.
     library: usize,
     tokens: &'m [Token<'s>],
@@ -74,218 +32,378 @@ struct Main<'m, 's> {
     settings: &'m Settings,
 }
 
-/// What there is to say of a global at the token with this index.
-fn said_of_global(
-    alloc: Global,
-    main: &Main<'_, '_>,
-    text: &str,
-    at: usize,
-) -> Result<Option<Said>, Memory> {
-    let Main {
-        tokens,
-        declarations,
-        ..
-    } = *main;
-    if let Some((number, name)) = library_global(tokens, at) {
-        return Ok(Some(Said {
-            at,
-            sentence: format!(in alloc;
-                "the global {number} is {name} of the library, and here it is named {text}"
-            )?,
-            help: "take a number that the library hasn't: from 100 on all are free",
-        }));
+impl<'s> Main<'_, '_, 's> {
+    /// How the token with this index is spelled.
+    fn text(&self, at: usize) -> &'s [u8] {
+        match self.tokens.get(at) {
+            Some(token) => token.text,
+            None => b"",
+        }
     }
-    if let Some((number, name)) = number_twice(tokens, declarations, at) {
-        let name = shown(alloc, name)?;
-        return Ok(Some(Said {
-            at,
-            sentence: format!(in alloc;
-                "the global {number} is named {name} in this file already, and here {text}"
-            )?,
-            help: "two names of one number mean one cell; where they shall be two, take another number",
-        }));
-    }
-    if let Some(number) = unset_global(tokens, declarations, main.settings, at) {
-        return Ok(Some(Said {
-            at,
-            sentence: format!(in alloc;
-                "{text} is called here, and nothing in the program sets the global {number}"
-            )?,
-            help: "a routine sets it that is declared while its name means the global: is a file of the program missing?",
-        }));
-    }
-    if is_library_assigned(tokens, declarations, main.library, at) {
-        return Ok(Some(Said {
-            at,
-            sentence: format!(in alloc;
-                "{text} is a routine of the library, and this assignment puts something else in its place"
-            )?,
-            help: "all calls of it are changed, the library's own too; a variable of one's own is declared by LET",
-        }));
-    }
-    Ok(None)
 }
 
-/// What there is to say of a call at the token with this index, or of the format that is handed over there.
-fn said_of_call(
-    alloc: Global,
-    main: &Main<'_, '_>,
-    text: &str,
-    at: usize,
-) -> Result<Option<Said>, Memory> {
-    if let Some(missing) = missing_arguments(main.tokens, main.declarations, at) {
-        let (arguments, parameters) = (missing.arguments, missing.parameters);
-        let one = if arguments == 1 {
-            "argument"
-        } else {
-            "arguments"
-        };
-        let other = if parameters == 1 {
-            "parameter"
-        } else {
-            "parameters"
-        };
-        return Ok(Some(Said {
-            at,
-            sentence: format!(in alloc;
-                "this call hands over {arguments} {one}, and {text} has {parameters} {other}"
-            )?,
-            help: "a parameter for which nothing is handed over has no value",
-        }));
+/// Begins a warning at the token with this index.
+fn begin(draft: &mut Draft, tokens: &[Token<'_>], at: usize) {
+    if let Some(token) = tokens.get(at) {
+        draft.place(Span {
+            file: token.file,
+            start: token.start,
+            end: token.end,
+        });
     }
-    let unknown = unknown_format(main.tokens, main.declarations, main.library, at);
-    if let Some((letter, is_further)) = unknown {
-        let letter = char::from(letter);
-        return Ok(Some(Said {
-            at,
-            sentence: format!(in alloc;
-                "WRITEF doesn't know %{letter}, and writes {letter} in its place"
-            )?,
-            help: if is_further {
-                "it knows %N, %C, %S, %P, %+, %- and %%, and with a width %I, %U, %O, %X and %T, as in %I4"
-            } else {
-                "it knows %N, %C and %S, in capitals; with a width, as in %I4, it is EXTHDR's: --library ext"
-            },
-        }));
-    }
-    Ok(None)
+    draft.say("warning: ", &[]);
 }
 
-/// What there is to say of the token with this index.
-fn said_at(alloc: Global, main: &Main<'_, '_>, index: usize) -> Result<Option<Said>, Memory> {
-    let Main {
-        sources,
-        tokens,
-        routines,
-        ..
-    } = *main;
-    let Some(token) = tokens.get(index) else {
-        return Ok(None)
+/// Says so where the token with this index names a global of the library otherwise; whether it does.
+fn warns_of_library_global(draft: &mut Draft, main: &Main<'_, '_, '_>, at: usize) -> bool {
+    let Some((number, name)) = library_global(main.tokens, at) else {
+        return false;
     };
-    let text = shown(alloc, token.text)?;
-    if let Some(said) = said_of_global(alloc, main, text.as_str(), index)? {
-        return Ok(Some(said));
+    begin(draft, main.tokens, at);
+    draft.say(
+        "the global {} is {} of the library, and here it is named {}",
+        &[
+            Part::Number(u64::from(number)),
+            Part::Text(name),
+            Part::Shown(main.text(at)),
+        ],
+    );
+    draft.help(
+        "take a number that the library hasn't: from 100 on all are free",
+        &[],
+    );
+    true
+}
+
+/// Says so where the token with this index gives a global a further name; whether it does.
+fn warns_of_number(draft: &mut Draft, main: &Main<'_, '_, '_>, at: usize) -> bool {
+    let Some((number, name)) = number_twice(main.tokens, main.declarations, at) else {
+        return false;
+    };
+    begin(draft, main.tokens, at);
+    draft.say(
+        "the global {} is named {} in this file already, and here {}",
+        &[
+            Part::Number(u64::from(number)),
+            Part::Shown(name),
+            Part::Shown(main.text(at)),
+        ],
+    );
+    draft.help(
+        "two names of one number mean one cell; where they shall be two, take another number",
+        &[],
+    );
+    true
+}
+
+/// Says so where the token with this index calls a global that nothing sets; whether it does.
+fn warns_of_unset(draft: &mut Draft, main: &Main<'_, '_, '_>, at: usize) -> bool {
+    let unset = unset_global(main.tokens, main.declarations, main.settings, at);
+    let Some(number) = unset else {
+        return false;
+    };
+    begin(draft, main.tokens, at);
+    draft.say(
+        "{} is called here, and nothing in the program sets the global {}",
+        &[Part::Shown(main.text(at)), Part::Number(u64::from(number))],
+    );
+    draft.help(
+        "a routine sets it that is declared while its name means the global: is a file of the program missing?",
+        &[],
+    );
+    true
+}
+
+/// Says so where the token with this index assigns to a routine of the library; whether it does.
+fn warns_of_assignment(draft: &mut Draft, main: &Main<'_, '_, '_>, at: usize) -> bool {
+    if !is_library_assigned(main.tokens, main.declarations, main.library, at) {
+        return false;
     }
-    if let Some(said) = said_of_call(alloc, main, text.as_str(), index)? {
-        return Ok(Some(said));
+    begin(draft, main.tokens, at);
+    draft.say(
+        "{} is a routine of the library, and this assignment puts something else in its place",
+        &[Part::Shown(main.text(at))],
+    );
+    draft.help(
+        "all calls of it are changed, the library's own too; a variable of one's own is declared by LET",
+        &[],
+    );
+    true
+}
+
+/// Says so where the token with this index is called with fewer arguments than it has parameters; whether it is.
+fn warns_of_arguments(draft: &mut Draft, main: &Main<'_, '_, '_>, at: usize) -> bool {
+    let Some(missing) = missing_arguments(main.tokens, main.declarations, at) else {
+        return false;
+    };
+    let Missing {
+        arguments,
+        parameters,
+    } = missing;
+    begin(draft, main.tokens, at);
+    draft.say(
+        if arguments == 1 {
+            "this call hands over {} argument, and "
+        } else {
+            "this call hands over {} arguments, and "
+        },
+        &[Part::Number(arguments as u64)],
+    );
+    draft.say(
+        if parameters == 1 {
+            "{} has {} parameter"
+        } else {
+            "{} has {} parameters"
+        },
+        &[Part::Shown(main.text(at)), Part::Number(parameters as u64)],
+    );
+    draft.help(
+        "a parameter for which nothing is handed over has no value",
+        &[],
+    );
+    true
+}
+
+/// Says so where the token with this index is a format that WRITEF doesn't know; whether it is.
+fn warns_of_format(draft: &mut Draft, main: &Main<'_, '_, '_>, at: usize) -> bool {
+    let unknown = unknown_format(main.tokens, main.declarations, main.library, at);
+    let Some((letter, is_further)) = unknown else {
+        return false;
+    };
+    let sign = [letter];
+    let letter = Part::Shown(&sign);
+    begin(draft, main.tokens, at);
+    draft.say(
+        "WRITEF doesn't know %{}, and writes {} in its place",
+        &[letter, letter],
+    );
+    draft.help(
+        if is_further {
+            "it knows %N, %C, %S, %P, %+, %- and %%, and with a width %I, %U, %O, %X and %T, as in %I4"
+        } else {
+            "it knows %N, %C and %S, in capitals; with a width, as in %I4, it is EXTHDR's: --library ext"
+        },
+        &[],
+    );
+    true
+}
+
+/// Says so where the value of a routine of BE is used at the token with this index; whether it is.
+fn warns_of_value(draft: &mut Draft, main: &Main<'_, '_, '_>, at: usize) -> bool {
+    if !is_used(main.tokens, main.routines, at) {
+        return false;
     }
-    if is_used(tokens, routines, index) {
-        return Ok(Some(Said {
-            at: index,
-            sentence: format!(in alloc;
-                "the value of {text} is used, and it is a routine of BE, whose value means nothing"
-            )?,
-            help: "a routine with a value is defined by =, as in LET F(X) = VALOF $( .. RESULTIS E $)",
-        }));
+    begin(draft, main.tokens, at);
+    draft.say(
+        "the value of {} is used, and it is a routine of BE, whose value means nothing",
+        &[Part::Shown(main.text(at))],
+    );
+    draft.help(
+        "a routine with a value is defined by =, as in LET F(X) = VALOF $( .. RESULTIS E $)",
+        &[],
+    );
+    true
+}
+
+/// Says so where nothing comes to the command behind the token with this index; whether that is so.
+fn warns_of_unreached(draft: &mut Draft, main: &Main<'_, '_, '_>, at: usize) -> bool {
+    let Some(behind) = unreached(main.tokens, at) else {
+        return false;
+    };
+    begin(draft, main.tokens, behind);
+    draft.say(
+        "nothing comes to this command: {} in front of it goes elsewhere",
+        &[Part::Shown(main.text(at))],
+    );
+    draft.help(
+        "a label, a CASE or a DEFAULT in front of it would let it be reached; else take it away",
+        &[],
+    );
+    true
+}
+
+/// Says so where the token with this index is a string with a backslash; whether it is.
+fn warns_of_backslash(draft: &mut Draft, main: &Main<'_, '_, '_>, at: usize) -> bool {
+    if !has_backslash(main.tokens, at) {
+        return false;
     }
-    if let Some(behind) = unreached(tokens, index) {
-        return Ok(Some(Said {
-            at: behind,
-            sentence: format!(in alloc;
-                "nothing comes to this command: {text} in front of it goes elsewhere"
-            )?,
-            help: "a label, a CASE or a DEFAULT in front of it would let it be reached; else take it away",
-        }));
-    }
-    if has_backslash(tokens, index) {
-        return Ok(Some(Said {
-            at: index,
-            sentence: String::from_str(alloc, "a backslash in a string stands for itself")?,
-            help: "a line break is written *N, and a tab *T",
-        }));
-    }
-    match misread(sources, tokens, index) {
-        Some(looks) => Ok(Some(said_of_line(alloc, looks, index)?)),
-        None => Ok(None),
+    begin(draft, main.tokens, at);
+    draft.say("a backslash in a string stands for itself", &[]);
+    draft.help("a line break is written *N, and a tab *T", &[]);
+    true
+}
+
+/// Says so where a line that begins with the token with this index looks otherwise than it is read.
+fn warn_of_line(draft: &mut Draft, main: &Main<'_, '_, '_>, at: usize) {
+    let (sentence, help) = match misread(main.sources, main.tokens, at) {
+        Some(Looks::Apart) => (
+            "this line goes on with the expression of the line before",
+            "no command begins with `-`; where that is meant, indent the line",
+        ),
+        Some(Looks::Together) => (
+            "a command of its own begins here; it doesn't go on with the line before",
+            "a line goes on where the one before ends with an operator, a comma or an open bracket",
+        ),
+        None => return,
+    };
+    begin(draft, main.tokens, at);
+    draft.say(sentence, &[]);
+    draft.help(help, &[]);
+}
+
+/// Says so where a global or a call at the token with this index is likely wrong; whether one is.
+fn warns_of_use(draft: &mut Draft, main: &Main<'_, '_, '_>, at: usize) -> bool {
+    warns_of_library_global(draft, main, at)
+        || warns_of_number(draft, main, at)
+        || warns_of_unset(draft, main, at)
+        || warns_of_assignment(draft, main, at)
+        || warns_of_arguments(draft, main, at)
+        || warns_of_format(draft, main, at)
+}
+
+/// Says what is likely wrong at the token with this index.
+fn warn_at(draft: &mut Draft, main: &Main<'_, '_, '_>, at: usize) {
+    let is_told = warns_of_use(draft, main, at)
+        || warns_of_value(draft, main, at)
+        || warns_of_unreached(draft, main, at)
+        || warns_of_backslash(draft, main, at);
+    if !is_told {
+        warn_of_line(draft, main, at);
     }
 }
 
-/// The lines of a warning at a token.
-fn lines_of(
-    alloc: Global,
-    named: Named<'_, '_>,
-    main: usize,
-    span: Span,
-    said: &Said,
-) -> Result<String, Memory> {
-    let sentence = said.sentence.as_str();
-    let sentence = format!(in alloc; "warning: {sentence}")?;
-    let message = Message::new(alloc, main, Some(span), sentence.as_str())?;
-    let message = message.helped(alloc, Some(said.help))?;
-    told_lines(alloc, named, &message)
-}
-
-/// A program that was accepted.
+/// The warnings on a program that was accepted, as they are being told.
 #[derive(Drop)]
-struct Program<'p, 's> {
+struct Telling<'p, 's> {
+    alloc: Global,
     named: Named<'p, 's>,
     /// How many of the sources are the library's.
     library: usize,
-    settings: Settings,
+    /// Where something was said.
+    told: Vec<Span>,
+    lines: String,
 }
 
-/// The lines of the warnings of a main that was accepted, in the order of its tokens, of which those that are told already aren't told
-/// again.
-fn lines_of_main(
-    alloc: Global,
-    program: &Program<'_, '_>,
-    main: usize,
-    told: &mut Vec<Span>,
-) -> Result<String, Memory> {
-    let named = program.named;
-    let mut lines = String::new(alloc);
-    if main >= named.sources.len() {
-        return Ok(lines);
-    }
-    let Ok(tokens) = lex(alloc, named.sources, main) else {
-        return Ok(lines)
-    };
-    let tokens = tokens.as_slice();
-    let routines = Routines::of(alloc, tokens)?;
-    let declarations = Declarations::of(alloc, tokens)?;
-    let known = Main {
-        sources: named.sources,
-        library: program.library,
-        tokens,
-        routines: &routines,
-        declarations: &declarations,
-        settings: &program.settings,
-    };
-    for index in 0..tokens.len() {
-        if let Some(said) = said_at(alloc, &known, index)? {
-            if let Some(token) = tokens.get(said.at) {
-                let span = span_of(token);
-                if token.file >= program.library && !told.contains(&span) {
-                    told.push(span)?;
-                    if told.len() <= MOST {
-                        let more = lines_of(alloc, named, main, span, &said)?;
-                        lines.push_str(more.as_str())?;
-                    }
-                }
-            }
+impl<'p, 's> Telling<'p, 's> {
+    fn new(alloc: Global, named: Named<'p, 's>, library: usize) -> Telling<'p, 's> {
+        Telling {
+            alloc,
+            named,
+            library,
+            told: Vec::new(alloc),
+            lines: String::new(alloc),
         }
     }
-    Ok(lines)
+
+    /// Adds the lines of a warning.
+    fn add_lines(&mut self, message: &Message) -> Result<(), Memory> {
+        let lines = told_lines(self.alloc, self.named, message)?;
+        Ok(self.lines.push_str(lines.as_str())?)
+    }
+
+    /// Adds a warning at a place, unless more than enough are told.
+    fn add_at(&mut self, message: &Message, span: Span) -> Result<(), Memory> {
+        self.told.push(span)?;
+        if self.told.len() > MOST {
+            return Ok(());
+        }
+        self.add_lines(message)
+    }
+
+    /// Adds a warning, unless it is on the library or was told already.
+    fn add(&mut self, message: &Message) -> Result<(), Memory> {
+        match message.span {
+            Some(span) if span.file >= self.library && !self.told.contains(&span) => {
+                self.add_at(message, span)
+            }
+            _ => Ok(()),
+        }
+    }
+
+    /// Adds the warning on a token, if there is one.
+    fn add_token(
+        &mut self,
+        known: &Main<'_, '_, '_>,
+        main: usize,
+        at: usize,
+    ) -> Result<(), Memory> {
+        let mut draft = Draft::new(self.alloc, main);
+        warn_at(&mut draft, known, at);
+        match draft.end()? {
+            Some(message) => self.add(&message),
+            None => Ok(()),
+        }
+    }
+
+    /// Adds the warnings on a main with these tokens, in their order.
+    fn add_tokens<'m>(
+        &mut self,
+        settings: &'m Settings,
+        main: usize,
+        tokens: &'m [Token<'s>],
+    ) -> Result<(), Memory> {
+        let routines = Routines::of(self.alloc, tokens)?;
+        let declarations = Declarations::of(self.alloc, tokens)?;
+        let known = Main {
+            sources: self.named.sources,
+            library: self.library,
+            tokens,
+            routines: &routines,
+            declarations: &declarations,
+            settings,
+        };
+        for at in 0..tokens.len() {
+            self.add_token(&known, main, at)?;
+        }
+        Ok(())
+    }
+
+    /// The tokens of a main; none of one that has none, or that is the library's.
+    fn tokens(&self, main: usize) -> Option<Vec<Token<'s>>> {
+        let sources = self.named.sources;
+        if main < self.library || main >= sources.len() {
+            return None;
+        }
+        lex(self.alloc, sources, main).ok()
+    }
+
+    /// Adds the warnings on a main that was accepted.
+    fn add_main(&mut self, settings: &Settings, main: usize) -> Result<(), Memory> {
+        match self.tokens(main) {
+            Some(tokens) => self.add_tokens(settings, main, tokens.as_slice()),
+            None => Ok(()),
+        }
+    }
+
+    /// Adds how many warnings there are, where not all are told.
+    fn add_count(&mut self) -> Result<(), Memory> {
+        let count = self.told.len();
+        if count > MOST {
+            writeln!(self.lines, "{count} warnings")?;
+        }
+        Ok(())
+    }
+
+    /// Adds that the routine at the token with this index is likely meant to be START, if it is.
+    fn add_start(&mut self, main: usize, tokens: &[Token<'_>], at: usize) -> Result<(), Memory> {
+        let mut draft = Draft::new(self.alloc, main);
+        warn_of_start(&mut draft, tokens, at);
+        match draft.end()? {
+            Some(message) => self.add_lines(&message),
+            None => Ok(()),
+        }
+    }
+
+    /// Adds the routines of a main that are likely meant to be START.
+    fn add_starts(&mut self, main: usize) -> Result<(), Memory> {
+        let Some(tokens) = self.tokens(main) else {
+            return Ok(());
+        };
+        for at in 0..tokens.len() {
+            self.add_start(main, tokens.as_slice(), at)?;
+        }
+        Ok(())
+    }
 }
 
 /// The lines of warnings on the mains of a program that was accepted, ten at the most, and their number where there are more. The first
@@ -296,66 +414,31 @@ pub fn warnings(
     library: usize,
     mains: &[usize],
 ) -> Result<String, Memory> {
-    let mut lines = String::new(alloc);
-    let mut told = Vec::new(alloc);
-    let program = Program {
-        named,
-        library,
-        settings: Settings::of(alloc, named.sources, mains)?,
-    };
+    let settings = Settings::of(alloc, named.sources, mains)?;
+    let mut warnings = Telling::new(alloc, named, library);
     for main in mains {
-        if *main >= library {
-            let more = lines_of_main(alloc, &program, *main, &mut told)?;
-            lines.push_str(more.as_str())?;
-        }
+        warnings.add_main(&settings, *main)?;
     }
-    let count = told.len();
-    if count > MOST {
-        writeln!(lines, "{count} warnings")?;
-    }
-    Ok(lines)
+    warnings.add_count()?;
+    Ok(warnings.lines)
 }
 
-/// What is said of a routine that is likely meant to be START.
-fn said_of_start(alloc: Global, likeness: Likeness, at: usize) -> Result<Said, Memory> {
-    Ok(match likeness {
-        Likeness::Undeclared => Said {
-            at,
-            sentence: String::from_str(
-                alloc,
-                "START means no global here, so this routine sets none",
-            )?,
-            help: "GET \"LIBHDR\" in front of it makes START the global 1",
-        },
-        Likeness::Misnamed => Said {
-            at,
-            sentence: String::from_str(
-                alloc,
-                "a run begins with START, and this routine has another name",
-            )?,
-            help: "name it START, in capitals, in a file that has GET \"LIBHDR\"",
-        },
-    })
-}
-
-/// The lines on the routines of a main that are likely meant to be START.
-fn starts_of_main(alloc: Global, named: Named<'_, '_>, main: usize) -> Result<String, Memory> {
-    let mut lines = String::new(alloc);
-    if main >= named.sources.len() {
-        return Ok(lines);
-    }
-    let Ok(tokens) = lex(alloc, named.sources, main) else {
-        return Ok(lines)
+/// Says so where a routine is defined at the token with this index that is likely meant to be START.
+fn warn_of_start(draft: &mut Draft, tokens: &[Token<'_>], at: usize) {
+    let (sentence, help) = match likeness_at(tokens, at) {
+        Some(Likeness::Undeclared) => (
+            "START means no global here, so this routine sets none",
+            "GET \"LIBHDR\" in front of it makes START the global 1",
+        ),
+        Some(Likeness::Misnamed) => (
+            "a run begins with START, and this routine has another name",
+            "name it START, in capitals, in a file that has GET \"LIBHDR\"",
+        ),
+        None => return,
     };
-    let tokens = tokens.as_slice();
-    for (index, token) in tokens.iter().enumerate() {
-        if let Some(likeness) = likeness_at(tokens, index) {
-            let said = said_of_start(alloc, likeness, index)?;
-            let more = lines_of(alloc, named, main, span_of(token), &said)?;
-            lines.push_str(more.as_str())?;
-        }
-    }
-    Ok(lines)
+    begin(draft, tokens, at);
+    draft.say(sentence, &[]);
+    draft.help(help, &[]);
 }
 
 /// The lines of warnings on the routines of an accepted program that are likely meant to be START, for a program in which no routine sets
@@ -366,12 +449,9 @@ pub fn likely_starts(
     library: usize,
     mains: &[usize],
 ) -> Result<String, Memory> {
-    let mut lines = String::new(alloc);
+    let mut warnings = Telling::new(alloc, named, library);
     for main in mains {
-        if *main >= library {
-            let more = starts_of_main(alloc, named, *main)?;
-            lines.push_str(more.as_str())?;
-        }
+        warnings.add_starts(*main)?;
     }
-    Ok(lines)
+    Ok(warnings.lines)
 }

@@ -1,16 +1,16 @@
 // What is said of a wild access.
 
-use crate::calls::Call;
+use crate::calls::{Call, Parameter};
 use crate::extent::{Extent, only_reading};
 use crate::owner::{Kind, Owner, owner_of};
 use crate::placed::{ReadMain, labelled, read};
-use crate::sentence::{Known, help, ordinal, sentence};
+use crate::sentence::{Known, ending, help, say};
 use bc_interpret_quiet::Cause;
 use bc_interpret_trace::Standing;
 use bc_lex::Source;
 use bc_machine_image::Image;
 use bc_word::Memory;
-use bcpl_messages::{Message, shown};
+use bcpl_messages::{Draft, Message, Part};
 use bcpl_places::Span;
 use std::alloc::Global;
 
@@ -75,36 +75,22 @@ impl<'s> Place<'s> {
     }
 }
 
-/// A name as it is told.
-fn told_name(alloc: Global, name: Option<&[u8]>) -> Result<String, Memory> {
-    match name {
-        Some(name) => shown(alloc, name),
-        None => Ok(String::new(alloc)),
-    }
-}
-
 /// Where the run stands in this call; none where it is in a routine of the library that no source has.
 fn place_of<'s>(
-    alloc: Global,
+    draft: &mut Draft,
     program: &Program<'_, 's>,
     standing: &Standing,
-) -> Result<Option<Place<'s>>, Memory> {
-    let Some(called) = labelled(program.image, standing.routine) else {
-        return Ok(None)
-    };
-    let Some(main) = program.mains.get(called.segment) else {
-        return Ok(None)
-    };
-    let Some(read) = read(alloc, program.sources, *main)? else {
-        return Ok(None)
-    };
+) -> Option<Place<'s>> {
+    let called = labelled(program.image, standing.routine)?;
+    let main = program.mains.get(called.segment)?;
+    let read = read(draft, program.sources, *main)?;
     let root = read.root(called.label, standing);
     let extent = root.and_then(|root| read.extent_of_root(root));
-    Ok(Some(Place {
+    Some(Place {
         read,
         label: called.label,
         extent,
-    }))
+    })
 }
 
 /// A place at which something was met, and whether it is that of the access itself.
@@ -114,42 +100,56 @@ struct Spot {
     is_exact: bool,
 }
 
+/// No place that is known.
+const NOWHERE: Spot = Spot {
+    span: None,
+    is_exact: true,
+};
+
+impl<'s> Place<'s> {
+    /// The name of the variable that an address is, if it is one of this call, in front of which so many are newer.
+    fn variable(&self, back: usize, owner: Option<&Owner>) -> Option<&'s [u8]> {
+        match owner?.kind {
+            Kind::Variable { back: of, leaf } if of == back => self.read.text(leaf),
+            _ => None,
+        }
+    }
+
+    /// Where an access stands in this call: at the only reading of its variable, or in the whole expression.
+    fn spot(&self, back: usize, owner: Option<&Owner>) -> Spot {
+        let Some(extent) = self.extent else {
+            return NOWHERE;
+        };
+        let tokens = self.read.tokens.as_slice();
+        let name = self.variable(back, owner);
+        let only = name.and_then(|name| only_reading(tokens, extent, name));
+        let exact = match only {
+            Some(index) => Extent {
+                first: index,
+                last: index,
+            },
+            None => extent,
+        };
+        Spot {
+            span: self.read.span_of(exact),
+            is_exact: exact.first == exact.last,
+        }
+    }
+}
+
 /// Where an access stands, in the newest call that a source has.
 fn spot_of(
-    alloc: Global,
+    draft: &mut Draft,
     program: &Program<'_, '_>,
     standings: &[Standing],
     owner: Option<&Owner>,
-) -> Result<Spot, Memory> {
+) -> Spot {
     for (back, standing) in standings.iter().enumerate() {
-        if let Some(place) = place_of(alloc, program, standing)? {
-            let Some(extent) = place.extent else { break };
-            let tokens = place.read.tokens.as_slice();
-            let name = match owner {
-                Some(owner) => match owner.kind {
-                    Kind::Variable { back: of, leaf } if of == back => place.read.text(leaf),
-                    _ => None,
-                },
-                None => None,
-            };
-            let only = name.and_then(|name| only_reading(tokens, extent, name));
-            let exact = match only {
-                Some(index) => Extent {
-                    first: index,
-                    last: index,
-                },
-                None => extent,
-            };
-            return Ok(Spot {
-                span: place.read.span_of(exact),
-                is_exact: exact.first == exact.last,
-            });
+        if let Some(place) = place_of(draft, program, standing) {
+            return place.spot(back, owner);
         }
     }
-    Ok(Spot {
-        span: None,
-        is_exact: true,
-    })
+    NOWHERE
 }
 
 /// A parameter for which a call handed nothing over: the call leads to the one so many in front of the newest one, and this is said of it.
@@ -159,61 +159,106 @@ struct NotHanded {
     note: String,
 }
 
+/// The only call of a routine of this name at which a run can stand in a call.
+fn call_in(
+    draft: &mut Draft,
+    program: &Program<'_, '_>,
+    standing: Option<&Standing>,
+    name: Option<&[u8]>,
+) -> Option<Call> {
+    place_of(draft, program, standing?)?.only_call(name)
+}
+
+/// A parameter of a routine for which nothing was handed over.
+#[derive(Clone, Copy)]
+struct Lacking<'s> {
+    routine: &'s [u8],
+    name: &'s [u8],
+    parameter: Parameter,
+}
+
+impl Lacking<'_> {
+    /// The word for the routine's parameters.
+    fn parameters(&self) -> &'static str {
+        if self.parameter.count == 1 {
+            "parameter"
+        } else {
+            "parameters"
+        }
+    }
+
+    /// What is said of a call of the routine with so many arguments.
+    fn said_of_few(&self, draft: &mut Draft, arguments: usize) -> String {
+        let number = self.parameter.number;
+        let sentence = if arguments == 1 {
+            "this call hands over {} argument, and {} has {} {}: {} is the {}{}"
+        } else {
+            "this call hands over {} arguments, and {} has {} {}: {} is the {}{}"
+        };
+        draft.filled(
+            sentence,
+            &[
+                Part::Number(arguments as u64),
+                Part::Shown(self.routine),
+                Part::Number(self.parameter.count as u64),
+                Part::Text(self.parameters()),
+                Part::Shown(self.name),
+                Part::Number(number as u64),
+                Part::Text(ending(number)),
+            ],
+        )
+    }
+
+    /// What is said of where the routine was called.
+    fn said(&self, draft: &mut Draft) -> String {
+        let number = self.parameter.number;
+        draft.filled(
+            "{} was called here, and {} is the {}{} of its {} {}",
+            &[
+                Part::Shown(self.routine),
+                Part::Shown(self.name),
+                Part::Number(number as u64),
+                Part::Text(ending(number)),
+                Part::Number(self.parameter.count as u64),
+                Part::Text(self.parameters()),
+            ],
+        )
+    }
+
+    /// What is said of the call, if it is known.
+    fn said_of(&self, draft: &mut Draft, call: Option<Call>) -> String {
+        match call {
+            Some(call) if call.arguments < self.parameter.number => {
+                self.said_of_few(draft, call.arguments)
+            }
+            _ => self.said(draft),
+        }
+    }
+}
+
 /// The parameter that was read, if it is one for which the call handed nothing over: a parameter that has no value is such a one.
 fn not_handed(
-    alloc: Global,
+    draft: &mut Draft,
     program: &Program<'_, '_>,
     met: &Met<'_>,
     owner: Option<&Owner>,
-) -> Result<Option<NotHanded>, Memory> {
-    let (Cause::Unset(_), Some(owner)) = (met.cause, owner) else {
-        return Ok(None)
+) -> Option<NotHanded> {
+    let (Cause::Unset(_), Kind::Variable { back, leaf }) = (met.cause, owner?.kind) else {
+        return None;
     };
-    let Kind::Variable { back, leaf } = owner.kind else {
-        return Ok(None)
+    let place = place_of(draft, program, met.standings.get(back)?)?;
+    let parameter = place.read.parameter(place.label, leaf)?;
+    let caller = met.standings.get(back.saturating_add(1));
+    let call = call_in(draft, program, caller, place.name());
+    let lacking = Lacking {
+        routine: place.name().unwrap_or(b""),
+        name: place.read.text(leaf).unwrap_or(b""),
+        parameter,
     };
-    let Some(standing) = met.standings.get(back) else {
-        return Ok(None)
-    };
-    let Some(place) = place_of(alloc, program, standing)? else {
-        return Ok(None)
-    };
-    let Some(parameter) = place.read.parameter(place.label, leaf) else {
-        return Ok(None)
-    };
-    let caller = match met.standings.get(back.saturating_add(1)) {
-        Some(standing) => place_of(alloc, program, standing)?,
-        None => None,
-    };
-    let call = match &caller {
-        Some(caller) => caller.only_call(place.name()),
-        None => None,
-    };
-    let routine = told_name(alloc, place.name())?;
-    let name = told_name(alloc, place.read.text(leaf))?;
-    let number = ordinal(alloc, parameter.number)?;
-    let count = parameter.count;
-    let parameters = if count == 1 {
-        "parameter"
-    } else {
-        "parameters"
-    };
-    let note = match call {
-        Some(Call { arguments, .. }) if arguments < parameter.number => {
-            let unit = if arguments == 1 {
-                "argument"
-            } else {
-                "arguments"
-            };
-            format!(in alloc;
-                "this call hands over {arguments} {unit}, and {routine} has {count} {parameters}: {name} is the {number}"
-            )?
-        }
-        _ => format!(in alloc;
-            "{routine} was called here, and {name} is the {number} of its {count} {parameters}"
-        )?,
-    };
-    Ok(Some(NotHanded { back, note }))
+    Some(NotHanded {
+        back,
+        note: lacking.said_of(draft, call),
+    })
 }
 
 /// The address of an access.
@@ -224,16 +269,10 @@ fn address_of(cause: Cause) -> Option<u16> {
     }
 }
 
-/// What is said of a wild access of a program's run.
-///
-/// `Memory` comes where an allocation was refused.
-pub fn wild_message(
-    alloc: Global,
-    program: &Program<'_, '_>,
-    met: &Met<'_>,
-) -> Result<Message, Memory> {
-    // a call that has no room has not begun: what stands at its place is the call before it
-    let stand = match met.cause {
+/// Where the run stands of whose access something is said: a call that has no room has not begun, so what stands at its place is the call
+/// before it.
+fn stand_of<'m>(met: &Met<'m>) -> Stand<'m> {
+    match met.cause {
         Cause::FrameTooLarge(_) => Stand {
             standings: met.standings.get(1..).unwrap_or(&[]),
             calls: met.calls.saturating_sub(1),
@@ -242,25 +281,43 @@ pub fn wild_message(
             standings: met.standings,
             calls: met.calls,
         },
-    };
-    let owner = match address_of(met.cause) {
-        Some(address) => owner_of(alloc, program, met.standings, address)?,
-        None => None,
-    };
-    let spot = spot_of(alloc, program, stand.standings, owner.as_ref())?;
-    let not_handed = not_handed(alloc, program, met, owner.as_ref())?;
+    }
+}
+
+/// Whose the address of an access is.
+fn owner_met(draft: &mut Draft, program: &Program<'_, '_>, met: &Met<'_>) -> Option<Owner> {
+    owner_of(draft, program, met.standings, address_of(met.cause)?)
+}
+
+/// Tells of a wild access of a program's run.
+fn tell(draft: &mut Draft, program: &Program<'_, '_>, met: &Met<'_>) {
+    let stand = stand_of(met);
+    let owner = owner_met(draft, program, met);
+    let spot = spot_of(draft, program, stand.standings, owner.as_ref());
+    let not_handed = not_handed(draft, program, met, owner.as_ref());
     let known = Known {
         owner: owner.as_ref(),
         is_not_handed: not_handed.is_some(),
         is_exact: spot.is_exact,
     };
-    let told = Told {
-        sentence: sentence(alloc, met, known)?,
-        span: spot.span,
-        not_handed,
-    };
-    let help = help(met, known);
-    message_at(alloc, program, stand, told)?.helped(alloc, help)
+    say(draft, met, known);
+    if let Some(help) = help(met, known) {
+        draft.help(help, &[]);
+    }
+    tell_calls(draft, program, stand, spot.span, not_handed.as_ref());
+}
+
+/// What is said of a wild access of a program's run.
+///
+/// `Memory` comes where an allocation was refused.
+pub fn wild_message(
+    alloc: Global,
+    program: &Program<'_, '_>,
+    met: &Met<'_>,
+) -> Result<Message, Memory> {
+    let mut draft = Draft::new(alloc, 0);
+    tell(&mut draft, program, met);
+    draft.into_message()
 }
 
 /// This sentence, with the place where a run stands and the calls that led there, the newest one first.
@@ -272,102 +329,173 @@ pub fn placed_message(
     stand: Stand<'_>,
     sentence: String,
 ) -> Result<Message, Memory> {
-    let told = Told {
-        sentence,
-        span: None,
-        not_handed: None,
-    };
-    message_at(alloc, program, stand, told)
+    let mut draft = Draft::new(alloc, 0);
+    draft.say("{}", &[Part::Text(sentence.as_str())]);
+    tell_calls(&mut draft, program, stand, None, None);
+    draft.into_message()
 }
 
-/// What is told of a place of a run.
+/// What was called by a call.
+#[derive(Clone, Copy)]
+enum Called<'s> {
+    /// A routine of the library that no source has.
+    Library,
+    /// The routine of this name, if it is known.
+    Routine(Option<&'s [u8]>),
+}
+
+impl<'s> Called<'s> {
+    fn name(self) -> Option<&'s [u8]> {
+        match self {
+            Called::Library => None,
+            Called::Routine(name) => name,
+        }
+    }
+}
+
+/// A call that led to where a run stands: where it stands itself, what it called, and how many calls are newer than that.
+#[derive(Clone, Copy)]
+struct Leading<'s> {
+    span: Span,
+    called: Called<'s>,
+    back: usize,
+}
+
+/// A walk over the calls of a run, the newest one first.
 #[derive(Drop)]
-struct Told {
-    sentence: String,
+struct Walk<'s> {
     /// The place itself, where more is known of it than the expression.
-    span: Option<Span>,
-    not_handed: Option<NotHanded>,
+    exact: Option<Span>,
+    /// Whether the place of the run was told.
+    is_placed: bool,
+    /// What the call that comes next called.
+    called: Option<Called<'s>>,
+    calls: Vec<Leading<'s>>,
 }
 
-impl Told {
-    /// What is said of the call that led to the one so many in front of the newest one, of the routine of this name.
-    fn note(&self, alloc: Global, back: usize, name: &str) -> Result<String, Memory> {
-        if let Some(not_handed) = &self.not_handed
-            && not_handed.back == back
-        {
-            return Ok(String::from_str(alloc, not_handed.note.as_str())?);
+impl<'s> Walk<'s> {
+    /// Tells where the run stands, if that is known here.
+    fn begin(&mut self, draft: &mut Draft, sources: &[Source<'_>], place: &Place<'s>) {
+        draft.set_main(place.read.main);
+        if let Some(span) = self.exact.or(place.span(sources)) {
+            draft.place(span);
+            self.is_placed = true;
+            say_within(draft, place.name().unwrap_or(b""));
         }
-        Ok(format!(in alloc; "{name} was called here")?)
     }
-}
 
-/// The message on a place of a run, with the calls that led there.
-fn message_at(
-    alloc: Global,
-    program: &Program<'_, '_>,
-    stand: Stand<'_>,
-    told: Told,
-) -> Result<Message, Memory> {
-    let mut main = 0usize;
-    let mut span = None;
-    let mut within = String::new(alloc);
-    let mut calls = Vec::new(alloc);
-    let mut called: Option<(String, Option<&[u8]>)> = None;
-    for (number, standing) in stand.standings.iter().enumerate() {
-        let Some(place) = place_of(alloc, program, standing)? else {
-            called = Some((String::from_str(alloc, "a routine of the library")?, None));
-            continue;
+    /// Adds the call that stands here, of a routine to which the call with this number belongs.
+    fn add(&mut self, draft: &mut Draft, sources: &[Source<'_>], place: &Place<'s>, number: usize) {
+        let Some(called) = self.called else {
+            return;
         };
-        let name = place.name();
-        let routine = told_name(alloc, name)?;
-        match (span, &called) {
-            (None, _) => {
-                span = told.span.or(place.span(program.sources));
-                main = place.read.main;
-                if span.is_some() {
-                    within.push_str(routine.as_str())?;
-                }
-            }
-            (Some(_), Some((text, callee))) => {
-                if let Some(at) = place.span_of_call(program.sources, *callee) {
-                    let back = number.saturating_sub(1);
-                    calls.push((at, told.note(alloc, back, text.as_str())?))?;
-                }
-            }
-            (Some(_), None) => {}
+        let Some(span) = place.span_of_call(sources, called.name()) else {
+            return;
+        };
+        let leading = Leading {
+            span,
+            called,
+            back: number.saturating_sub(1),
+        };
+        if self.calls.push(leading).is_err() {
+            draft.refuse();
         }
-        called = Some((routine, name));
     }
-    let sentence = told.sentence.as_str();
-    let sentence = if within.is_empty() {
-        String::from_str(alloc, sentence)?
-    } else {
-        let within = within.as_str();
-        format!(in alloc; "{sentence}, in {within}")?
-    };
-    let left = stand.calls.saturating_sub(stand.standings.len());
-    let message = Message::new(alloc, main, span, sentence.as_str())?;
-    with_calls(alloc, message, calls.as_slice(), left)
-}
 
-/// A message with the places of calls and what is said of them. So many calls around them are left out, which is said of the last one.
-fn with_calls(
-    alloc: Global,
-    message: Message,
-    calls: &[(Span, String)],
-    left: usize,
-) -> Result<Message, Memory> {
-    let mut message = message;
-    for (number, (at, text)) in calls.iter().enumerate() {
-        let text = text.as_str();
-        let is_last = number.saturating_add(1) == calls.len();
-        message = if is_last && left > 0 {
-            let unit = if left == 1 { "call" } else { "calls" };
-            let more = format!(in alloc; "{text}; {left} more {unit} around it, left out here")?;
-            message.noted(alloc, *at, more.as_str())?
+    /// Goes over the call with this number.
+    fn pass(
+        &mut self,
+        draft: &mut Draft,
+        program: &Program<'_, 's>,
+        standing: &Standing,
+        number: usize,
+    ) {
+        let Some(place) = place_of(draft, program, standing) else {
+            self.called = Some(Called::Library);
+            return;
+        };
+        if self.is_placed {
+            self.add(draft, program.sources, &place, number);
         } else {
-            message.noted(alloc, *at, text)?
-        };
+            self.begin(draft, program.sources, &place);
+        }
+        self.called = Some(Called::Routine(place.name()));
     }
-    Ok(message)
+}
+
+/// Says in which routine the run stands.
+fn say_within(draft: &mut Draft, name: &[u8]) {
+    if !name.is_empty() {
+        draft.say(", in {}", &[Part::Shown(name)]);
+    }
+}
+
+/// What is said of so many calls that are left out.
+fn said_of_others(draft: &mut Draft, left: usize) -> String {
+    let sentence = match left {
+        0 => "",
+        1 => "; {} more call around it, left out here",
+        _ => "; {} more calls around it, left out here",
+    };
+    draft.filled(sentence, &[Part::Number(left as u64)])
+}
+
+/// What is said behind a call of those that are left out: all of it behind the last call that is told.
+fn behind(others: &str, is_last: bool) -> &str {
+    if is_last { others } else { "" }
+}
+
+/// Adds a call that led to where the run stands, and what more there is to say of it.
+fn add_leading<'a>(
+    draft: &mut Draft,
+    leading: Leading<'a>,
+    not_handed: Option<&'a NotHanded>,
+    more: &'a str,
+) {
+    let more = Part::Text(more);
+    let span = leading.span;
+    if let Some(not_handed) = not_handed
+        && not_handed.back == leading.back
+    {
+        let note = Part::Text(not_handed.note.as_str());
+        return draft.note(span, "{}{}", &[note, more]);
+    }
+    match leading.called {
+        Called::Library => draft.note(span, "a routine of the library was called here{}", &[more]),
+        Called::Routine(name) => {
+            let name = Part::Shown(name.unwrap_or(b""));
+            draft.note(span, "{} was called here{}", &[name, more]);
+        }
+    }
+}
+
+/// Tells where a run stands, and the calls that led there.
+fn tell_calls<'s>(
+    draft: &mut Draft,
+    program: &Program<'_, 's>,
+    stand: Stand<'_>,
+    exact: Option<Span>,
+    not_handed: Option<&NotHanded>,
+) {
+    let mut walk: Walk<'s> = Walk {
+        exact,
+        is_placed: false,
+        called: None,
+        calls: Vec::new(draft.alloc()),
+    };
+    for (number, standing) in stand.standings.iter().enumerate() {
+        walk.pass(draft, program, standing, number);
+    }
+    let left = stand.calls.saturating_sub(stand.standings.len());
+    let others = said_of_others(draft, left);
+    let count = walk.calls.len();
+    for (number, leading) in walk.calls.iter().enumerate() {
+        let is_last = number.saturating_add(1) == count;
+        add_leading(
+            draft,
+            *leading,
+            not_handed,
+            behind(others.as_str(), is_last),
+        );
+    }
 }

@@ -6,9 +6,7 @@ use crate::placed::{LabelOf, ReadMain, labelled, read};
 use bc_interpret_trace::Standing;
 use bc_machine_image::Image;
 use bc_scope_places::VariableSite;
-use bc_word::Memory;
-use bcpl_messages::shown;
-use std::alloc::Global;
+use bcpl_messages::{Draft, Part};
 
 /// The address of the cell of global 0.
 const GLOBALS: u16 = 8;
@@ -41,55 +39,67 @@ pub enum Kind {
 
 /// What belongs to this address; none where nothing near does.
 pub fn owner_of(
-    alloc: Global,
+    draft: &mut Draft,
     program: &Program<'_, '_>,
     standings: &[Standing],
     address: u16,
-) -> Result<Option<Owner>, Memory> {
+) -> Option<Owner> {
     if address < GLOBALS {
-        return Ok(None);
+        return None;
     }
     if address < SEGMENTS {
-        return Ok(Some(Owner {
-            text: global(alloc, program, address - GLOBALS)?,
-            kind: Kind::Cell,
-        }));
+        return Some(global(draft, program, address - GLOBALS));
     }
-    if address < program.image.stack_base.get() {
-        return match of_segments(alloc, program, address)? {
-            Some(owner) => Ok(Some(owner)),
-            None => Ok(Some(of_primitives(alloc, program, address)?)),
-        };
+    if address >= program.image.stack_base.get() {
+        return of_frames(draft, program, standings, address);
     }
-    of_frames(alloc, program, standings, address)
+    match of_segments(draft, program, address) {
+        Some(owner) => Some(owner),
+        None => Some(of_primitives(draft, program, address)),
+    }
 }
 
 /// A global, by its number and by the first name that a main has for it.
-fn global(alloc: Global, program: &Program<'_, '_>, number: u16) -> Result<String, Memory> {
-    Ok(match name_of_global(alloc, program, number)? {
-        Some(name) => format!(in alloc; "global {number} {name}")?,
-        None => format!(in alloc; "global {number}")?,
-    })
+fn global(draft: &mut Draft, program: &Program<'_, '_>, number: u16) -> Owner {
+    let name = name_of_global(draft, program, number);
+    let sentence = match name {
+        Some(_) => "global {} {}",
+        None => "global {}",
+    };
+    let name = Part::Shown(name.unwrap_or(b""));
+    Owner {
+        text: draft.filled(sentence, &[Part::Number(u64::from(number)), name]),
+        kind: Kind::Cell,
+    }
 }
 
 /// The first name that a main has for a global.
-fn name_of_global(
-    alloc: Global,
-    program: &Program<'_, '_>,
+fn name_in<'s>(read: &ReadMain<'s>, number: u16) -> Option<&'s [u8]> {
+    for site in &read.sites.globals {
+        if site.number == number
+            && let Some(name) = read.text(site.leaf)
+        {
+            return Some(name);
+        }
+    }
+    None
+}
+
+/// The first name that any main has for a global.
+fn name_of_global<'s>(
+    draft: &mut Draft,
+    program: &Program<'_, 's>,
     number: u16,
-) -> Result<Option<String>, Memory> {
+) -> Option<&'s [u8]> {
     for main in program.mains {
-        if let Some(read) = read(alloc, program.sources, *main)? {
-            for site in &read.sites.globals {
-                if site.number == number
-                    && let Some(name) = read.text(site.leaf)
-                {
-                    return Ok(Some(shown(alloc, name)?));
-                }
+        if let Some(read) = read(draft, program.sources, *main) {
+            let name = name_in(&read, number);
+            if name.is_some() {
+                return name;
             }
         }
     }
-    Ok(None)
+    None
 }
 
 /// The global that has this address as its value when a run begins.
@@ -103,92 +113,116 @@ fn global_of(image: &Image, address: u16) -> Option<u16> {
     None
 }
 
+/// The name of the primitive whose code begins at an address.
+fn name_of_primitive<'s>(
+    draft: &mut Draft,
+    program: &Program<'_, 's>,
+    address: u16,
+) -> Option<&'s [u8]> {
+    let number = global_of(program.image, address)?;
+    name_of_global(draft, program, number)
+}
+
 /// The code of a primitive, by the global that it sets.
-fn of_primitives(alloc: Global, program: &Program<'_, '_>, address: u16) -> Result<Owner, Memory> {
-    if let Some(number) = global_of(program.image, address)
-        && let Some(text) = name_of_global(alloc, program, number)?
-    {
-        return Ok(Owner {
-            text,
+fn of_primitives(draft: &mut Draft, program: &Program<'_, '_>, address: u16) -> Owner {
+    match name_of_primitive(draft, program, address) {
+        Some(name) => Owner {
+            text: draft.filled("{}", &[Part::Shown(name)]),
             kind: Kind::Code,
-        });
+        },
+        None => Owner {
+            text: draft.filled("the library's own routines", &[]),
+            kind: Kind::WithinCode,
+        },
     }
-    Ok(Owner {
-        text: String::from_str(alloc, "the library's own routines")?,
-        kind: Kind::WithinCode,
-    })
 }
 
 /// The main of a segment.
 fn main_of<'s>(
-    alloc: Global,
+    draft: &mut Draft,
     program: &Program<'_, 's>,
     segment: usize,
-) -> Result<Option<ReadMain<'s>>, Memory> {
-    match program.mains.get(segment) {
-        Some(main) => read(alloc, program.sources, *main),
-        None => Ok(None),
-    }
+) -> Option<ReadMain<'s>> {
+    let main = program.mains.get(segment)?;
+    read(draft, program.sources, *main)
+}
+
+/// What stands so many words behind a label.
+fn behind_label(
+    draft: &mut Draft,
+    program: &Program<'_, '_>,
+    label: LabelOf,
+    back: u16,
+) -> Option<Owner> {
+    let LabelOf { segment, label } = label;
+    let read = main_of(draft, program, segment)?;
+    let name = read.text(read.sites.label(label)?)?;
+    let is_code = read.is_routine(label);
+    let kind = match (is_code, back) {
+        (true, 0) => Kind::Code,
+        (true, _) => Kind::WithinCode,
+        (false, _) => Kind::Cell,
+    };
+    Some(Owner {
+        text: if back == 0 || is_code {
+            draft.filled("{}", &[Part::Shown(name)])
+        } else {
+            let back = Part::Number(u64::from(back));
+            draft.filled("cell {} behind that of {}", &[back, Part::Shown(name)])
+        },
+        kind,
+    })
 }
 
 /// A routine, static, table or string, by the newest label in front of an address.
-fn of_segments(
-    alloc: Global,
-    program: &Program<'_, '_>,
-    address: u16,
-) -> Result<Option<Owner>, Memory> {
+fn of_segments(draft: &mut Draft, program: &Program<'_, '_>, address: u16) -> Option<Owner> {
     for back in 0..=address {
-        if let Some(LabelOf { segment, label }) = labelled(program.image, address - back) {
-            let Some(read) = main_of(alloc, program, segment)? else {
-                return Ok(None)
-            };
-            let Some(text) = read.sites.label(label).and_then(|leaf| read.text(leaf)) else {
-                return Ok(None)
-            };
-            let text = shown(alloc, text)?;
-            let is_code = read.is_routine(label);
-            return Ok(Some(Owner {
-                text: if back == 0 || is_code {
-                    text
-                } else {
-                    format!(in alloc; "cell {back} behind that of {text}")?
-                },
-                kind: match (is_code, back) {
-                    (true, 0) => Kind::Code,
-                    (true, _) => Kind::WithinCode,
-                    (false, _) => Kind::Cell,
-                },
-            }));
+        if let Some(label) = labelled(program.image, address - back) {
+            return behind_label(draft, program, label, back);
         }
     }
-    Ok(None)
+    None
+}
+
+/// A call whose frame begins at or in front of an address, so many words; so many calls are newer.
+#[derive(Clone, Copy)]
+struct Begun<'m> {
+    standing: &'m Standing,
+    back: usize,
+    offset: usize,
+}
+
+/// The innermost call whose frame begins at or in front of an address.
+fn begun_before(standings: &[Standing], address: u16) -> Option<Begun<'_>> {
+    for (back, standing) in standings.iter().enumerate() {
+        if let Some(offset) = usize::from(address).checked_sub(standing.frame) {
+            return Some(Begun {
+                standing,
+                back,
+                offset,
+            });
+        }
+    }
+    None
 }
 
 /// A variable in the frame of the innermost call that begins at or in front of an address.
 fn of_frames(
-    alloc: Global,
+    draft: &mut Draft,
     program: &Program<'_, '_>,
     standings: &[Standing],
     address: u16,
-) -> Result<Option<Owner>, Memory> {
-    for (back, standing) in standings.iter().enumerate() {
-        if let Some(offset) = usize::from(address).checked_sub(standing.frame) {
-            let Some(called) = labelled(program.image, standing.routine) else {
-                return Ok(None)
-            };
-            let Some(read) = main_of(alloc, program, called.segment)? else {
-                return Ok(None)
-            };
-            let frame = Frame {
-                read: &read,
-                back,
-                label: called.label,
-                root: read.root(called.label, standing),
-            };
-            return frame.owner(alloc, offset as u64, address);
-        }
-    }
-    Ok(None)
+) -> Option<Owner> {
+    let begun = begun_before(standings, address)?;
+    let called = labelled(program.image, begun.standing.routine)?;
+    let read = main_of(draft, program, called.segment)?;
+    let frame = Frame {
+        read: &read,
+        back: begun.back,
+        label: called.label,
+        root: read.root(called.label, begun.standing),
+    };
+    frame.owner(draft, begun.offset as u64, address)
 }
 
 /// The frame of a call: the main that has the routine, how many calls are newer, the routine's label, and where the run stands in it.
@@ -200,60 +234,83 @@ struct Frame<'f, 's> {
     root: Option<usize>,
 }
 
-impl Frame<'_, '_> {
+impl<'s> Frame<'_, 's> {
     /// What belongs to the cell at this offset of the frame, which has this address.
-    fn owner(&self, alloc: Global, offset: u64, address: u16) -> Result<Option<Owner>, Memory> {
-        let routine = self.routine(alloc)?;
-        let routine = routine.as_str();
+    fn owner(&self, draft: &mut Draft, offset: u64, address: u16) -> Option<Owner> {
         if let Some(site) = self.read.sites.variable(self.label, offset, self.root) {
-            let Some(name) = self.read.text(site.leaf) else {
-                return Ok(None)
-            };
-            let name = shown(alloc, name)?;
-            return Ok(Some(match offset.saturating_sub(site.offset).checked_sub(1) {
-                None => Owner {
-                    text: format!(in alloc; "{name} of {routine}")?,
-                    kind: Kind::Variable {
-                        back: self.back,
-                        leaf: site.leaf,
-                    },
-                },
-                Some(index) => Owner {
-                    text: format!(in alloc; "cell {index} of the vector {name} of {routine}")?,
-                    kind: Kind::Cell,
-                },
-            }));
+            return self.within(draft, site, offset);
         }
-        if let Some(site) = self.vector_before(offset)
-            && let Some(name) = self.read.text(site.leaf)
-        {
-            let name = shown(alloc, name)?;
-            let distance = offset.saturating_sub(site.offset).saturating_sub(1);
-            let count = site.cells.saturating_sub(1);
-            let cells = if count == 1 { "cell" } else { "cells" };
-            return Ok(Some(Owner {
-                text: format!(in alloc;
-                    "{distance} cells behind the start of the vector {name} of {routine}, which has {count} {cells}"
-                )?,
-                kind: Kind::Behind,
-            }));
+        match self.vector_before(offset) {
+            Some(site) => Some(self.behind_vector(draft, site, offset)),
+            None => Some(self.behind_all(draft, address)),
         }
-        Ok(Some(Owner {
-            text: format!(in alloc; "at the address {address}, behind all variables of {routine}")?,
-            kind: Kind::Behind,
-        }))
     }
 
-    /// The name of the routine.
-    fn routine(&self, alloc: Global) -> Result<String, Memory> {
-        match self
-            .read
-            .sites
-            .label(self.label)
-            .and_then(|leaf| self.read.text(leaf))
-        {
-            Some(name) => shown(alloc, name),
-            None => Ok(String::new(alloc)),
+    /// The variable that has the cell at this offset.
+    fn within(&self, draft: &mut Draft, site: VariableSite, offset: u64) -> Option<Owner> {
+        let name = Part::Shown(self.read.text(site.leaf)?);
+        let routine = Part::Shown(self.routine());
+        Some(match offset.saturating_sub(site.offset).checked_sub(1) {
+            None => Owner {
+                text: draft.filled("{} of {}", &[name, routine]),
+                kind: Kind::Variable {
+                    back: self.back,
+                    leaf: site.leaf,
+                },
+            },
+            Some(index) => Owner {
+                text: draft.filled(
+                    "cell {} of the vector {} of {}",
+                    &[Part::Number(index), name, routine],
+                ),
+                kind: Kind::Cell,
+            },
+        })
+    }
+
+    /// The vector that the cell at this offset stands behind.
+    fn behind_vector(&self, draft: &mut Draft, site: VariableSite, offset: u64) -> Owner {
+        let count = site.cells.saturating_sub(1);
+        let sentence = if count == 1 {
+            "{} cells behind the start of the vector {} of {}, which has {} cell"
+        } else {
+            "{} cells behind the start of the vector {} of {}, which has {} cells"
+        };
+        let distance = offset.saturating_sub(site.offset).saturating_sub(1);
+        let name = self.read.text(site.leaf).unwrap_or(b"");
+        Owner {
+            text: draft.filled(
+                sentence,
+                &[
+                    Part::Number(distance),
+                    Part::Shown(name),
+                    Part::Shown(self.routine()),
+                    Part::Number(count),
+                ],
+            ),
+            kind: Kind::Behind,
+        }
+    }
+
+    /// No variable: the address stands behind all of them.
+    fn behind_all(&self, draft: &mut Draft, address: u16) -> Owner {
+        Owner {
+            text: draft.filled(
+                "at the address {}, behind all variables of {}",
+                &[
+                    Part::Number(u64::from(address)),
+                    Part::Shown(self.routine()),
+                ],
+            ),
+            kind: Kind::Behind,
+        }
+    }
+
+    /// The name of the routine; nothing where it isn't known.
+    fn routine(&self) -> &'s [u8] {
+        match self.read.sites.label(self.label) {
+            Some(leaf) => self.read.text(leaf).unwrap_or(b""),
+            None => b"",
         }
     }
 

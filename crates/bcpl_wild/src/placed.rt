@@ -8,10 +8,8 @@ use bc_lex_tokens::{Symbol, Token, TokenKind};
 use bc_machine_image::Image;
 use bc_parse::parse;
 use bc_scope_places::{BodyOf, Sites, sites_of, token_at};
-use bc_word::Memory;
-use bcpl_messages::span_of;
+use bcpl_messages::{Draft, span_of};
 use bcpl_places::Span;
-use std::alloc::Global;
 
 /// What stands at a label: the number of its segment behind that of the primitives, and the label.
 #[derive(Clone, Copy)]
@@ -45,29 +43,31 @@ pub struct ReadMain<'s> {
     pub sites: Sites,
 }
 
-/// This main, read again; none where it is refused, which none is that was built.
-pub fn read<'s>(
-    alloc: Global,
-    sources: &[Source<'s>],
-    main: usize,
-) -> Result<Option<ReadMain<'s>>, Memory> {
-    if main >= sources.len() {
-        return Ok(None);
+/// What stands where among the tokens of a main; none where they are refused.
+fn sites_among(draft: &mut Draft, tokens: &[Token<'_>]) -> Option<Sites> {
+    let alloc = draft.alloc();
+    match parse(alloc, tokens) {
+        Ok(section) => draft.found(sites_of(alloc, &section), None),
+        Err(_) => None,
     }
-    let Ok(tokens) = lex(alloc, sources, main) else {
-        return Ok(None)
+}
+
+/// This main, read again; none where it is refused, which none is that was built.
+pub fn read<'s>(draft: &mut Draft, sources: &[Source<'s>], main: usize) -> Option<ReadMain<'s>> {
+    if main >= sources.len() {
+        return None;
+    }
+    let Ok(tokens) = lex(draft.alloc(), sources, main) else {
+        return None;
     };
-    let Ok(section) = parse(alloc, tokens.as_slice()) else {
-        return Ok(None)
-    };
-    let Some(sites) = sites_of(alloc, &section)? else {
-        return Ok(None)
-    };
-    Ok(Some(ReadMain {
-        main,
-        tokens,
-        sites,
-    }))
+    match sites_among(draft, tokens.as_slice()) {
+        Some(sites) => Some(ReadMain {
+            main,
+            tokens,
+            sites,
+        }),
+        None => None,
+    }
 }
 
 impl<'s> ReadMain<'s> {

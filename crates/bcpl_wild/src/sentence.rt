@@ -3,8 +3,7 @@
 use crate::message::Met;
 use crate::owner::{Kind, Owner};
 use bc_interpret_quiet::Cause;
-use bc_word::Memory;
-use std::alloc::Global;
+use bcpl_messages::{Draft, Part};
 
 /// What is known of a wild access beside its cause.
 #[derive(Clone, Copy)]
@@ -28,41 +27,46 @@ impl Known<'_> {
     }
 }
 
-/// The sentence on what was met, but for the routine in which it was.
-pub fn sentence(alloc: Global, met: &Met<'_>, known: Known<'_>) -> Result<String, Memory> {
-    let place = known.place();
-    Ok(match met.cause {
-        Cause::Unset(address) => {
-            let whose = whose(alloc, known, address)?;
-            if known.is_not_handed {
-                format!(in alloc;
-                    "{whose} is read {place}, and the call hands over nothing for it"
-                )?
-            } else {
-                format!(in alloc; "{whose} is read {place}, and nothing was ever put into it")?
-            }
-        }
-        Cause::Dead(address) => sentence_on(alloc, known, address, Access::READ)?,
-        Cause::NoCell(address) => sentence_on(alloc, known, address, Access::WRITTEN)?,
-        Cause::NotRoutine(_) if met.standings.is_empty() => {
-            String::from_str(
-                alloc,
-                "no routine sets global 1, so the run has nothing to call",
-            )?
-        }
-        Cause::NotRoutine(value) => {
-            format!(in alloc;
-                "the value {value} is called {place}, and no routine has that address"
-            )?
-        }
-        Cause::FrameTooLarge(_) => {
-            let calls = ordinal(alloc, met.calls)?;
-            format!(in alloc;
-                "this call, the {calls} within one another, would need cells behind the last one of the store"
-            )?
-        }
-        Cause::Malformed => String::from_str(alloc, "the program has a part that no source gives")?,
-    })
+/// Says what was met, but for the routine in which it was.
+pub fn say(draft: &mut Draft, met: &Met<'_>, known: Known<'_>) {
+    match met.cause {
+        Cause::Unset(address) => say_unset(draft, known, address),
+        Cause::Dead(address) => say_no_cell(draft, known, address, Access::READ),
+        Cause::NoCell(address) => say_no_cell(draft, known, address, Access::WRITTEN),
+        Cause::NotRoutine(value) => say_no_routine(draft, met, known, value),
+        Cause::FrameTooLarge(_) => say_too_large(draft, met.calls),
+        Cause::Malformed => draft.say("the program has a part that no source gives", &[]),
+    }
+}
+
+/// Says that what has no value is read.
+fn say_unset(draft: &mut Draft, known: Known<'_>, address: u16) {
+    say_whose(draft, known, address);
+    let sentence = if known.is_not_handed {
+        " is read {}, and the call hands over nothing for it"
+    } else {
+        " is read {}, and nothing was ever put into it"
+    };
+    draft.say(sentence, &[Part::Text(known.place())]);
+}
+
+/// Says that what is no routine is called.
+fn say_no_routine(draft: &mut Draft, met: &Met<'_>, known: Known<'_>, value: u16) {
+    let sentence = if met.standings.is_empty() {
+        "no routine sets global 1, so the run has nothing to call"
+    } else {
+        "the value {} is called {}, and no routine has that address"
+    };
+    let value = Part::Number(u64::from(value));
+    draft.say(sentence, &[value, Part::Text(known.place())]);
+}
+
+/// Says that a call has no room, which is one of so many within one another.
+fn say_too_large(draft: &mut Draft, calls: usize) {
+    draft.say(
+        "this call, the {}{} within one another, would need cells behind the last one of the store",
+        &[Part::Number(calls as u64), Part::Text(ending(calls))],
+    );
 }
 
 /// An access to what is no cell, in words.
@@ -85,58 +89,66 @@ impl Access {
     };
 }
 
-/// The sentence on an access to what is no cell.
-fn sentence_on(
-    alloc: Global,
-    known: Known<'_>,
-    address: u16,
-    access: Access,
-) -> Result<String, Memory> {
-    let place = known.place();
-    let Access { verb, forbidden } = access;
-    if let Some(owner) = known.owner {
-        let text = owner.text.as_str();
-        match owner.kind {
-            Kind::Code => {
-                return Ok(format!(in alloc;
-                    "the value of {text} is the address of its code, which {forbidden}"
-                )?);
-            }
-            Kind::WithinCode => {
-                return Ok(format!(in alloc;
-                    "the code of {text} is {verb} {place}, and code {forbidden}"
-                )?);
-            }
-            Kind::Behind => {
-                return Ok(format!(in alloc; "the cell that is {verb} {place} is {text}")?);
-            }
-            Kind::Cell | Kind::Variable { .. } => {}
-        }
-    }
-    let whose = whose(alloc, known, address)?;
-    Ok(format!(in alloc;
-        "{whose} is {verb} {place}, and there is no cell of the program there now"
-    )?)
-}
-
-/// The address, with whose cell it is where that is known.
-fn whose(alloc: Global, known: Known<'_>, address: u16) -> Result<String, Memory> {
+/// Says that what is no cell is read or written.
+fn say_no_cell(draft: &mut Draft, known: Known<'_>, address: u16, access: Access) {
     match known.owner {
-        Some(owner) => Ok(String::from_str(alloc, owner.text.as_str())?),
-        None => Ok(format!(in alloc; "the address {address}")?),
+        Some(owner) => say_of_owner(draft, known, owner, access),
+        None => say_gone(draft, known, address, access),
     }
 }
 
-/// A number as it counts: 1st, 2nd, 3rd, 4th.
-pub fn ordinal(alloc: Global, number: usize) -> Result<String, Memory> {
-    let ending = match (number / 10 % 10, number % 10) {
+/// The same, where something is known that the address belongs to.
+fn say_of_owner(draft: &mut Draft, known: Known<'_>, owner: &Owner, access: Access) {
+    let place = Part::Text(known.place());
+    let text = Part::Text(owner.text.as_str());
+    let verb = Part::Text(access.verb);
+    let forbidden = Part::Text(access.forbidden);
+    match owner.kind {
+        Kind::Code => draft.say(
+            "the value of {} is the address of its code, which {}",
+            &[text, forbidden],
+        ),
+        Kind::WithinCode => draft.say(
+            "the code of {} is {} {}, and code {}",
+            &[text, verb, place, forbidden],
+        ),
+        Kind::Behind => draft.say("the cell that is {} {} is {}", &[verb, place, text]),
+        Kind::Cell | Kind::Variable { .. } => draft.say(
+            "{} is {} {}, and there is no cell of the program there now",
+            &[text, verb, place],
+        ),
+    }
+}
+
+/// The same, where nothing is known.
+fn say_gone(draft: &mut Draft, known: Known<'_>, address: u16, access: Access) {
+    draft.say(
+        "the address {} is {} {}, and there is no cell of the program there now",
+        &[
+            Part::Number(u64::from(address)),
+            Part::Text(access.verb),
+            Part::Text(known.place()),
+        ],
+    );
+}
+
+/// Says the address, with whose cell it is where that is known.
+fn say_whose(draft: &mut Draft, known: Known<'_>, address: u16) {
+    match known.owner {
+        Some(owner) => draft.say("{}", &[Part::Text(owner.text.as_str())]),
+        None => draft.say("the address {}", &[Part::Number(u64::from(address))]),
+    }
+}
+
+/// How a number ends as it counts: 1st, 2nd, 3rd, 4th.
+pub fn ending(number: usize) -> &'static str {
+    match (number / 10 % 10, number % 10) {
         (1, _) => "th",
         (_, 1) => "st",
         (_, 2) => "nd",
         (_, 3) => "rd",
         _ => "th",
-    };
-    Ok(format!(in alloc; "{number}{ending}")?)
+    }
 }
 
 /// What one may have meant.
