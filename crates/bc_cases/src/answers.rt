@@ -123,16 +123,26 @@ fn of_expanded(answer: &mut Answer, kind: OfRoots, input: &str) {
     );
 }
 
-/// Adds what an input of this kind answers.
-pub fn add_answer(answer: &mut Answer, kind: &str, input: &str) {
-    if let Some(reading) = named(&READINGS, kind) {
-        return tokens::add_read(answer, reading, input);
-    }
-    if let Some(kind) = named(&OF_ROOTS, kind) {
-        return of_expanded(answer, kind, input);
-    }
+/// Adds what an input of this kind answers, if the kind asks neither of one source's tokens nor of roots.
+fn add_other(answer: &mut Answer, kind: &str, input: &str) {
     match named(&OTHERS, kind) {
         Some(kind) => of_others(answer, kind, input),
         None => answer.say("no such kind"),
+    }
+}
+
+/// Adds what an input of this kind answers, if the kind doesn't ask of one source's tokens.
+fn add_unread(answer: &mut Answer, kind: &str, input: &str) {
+    match named(&OF_ROOTS, kind) {
+        Some(kind) => of_expanded(answer, kind, input),
+        None => add_other(answer, kind, input),
+    }
+}
+
+/// Adds what an input of this kind answers.
+pub fn add_answer(answer: &mut Answer, kind: &str, input: &str) {
+    match named(&READINGS, kind) {
+        Some(reading) => tokens::add_read(answer, reading, input),
+        None => add_unread(answer, kind, input),
     }
 }

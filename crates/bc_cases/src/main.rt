@@ -110,7 +110,7 @@ impl Report {
         self.end_case(&case);
     }
 
-    /// What is told of the cases; those that answer otherwise are left out where there was no memory for them.
+    /// What is told of the cases that answer otherwise, or that there was no memory for it.
     fn told(&self) -> &str {
         if self.lines.growth.is_refused() {
             "no memory\n"
