@@ -203,6 +203,13 @@ pub fn read_expressions(growth: &mut Growth, done: &mut Vec<CoreExp>, text: &str
     }
 }
 
+/// The last expression of a text in a box, or 0 where there is none.
+pub fn expression_of(growth: &mut Growth, text: &str) -> Option<Box<CoreExp>> {
+    let mut done = Vec::new(growth.alloc());
+    read_expressions(growth, &mut done, text);
+    growth.boxed(taken(&mut done, 0))
+}
+
 /// What stands before the first blank of a text, and what stands behind it.
 fn front(text: &str) -> (&str, &str) {
     text.split_once(' ').unwrap_or((text, ""))

@@ -1,6 +1,6 @@
 use crate::answer::Answer;
 use crate::derivations::derivation_of;
-use crate::expressions::{read_expressions, root_of};
+use crate::expressions::{expression_of, read_expressions, root_of};
 use crate::number::{next, short};
 use bc_core::{CoreExp, Operand, Root, constant, copy, copy_expression, operand};
 use bc_rules::{code_of, free, is_derivation, is_derivation_by, next_label, words};
@@ -203,11 +203,8 @@ fn base_letter(base: Base) -> &'static str {
 
 /// Adds the operand of one instruction that an expression is, and the number that it is.
 pub fn add_operands(answer: &mut Answer, input: &str) {
-    let mut done = Vec::new(answer.alloc());
-    read_expressions(&mut answer.growth, &mut done, line(input, 0));
-    match done.last() {
-        Some(e) => add_operand(answer, e),
-        None => add_operand(answer, &CoreExp::Num(Word::new(0))),
+    if let Some(e) = expression_of(&mut answer.growth, line(input, 0)) {
+        add_operand(answer, &e);
     }
 }
 
