@@ -5,7 +5,6 @@ use crate::rules::OfRoot;
 use crate::tokens::Reading;
 use crate::trees::OfTree;
 use crate::{arithmetic, certificates, linking, machines, rules, streams, sweeps, tokens};
-use bc_word::Memory;
 use std::str;
 
 /// The kinds of cases that read the tokens of a source.
@@ -86,7 +85,7 @@ fn named<T: Copy>(list: &[(&str, T)], name: &str) -> Option<T> {
     None
 }
 
-fn of_roots(answer: &mut Answer, kind: OfRoots, input: &str) -> Result<(), Memory> {
+fn of_roots(answer: &mut Answer, kind: OfRoots, input: &str) {
     match kind {
         OfRoots::Root(what) => rules::add_told(answer, what, input),
         OfRoots::Operand => rules::add_operands(answer, input),
@@ -96,7 +95,7 @@ fn of_roots(answer: &mut Answer, kind: OfRoots, input: &str) -> Result<(), Memor
     }
 }
 
-fn of_others(answer: &mut Answer, kind: Other, input: &str) -> Result<(), Memory> {
+fn of_others(answer: &mut Answer, kind: Other, input: &str) {
     match kind {
         Other::Alike => tokens::add_alike(answer, input),
         Other::Library => tokens::add_library(answer),
@@ -115,25 +114,35 @@ fn of_others(answer: &mut Answer, kind: Other, input: &str) -> Result<(), Memory
 }
 
 /// What an input answers in which what stands once for many times is written out.
-fn of_expanded(answer: &mut Answer, kind: OfRoots, input: &str) -> Result<(), Memory> {
-    let bytes = expanded(answer.alloc(), input)?;
+fn of_expanded(answer: &mut Answer, kind: OfRoots, input: &str) {
+    let bytes = expanded(&mut answer.growth, input);
     of_roots(
         answer,
         kind,
         str::from_utf8(bytes.as_slice()).unwrap_or(input),
-    )
+    );
 }
 
-/// Adds what an input of this kind answers.
-pub fn add_answer(answer: &mut Answer, kind: &str, input: &str) -> Result<(), Memory> {
-    if let Some(reading) = named(&READINGS, kind) {
-        return tokens::add_read(answer, reading, input);
-    }
-    if let Some(kind) = named(&OF_ROOTS, kind) {
-        return of_expanded(answer, kind, input);
-    }
+/// Adds what an input of this kind answers, if the kind asks neither of one source's tokens nor of roots.
+fn add_other(answer: &mut Answer, kind: &str, input: &str) {
     match named(&OTHERS, kind) {
         Some(kind) => of_others(answer, kind, input),
         None => answer.say("no such kind"),
+    }
+}
+
+/// Adds what an input of this kind answers, if the kind doesn't ask of one source's tokens.
+fn add_unread(answer: &mut Answer, kind: &str, input: &str) {
+    match named(&OF_ROOTS, kind) {
+        Some(kind) => of_expanded(answer, kind, input),
+        None => add_other(answer, kind, input),
+    }
+}
+
+/// Adds what an input of this kind answers.
+pub fn add_answer(answer: &mut Answer, kind: &str, input: &str) {
+    match named(&READINGS, kind) {
+        Some(reading) => tokens::add_read(answer, reading, input),
+        None => add_unread(answer, kind, input),
     }
 }

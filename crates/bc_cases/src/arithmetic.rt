@@ -1,8 +1,8 @@
-use crate::answer::{Answer, Part};
+use crate::answer::Answer;
 use crate::number::{next, short, word};
 use bc_lex_tokens::Symbol;
 use bc_show::sign;
-use bc_word::{Memory, Op, Rel, Word, apply, complement, mirror};
+use bc_word::{Op, Rel, Word, apply, complement, mirror};
 
 /// The operator of a sign.
 pub fn operator(text: &str) -> Option<Op> {
@@ -17,7 +17,7 @@ pub fn operator(text: &str) -> Option<Op> {
 }
 
 /// Adds the value of `B OPERATOR A`, signed.
-pub fn add_applied(answer: &mut Answer, input: &str) -> Result<(), Memory> {
+pub fn add_applied(answer: &mut Answer, input: &str) {
     let mut words = input.split_whitespace();
     let b = word(next(&mut words));
     let op = operator(next(&mut words));
@@ -29,7 +29,7 @@ pub fn add_applied(answer: &mut Answer, input: &str) -> Result<(), Memory> {
 }
 
 /// Adds the value of an operation, signed.
-fn add_value(answer: &mut Answer, value: Option<Word>) -> Result<(), Memory> {
+fn add_value(answer: &mut Answer, value: Option<Word>) {
     match value {
         Some(value) => answer.show(&value.signed()),
         None => answer.say("no value"),
@@ -37,20 +37,14 @@ fn add_value(answer: &mut Answer, value: Option<Word>) -> Result<(), Memory> {
 }
 
 /// Adds a word unsigned and signed, its negation and its complement.
-pub fn add_word(answer: &mut Answer, input: &str) -> Result<(), Memory> {
+pub fn add_word(answer: &mut Answer, input: &str) {
     let word = word(input.lines().next().unwrap_or(""));
     let unsigned = word.get();
-    answer.all(&[
-        Part::Number(u64::from(unsigned)),
-        Part::Text(", signed "),
-        Part::Signed(word.signed()),
-        Part::Text(", negated "),
-        Part::Signed(word.negated().signed()),
-        Part::Text(", complemented "),
-        Part::Signed(word.complemented().signed()),
-        Part::Text(", as a number "),
-        Part::Number(u64::from(u16::from(Word::from(unsigned)))),
-    ])
+    answer.number(u64::from(unsigned));
+    answer.signed(", signed ", word.signed());
+    answer.signed(", negated ", word.negated().signed());
+    answer.signed(", complemented ", word.complemented().signed());
+    answer.numbered(", as a number ", u64::from(u16::from(Word::from(unsigned))));
 }
 
 /// The relation that an operator is.
@@ -80,7 +74,7 @@ fn opposite(op: Op) -> Option<Op> {
 }
 
 /// Adds the operator with a number, its number, its mirror and its complement.
-pub fn add_operator(answer: &mut Answer, input: &str) -> Result<(), Memory> {
+pub fn add_operator(answer: &mut Answer, input: &str) {
     let number = short(input.lines().next().unwrap_or(""));
     match Op::try_from(Word::new(number)) {
         Ok(op) => add_relatives(answer, op),
@@ -89,20 +83,17 @@ pub fn add_operator(answer: &mut Answer, input: &str) -> Result<(), Memory> {
 }
 
 /// Adds an operator, its number, its mirror and its complement.
-fn add_relatives(answer: &mut Answer, op: Op) -> Result<(), Memory> {
-    answer.all(&[
-        Part::Text(sign(op)),
-        Part::Text(" "),
-        Part::Number(u64::from(Word::from(op).get())),
-        Part::Text(", mirror "),
-        Part::Text(sign_of(mirror(op))),
-        Part::Text(", complement "),
-        Part::Text(sign_of(opposite(op))),
-    ])
+fn add_relatives(answer: &mut Answer, op: Op) {
+    answer.say(sign(op));
+    answer.numbered(" ", u64::from(Word::from(op).get()));
+    answer.say(", mirror ");
+    answer.say(sign_of(mirror(op)));
+    answer.say(", complement ");
+    answer.say(sign_of(opposite(op)));
 }
 
 /// Adds the symbol that is spelled so, with its first spelling and its number, and whether it is the one of a second word.
-pub fn add_symbol(answer: &mut Answer, input: &str) -> Result<(), Memory> {
+pub fn add_symbol(answer: &mut Answer, input: &str) {
     let mut words = input.split_whitespace();
     let symbol = Symbol::spelled(next(&mut words).as_bytes());
     let other = Symbol::spelled(next(&mut words).as_bytes());
@@ -121,12 +112,8 @@ fn is_other(symbol: Symbol, other: Option<Symbol>) -> bool {
 }
 
 /// Adds a symbol's spelling and number, and whether it is the other one.
-fn add_spelled(answer: &mut Answer, symbol: Symbol, other: Option<Symbol>) -> Result<(), Memory> {
-    answer.bytes(symbol.spelling())?;
-    answer.all(&[
-        Part::Text(" "),
-        Part::Number(u64::from(symbol.number())),
-        Part::Text(", the second: "),
-        Part::Truth(is_other(symbol, other)),
-    ])
+fn add_spelled(answer: &mut Answer, symbol: Symbol, other: Option<Symbol>) {
+    answer.bytes(symbol.spelling());
+    answer.numbered(" ", u64::from(symbol.number()));
+    answer.truth(", the second: ", is_other(symbol, other));
 }

@@ -1,4 +1,5 @@
-use std::alloc::{AllocError, Global};
+use crate::growth::Growth;
+use std::alloc::Global;
 
 /// A case: what is tried, its name, its input, and the answer that is wanted. Each line of input and answer ends by a line feed.
 #[derive(Drop)]
@@ -9,17 +10,7 @@ pub struct Case {
     answer: String,
     /// Whether there is one.
     pub is_begun: bool,
-}
-
-/// A text with another one in its place.
-pub fn replace(text: &mut String, new: &str) -> Result<(), AllocError> {
-    text.clear();
-    text.push_str(new)
-}
-
-fn add_line(lines: &mut String, line: &str) -> Result<(), AllocError> {
-    lines.push_str(line)?;
-    lines.push('\n')
+    growth: Growth,
 }
 
 /// What a line of the answer says.
@@ -37,7 +28,13 @@ impl Case {
             input: String::new(alloc),
             answer: String::new(alloc),
             is_begun: false,
+            growth: Growth::new(alloc),
         }
+    }
+
+    /// Whether a growth was refused to it, or to one before it.
+    pub fn is_refused(&self) -> bool {
+        self.growth.is_refused()
     }
 
     /// The answer that is wanted, without a line feed at its end.
@@ -47,21 +44,21 @@ impl Case {
     }
 
     /// The cases that follow are of this kind.
-    fn begin_kind(&mut self, kind: &str) -> Result<(), AllocError> {
+    fn begin_kind(&mut self, kind: &str) {
         self.is_begun = false;
-        replace(&mut self.kind, kind)
+        self.growth.replace(&mut self.kind, kind);
     }
 
     /// A case with this name begins.
-    fn begin_case(&mut self, name: &str) -> Result<(), AllocError> {
+    fn begin_case(&mut self, name: &str) {
         self.is_begun = true;
         self.input.clear();
         self.answer.clear();
-        replace(&mut self.name, name)
+        self.growth.replace(&mut self.name, name);
     }
 
     /// A line that belongs to no case begins a kind of them or one of them.
-    pub fn begin(&mut self, line: &str) -> Result<(), AllocError> {
+    pub fn begin(&mut self, line: &str) {
         match kind_of(line) {
             Some(kind) => self.begin_kind(kind),
             None => self.begin_case(line),
@@ -69,10 +66,10 @@ impl Case {
     }
 
     /// Adds a line of input or answer.
-    pub fn add(&mut self, line: &str) -> Result<(), AllocError> {
+    pub fn add(&mut self, line: &str) {
         match line.strip_prefix("  ") {
-            Some(text) => add_line(&mut self.input, text),
-            None => add_line(&mut self.answer, said(line)),
+            Some(text) => self.growth.add_line(&mut self.input, text),
+            None => self.growth.add_line(&mut self.answer, said(line)),
         }
     }
 }

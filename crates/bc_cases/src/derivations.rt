@@ -1,9 +1,8 @@
 //! Derivations, read as `bc_show` writes them.
 
-use crate::growth::{behind, pushed};
+use crate::growth::Growth;
 use crate::number::short;
 use bc_rules_defs::{Derivation, Rule};
-use bc_word::Memory;
 use std::alloc::Global;
 
 /// A bracket that is open: its rule, and how many derivations were finished before it.
@@ -31,71 +30,60 @@ fn leaf(alloc: Global, rule: Rule) -> Derivation {
 }
 
 /// Makes one derivation of those that were finished since a bracket was opened.
-fn join(done: &mut Vec<Derivation>, open: Open) -> Result<(), Memory> {
-    let parts = behind(done, open.first)?;
-    pushed(
+fn join(growth: &mut Growth, done: &mut Vec<Derivation>, open: Open) {
+    let parts = growth.behind(done, open.first);
+    growth.push(
         done,
         Derivation {
             rule: open.rule,
             parts,
         },
-    )
+    );
 }
 
 /// Closes the innermost bracket.
-fn close(done: &mut Vec<Derivation>, open: &mut Vec<Open>) -> Result<(), Memory> {
-    match open.pop() {
-        Some(open) => join(done, open),
-        None => Ok(()),
+fn close(growth: &mut Growth, done: &mut Vec<Derivation>, open: &mut Vec<Open>) {
+    if let Some(open) = open.pop() {
+        join(growth, done, open);
     }
 }
 
 /// Opens a bracket, or adds a rule without parts.
-fn begin(
-    alloc: Global,
-    done: &mut Vec<Derivation>,
-    open: &mut Vec<Open>,
-    body: &str,
-) -> Result<(), Memory> {
+fn begin(growth: &mut Growth, done: &mut Vec<Derivation>, open: &mut Vec<Open>, body: &str) {
     let first = done.len();
     match body.strip_prefix('(') {
-        Some(name) => pushed(
+        Some(name) => growth.push(
             open,
             Open {
                 rule: rule_of(name),
                 first,
             },
         ),
-        None => pushed(done, leaf(alloc, rule_of(body))),
+        None => add_leaf(growth, done, rule_of(body)),
     }
+}
+
+/// Adds a rule without parts.
+fn add_leaf(growth: &mut Growth, done: &mut Vec<Derivation>, rule: Rule) {
+    let leaf = leaf(growth.alloc(), rule);
+    growth.push(done, leaf);
 }
 
 /// A word, with the brackets that it opens and closes.
-fn add_word(
-    alloc: Global,
-    done: &mut Vec<Derivation>,
-    open: &mut Vec<Open>,
-    word: &str,
-) -> Result<(), Memory> {
+fn add_word(growth: &mut Growth, done: &mut Vec<Derivation>, open: &mut Vec<Open>, word: &str) {
     let body = word.trim_end_matches(')');
-    begin(alloc, done, open, body)?;
+    begin(growth, done, open, body);
     for _ in body.len()..word.len() {
-        close(done, open)?;
+        close(growth, done, open);
     }
-    Ok(())
 }
 
 /// Adds the derivations of a text, with blanks between them.
-pub fn read_derivations(
-    alloc: Global,
-    done: &mut Vec<Derivation>,
-    text: &str,
-) -> Result<(), Memory> {
-    let mut open = Vec::new(alloc);
+pub fn read_derivations(growth: &mut Growth, done: &mut Vec<Derivation>, text: &str) {
+    let mut open = Vec::new(growth.alloc());
     for word in text.split_whitespace() {
-        add_word(alloc, done, &mut open, word)?;
+        add_word(growth, done, &mut open, word);
     }
-    Ok(())
 }
 
 /// Takes the last derivation, or V0 without parts where there is none.
@@ -104,4 +92,12 @@ pub fn last_derivation(alloc: Global, done: &mut Vec<Derivation>) -> Derivation 
         Some(derivation) => derivation,
         None => leaf(alloc, Rule::V0),
     }
+}
+
+/// The last derivation of a text in a box.
+pub fn derivation_of(growth: &mut Growth, text: &str) -> Option<Box<Derivation>> {
+    let mut done = Vec::new(growth.alloc());
+    read_derivations(growth, &mut done, text);
+    let last = last_derivation(growth.alloc(), &mut done);
+    growth.boxed(last)
 }

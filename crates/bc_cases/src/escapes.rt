@@ -1,5 +1,4 @@
-use bc_word::Memory;
-use std::alloc::Global;
+use crate::growth::Growth;
 
 /// The value of a hexadecimal digit.
 fn digit(byte: u8) -> Option<u8> {
@@ -44,53 +43,52 @@ fn repeated_at(part: &str) -> Option<Repeated<'_>> {
     })
 }
 
-/// Adds these bytes.
-fn add_bytes(found: &mut Vec<u8>, bytes: &[u8]) -> Result<(), Memory> {
-    Ok(found.extend_from_slice(bytes)?)
-}
-
 /// Adds a byte and what is behind it.
-fn add_byte(found: &mut Vec<u8>, byte: u8, rest: &[u8]) -> Result<(), Memory> {
-    add_bytes(found, &[byte])?;
-    add_bytes(found, rest)
+fn add_byte(growth: &mut Growth, found: &mut Vec<u8>, byte: u8, rest: &[u8]) {
+    growth.extend(found, &[byte]);
+    growth.extend(found, rest);
 }
 
 /// Adds a text that is repeated, and what is behind it.
-fn add_repeated(found: &mut Vec<u8>, repeated: Repeated<'_>) -> Result<(), Memory> {
+fn add_repeated(growth: &mut Growth, found: &mut Vec<u8>, repeated: Repeated<'_>) {
     for _ in 0..repeated.times {
-        add_bytes(found, repeated.text.as_bytes())?;
+        growth.extend(found, repeated.text.as_bytes());
     }
-    add_bytes(found, repeated.rest.as_bytes())
+    growth.extend(found, repeated.rest.as_bytes());
+}
+
+/// Adds what stands behind a `\`, where that is no byte.
+fn add_other(growth: &mut Growth, found: &mut Vec<u8>, part: &str) {
+    match repeated_at(part) {
+        Some(repeated) => add_repeated(growth, found, repeated),
+        None => add_byte(growth, found, b'\\', part.as_bytes()),
+    }
 }
 
 /// Adds what stands behind a `\`.
-fn add_escaped(found: &mut Vec<u8>, part: &str) -> Result<(), Memory> {
-    if let Some((byte, rest)) = byte_at(part.as_bytes()) {
-        return add_byte(found, byte, rest);
-    }
-    match repeated_at(part) {
-        Some(repeated) => add_repeated(found, repeated),
-        None => add_byte(found, b'\\', part.as_bytes()),
+fn add_escaped(growth: &mut Growth, found: &mut Vec<u8>, part: &str) {
+    match byte_at(part.as_bytes()) {
+        Some((byte, rest)) => add_byte(growth, found, byte, rest),
+        None => add_other(growth, found, part),
     }
 }
 
 /// Adds the bytes of a text in which `\xHH` is a byte and `\N{TEXT}` is TEXT so many times.
-pub fn add_expanded(found: &mut Vec<u8>, text: &str) -> Result<(), Memory> {
+pub fn add_expanded(growth: &mut Growth, found: &mut Vec<u8>, text: &str) {
     let mut is_first = true;
     for part in text.split('\\') {
         if is_first {
-            add_bytes(found, part.as_bytes())?;
+            growth.extend(found, part.as_bytes());
         } else {
-            add_escaped(found, part)?;
+            add_escaped(growth, found, part);
         }
         is_first = false;
     }
-    Ok(())
 }
 
 /// The bytes of such a text.
-pub fn expanded(alloc: Global, text: &str) -> Result<Vec<u8>, Memory> {
-    let mut found = Vec::new(alloc);
-    add_expanded(&mut found, text)?;
-    Ok(found)
+pub fn expanded(growth: &mut Growth, text: &str) -> Vec<u8> {
+    let mut found = Vec::new(growth.alloc());
+    add_expanded(growth, &mut found, text);
+    found
 }

@@ -1,11 +1,10 @@
 //! Expressions and roots, read as `bc_show` writes them.
 
 use crate::arithmetic::operator;
-use crate::growth::{behind, boxed, pushed};
+use crate::growth::{Growth, both};
 use crate::number::{short, word};
 use bc_core::{CoreExp, Root};
-use bc_word::{Memory, Op, Word};
-use std::alloc::Global;
+use bc_word::{Op, Word};
 
 /// What a bracket makes of the expressions in it.
 #[derive(Clone, Copy)]
@@ -70,113 +69,112 @@ fn taken(done: &mut Vec<CoreExp>, first: usize) -> CoreExp {
     }
 }
 
-/// The same in a box.
-fn part(alloc: Global, done: &mut Vec<CoreExp>, first: usize) -> Result<Box<CoreExp>, Memory> {
-    boxed(alloc, taken(done, first))
-}
-
 /// Puts an expression in place of those that were finished behind so many.
-fn put(done: &mut Vec<CoreExp>, first: usize, e: CoreExp) -> Result<(), Memory> {
+fn put(growth: &mut Growth, done: &mut Vec<CoreExp>, first: usize, e: CoreExp) {
     done.truncate(first);
-    pushed(done, e)
+    growth.push(done, e);
 }
 
 /// The content of the last expression.
-fn load_once(alloc: Global, done: &mut Vec<CoreExp>) -> Result<(), Memory> {
-    let e = part(alloc, done, 0)?;
-    pushed(done, CoreExp::Load(e))
+fn load_once(growth: &mut Growth, done: &mut Vec<CoreExp>) {
+    if let Some(e) = growth.boxed(taken(done, 0)) {
+        growth.push(done, CoreExp::Load(e));
+    }
 }
 
 /// The content of the last expression, so many times.
-fn load(alloc: Global, done: &mut Vec<CoreExp>, loads: usize) -> Result<(), Memory> {
+fn load(growth: &mut Growth, done: &mut Vec<CoreExp>, loads: usize) {
     for _ in 0..loads {
-        load_once(alloc, done)?;
+        load_once(growth, done);
     }
-    Ok(())
 }
 
 /// A call of the first part with the others.
-fn call(alloc: Global, done: &mut Vec<CoreExp>, first: usize) -> Result<(), Memory> {
-    let arguments = behind(done, first.saturating_add(1))?;
-    let routine = part(alloc, done, first)?;
-    put(done, first, CoreExp::Call(arguments, routine))
+fn call(growth: &mut Growth, done: &mut Vec<CoreExp>, first: usize) {
+    let arguments = growth.behind(done, first.saturating_add(1));
+    if let Some(routine) = growth.boxed(taken(done, first)) {
+        put(growth, done, first, CoreExp::Call(arguments, routine));
+    }
 }
 
 /// The negation of the last part.
-fn negation(alloc: Global, done: &mut Vec<CoreExp>, first: usize) -> Result<(), Memory> {
-    let e = part(alloc, done, first)?;
-    put(done, first, CoreExp::Neg(e))
+fn negation(growth: &mut Growth, done: &mut Vec<CoreExp>, first: usize) {
+    if let Some(e) = growth.boxed(taken(done, first)) {
+        put(growth, done, first, CoreExp::Neg(e));
+    }
 }
 
 /// NOT of the last part.
-fn opposite(alloc: Global, done: &mut Vec<CoreExp>, first: usize) -> Result<(), Memory> {
-    let e = part(alloc, done, first)?;
-    put(done, first, CoreExp::Not(e))
+fn opposite(growth: &mut Growth, done: &mut Vec<CoreExp>, first: usize) {
+    if let Some(e) = growth.boxed(taken(done, first)) {
+        put(growth, done, first, CoreExp::Not(e));
+    }
+}
+
+/// The last two parts.
+fn pair(
+    growth: &mut Growth,
+    done: &mut Vec<CoreExp>,
+    first: usize,
+) -> Option<(Box<CoreExp>, Box<CoreExp>)> {
+    let right = taken(done, first);
+    let left = taken(done, first);
+    growth.boxed_pair(left, right)
 }
 
 /// An operator with the last two parts.
-fn dyadic(alloc: Global, done: &mut Vec<CoreExp>, first: usize, op: Op) -> Result<(), Memory> {
-    let right = part(alloc, done, first)?;
-    let left = part(alloc, done, first)?;
-    put(done, first, CoreExp::Bin(op, left, right))
+fn dyadic(growth: &mut Growth, done: &mut Vec<CoreExp>, first: usize, op: Op) {
+    if let Some((left, right)) = pair(growth, done, first) {
+        put(growth, done, first, CoreExp::Bin(op, left, right));
+    }
 }
 
 /// A condition of the last three parts.
-fn condition(alloc: Global, done: &mut Vec<CoreExp>, first: usize) -> Result<(), Memory> {
-    let that = part(alloc, done, first)?;
-    let this = part(alloc, done, first)?;
-    let condition = part(alloc, done, first)?;
-    put(done, first, CoreExp::Cond(condition, this, that))
+fn condition(growth: &mut Growth, done: &mut Vec<CoreExp>, first: usize) {
+    let parts = pair(growth, done, first);
+    let condition = growth.boxed(taken(done, first));
+    if let Some((condition, (this, that))) = both(condition, parts) {
+        put(growth, done, first, CoreExp::Cond(condition, this, that));
+    }
 }
 
 /// Puts what a bracket makes in place of what was finished in it.
-fn make(alloc: Global, done: &mut Vec<CoreExp>, open: Open) -> Result<(), Memory> {
+fn make(growth: &mut Growth, done: &mut Vec<CoreExp>, open: Open) {
     match open.head {
-        Head::Call => call(alloc, done, open.first),
-        Head::Neg => negation(alloc, done, open.first),
-        Head::Not => opposite(alloc, done, open.first),
-        Head::Dyadic(op) => dyadic(alloc, done, open.first, op),
-        Head::Condition => condition(alloc, done, open.first),
+        Head::Call => call(growth, done, open.first),
+        Head::Neg => negation(growth, done, open.first),
+        Head::Not => opposite(growth, done, open.first),
+        Head::Dyadic(op) => dyadic(growth, done, open.first, op),
+        Head::Condition => condition(growth, done, open.first),
     }
 }
 
 /// Closes this bracket.
-fn finish(alloc: Global, done: &mut Vec<CoreExp>, open: Open) -> Result<(), Memory> {
-    make(alloc, done, open)?;
-    load(alloc, done, open.loads)
+fn finish(growth: &mut Growth, done: &mut Vec<CoreExp>, open: Open) {
+    make(growth, done, open);
+    load(growth, done, open.loads);
 }
 
 /// Closes the innermost bracket.
-fn close(alloc: Global, done: &mut Vec<CoreExp>, open: &mut Vec<Open>) -> Result<(), Memory> {
-    match open.pop() {
-        Some(open) => finish(alloc, done, open),
-        None => Ok(()),
+fn close(growth: &mut Growth, done: &mut Vec<CoreExp>, open: &mut Vec<Open>) {
+    if let Some(open) = open.pop() {
+        finish(growth, done, open);
     }
 }
 
 /// Adds what stands without brackets, its content taken so many times.
-fn add_leaf(
-    alloc: Global,
-    done: &mut Vec<CoreExp>,
-    text: &str,
-    loads: usize,
-) -> Result<(), Memory> {
-    pushed(done, leaf(text))?;
-    load(alloc, done, loads)
+fn add_leaf(growth: &mut Growth, done: &mut Vec<CoreExp>, text: &str, loads: usize) {
+    growth.push(done, leaf(text));
+    load(growth, done, loads);
 }
 
 /// Opens a bracket, or adds what stands without brackets.
-fn begin(
-    alloc: Global,
-    done: &mut Vec<CoreExp>,
-    open: &mut Vec<Open>,
-    body: &str,
-) -> Result<(), Memory> {
+fn begin(growth: &mut Growth, done: &mut Vec<CoreExp>, open: &mut Vec<Open>, body: &str) {
     let inner = body.trim_start_matches('!');
     let loads = body.len().saturating_sub(inner.len());
     let first = done.len();
     match inner.strip_prefix('(') {
-        Some(head) => pushed(
+        Some(head) => growth.push(
             open,
             Open {
                 head: head_of(head),
@@ -184,32 +182,32 @@ fn begin(
                 first,
             },
         ),
-        None => add_leaf(alloc, done, inner, loads),
+        None => add_leaf(growth, done, inner, loads),
     }
 }
 
 /// A word, with the brackets that it opens and closes.
-fn add_word(
-    alloc: Global,
-    done: &mut Vec<CoreExp>,
-    open: &mut Vec<Open>,
-    word: &str,
-) -> Result<(), Memory> {
+fn add_word(growth: &mut Growth, done: &mut Vec<CoreExp>, open: &mut Vec<Open>, word: &str) {
     let body = word.trim_end_matches(')');
-    begin(alloc, done, open, body)?;
+    begin(growth, done, open, body);
     for _ in body.len()..word.len() {
-        close(alloc, done, open)?;
+        close(growth, done, open);
     }
-    Ok(())
 }
 
 /// Adds the expressions of a text, with blanks between them.
-pub fn read_expressions(alloc: Global, done: &mut Vec<CoreExp>, text: &str) -> Result<(), Memory> {
-    let mut open = Vec::new(alloc);
+pub fn read_expressions(growth: &mut Growth, done: &mut Vec<CoreExp>, text: &str) {
+    let mut open = Vec::new(growth.alloc());
     for word in text.split_whitespace() {
-        add_word(alloc, done, &mut open, word)?;
+        add_word(growth, done, &mut open, word);
     }
-    Ok(())
+}
+
+/// The last expression of a text in a box, or 0 where there is none.
+pub fn expression_of(growth: &mut Growth, text: &str) -> Option<Box<CoreExp>> {
+    let mut done = Vec::new(growth.alloc());
+    read_expressions(growth, &mut done, text);
+    growth.boxed(taken(&mut done, 0))
 }
 
 /// What stands before the first blank of a text, and what stands behind it.
@@ -218,10 +216,10 @@ fn front(text: &str) -> (&str, &str) {
 }
 
 /// Adds the expressions of a root's line.
-pub fn read_root(alloc: Global, done: &mut Vec<CoreExp>, line: &str) -> Result<(), Memory> {
+pub fn read_root(growth: &mut Growth, done: &mut Vec<CoreExp>, line: &str) {
     let (_, behind_form) = front(line);
     let (_, text) = front(behind_form);
-    read_expressions(alloc, done, text.strip_suffix(')').unwrap_or(text))
+    read_expressions(growth, done, text.strip_suffix(')').unwrap_or(text));
 }
 
 /// The value of the last expression.
@@ -264,8 +262,8 @@ pub fn root_with(done: &mut Vec<CoreExp>, line: &str) -> Root {
 }
 
 /// The root of a line in a box.
-pub fn root_of(alloc: Global, line: &str) -> Result<Box<Root>, Memory> {
-    let mut done = Vec::new(alloc);
-    read_root(alloc, &mut done, line)?;
-    boxed(alloc, root_with(&mut done, line))
+pub fn root_of(growth: &mut Growth, line: &str) -> Option<Box<Root>> {
+    let mut done = Vec::new(growth.alloc());
+    read_root(growth, &mut done, line);
+    growth.boxed(root_with(&mut done, line))
 }

@@ -1,6 +1,5 @@
-use crate::answer::{Answer, Part};
-use crate::case::replace;
-use crate::growth::pushed;
+use crate::answer::Answer;
+use crate::growth::Growth;
 use crate::number::{number, short, word};
 use bc_link::link;
 use bc_machine::{End, Machine, MemoryStreams, Named, Streams};
@@ -8,7 +7,7 @@ use bc_machine_image::{Image, Places, Words};
 use bc_run::behind_primitives;
 use bc_text::read_all;
 use bc_text_items::Segment;
-use bc_word::{Memory, Word};
+use bc_word::Word;
 use std::alloc::Global;
 use std::mem;
 
@@ -36,27 +35,27 @@ fn image_of(alloc: Global, store: Vec<Word>) -> Option<Image> {
     })
 }
 
-/// The input SYSIN.
-fn input_of(alloc: Global, bytes: &[u8]) -> Result<Named<Vec<u8>>, Memory> {
-    let name = Vec::from_slice(alloc, b"SYSIN")?;
-    Ok(Named {
-        name,
-        device: Vec::from_slice(alloc, bytes)?,
-    })
+/// These bytes in a list.
+fn bytes_of(growth: &mut Growth, bytes: &[u8]) -> Vec<u8> {
+    let bytes = Vec::from_slice(growth.alloc(), bytes);
+    growth.list(bytes)
 }
 
-/// One input.
-fn inputs(alloc: Global, bytes: &[u8]) -> Result<Vec<Named<Vec<u8>>>, Memory> {
-    let mut inputs = Vec::new(alloc);
-    pushed(&mut inputs, input_of(alloc, bytes)?)?;
-    Ok(inputs)
+/// One input, SYSIN.
+fn inputs(growth: &mut Growth, bytes: &[u8]) -> Vec<Named<Vec<u8>>> {
+    let mut inputs = Vec::new(growth.alloc());
+    let name = bytes_of(growth, b"SYSIN");
+    let device = bytes_of(growth, bytes);
+    growth.push(&mut inputs, Named { name, device });
+    inputs
 }
 
 /// One output, SYSPRINT.
-fn outputs(alloc: Global) -> Result<Vec<Vec<u8>>, Memory> {
-    let mut outputs = Vec::new(alloc);
-    pushed(&mut outputs, Vec::from_slice(alloc, b"SYSPRINT")?)?;
-    Ok(outputs)
+fn outputs(growth: &mut Growth) -> Vec<Vec<u8>> {
+    let mut outputs = Vec::new(growth.alloc());
+    let name = bytes_of(growth, b"SYSPRINT");
+    growth.push(&mut outputs, name);
+    outputs
 }
 
 /// What a machine and its streams are made from.
@@ -84,25 +83,26 @@ impl Setting {
     }
 
     /// Puts the words of the image of segments behind the primitives into the store, where there is one.
-    fn link_behind(&mut self, alloc: Global, segments: Vec<Segment>) -> Result<(), Memory> {
-        let all = behind_primitives(alloc, segments)?;
-        if let Ok(image) = link(alloc, all.as_slice()) {
+    fn link_behind(&mut self, growth: &mut Growth, segments: Vec<Segment>) {
+        match behind_primitives(growth.alloc(), segments) {
+            Ok(all) => self.link_all(growth.alloc(), all.as_slice()),
+            Err(_) => growth.refuse(),
+        }
+    }
+
+    /// Puts the words of the image of segments into the store, where there is one.
+    fn link_all(&mut self, alloc: Global, segments: &[Segment]) {
+        if let Ok(image) = link(alloc, segments) {
             self.take(&image);
         }
-        Ok(())
     }
 
     /// Puts the words of the image of a text behind the primitives into the store, or zeros.
-    fn read_text(&mut self, alloc: Global, text: &str) -> Result<(), Memory> {
+    fn read_text(&mut self, growth: &mut Growth, text: &str) {
         self.clear();
-        match read_all(alloc, &[text.as_bytes()]) {
-            Ok(segments) => self.link_behind(alloc, segments),
-            Err(_) => Ok(()),
+        if let Ok(segments) = read_all(growth.alloc(), &[text.as_bytes()]) {
+            self.link_behind(growth, segments);
         }
-    }
-
-    fn set_input(&mut self, text: &str) -> Result<(), Memory> {
-        Ok(replace(&mut self.input, text)?)
     }
 
     /// What is said of the store or of the room.
@@ -115,53 +115,47 @@ impl Setting {
     }
 
     /// What a line says.
-    fn read(&mut self, alloc: Global, line: &str) -> Result<(), Memory> {
+    fn read(&mut self, growth: &mut Growth, line: &str) {
         let (what, rest) = line.split_once(' ').unwrap_or(("", ""));
-        self.set(what, rest);
         match what {
-            "text" => self.read_text(alloc, rest),
-            "input" => self.set_input(rest),
-            "run" => pushed(&mut self.budgets, number(rest)),
-            _ => Ok(()),
+            "text" => self.read_text(growth, rest),
+            "input" => growth.replace(&mut self.input, rest),
+            "run" => growth.push(&mut self.budgets, number(rest)),
+            _ => self.set(what, rest),
         }
     }
 
     /// What lines say.
-    fn read_all(&mut self, alloc: Global, lines: &str) -> Result<(), Memory> {
+    fn read_all(&mut self, growth: &mut Growth, lines: &str) {
         for line in lines.lines() {
-            self.read(alloc, line)?;
+            self.read(growth, line);
         }
-        Ok(())
     }
 
     /// Adds what each run of a machine over these streams answers, and what is written by then.
-    fn add_runs(
-        &self,
-        answer: &mut Answer,
-        machine: &mut Machine,
-        streams: &mut MemoryStreams,
-    ) -> Result<(), Memory> {
+    fn add_runs(&self, answer: &mut Answer, machine: &mut Machine, streams: &mut MemoryStreams) {
         for budget in &self.budgets {
             let end = machine.run(streams, *budget);
-            add_run(answer, end, streams)?;
+            add_run(answer, end, streams);
         }
-        Ok(())
     }
 
     /// Adds what each run of a machine answers, and what is written by then.
-    fn add_all(&self, answer: &mut Answer, machine: &mut Machine) -> Result<(), Memory> {
-        let inputs = inputs(answer.alloc(), self.input.as_bytes())?;
-        let outputs = outputs(answer.alloc())?;
+    fn add_all(&self, answer: &mut Answer, machine: &mut Machine) {
+        let inputs = inputs(&mut answer.growth, self.input.as_bytes());
+        let outputs = outputs(&mut answer.growth);
         match MemoryStreams::new(answer.alloc(), inputs, outputs, self.room) {
             Ok(mut streams) => self.add_runs(answer, machine, &mut streams),
-            Err(_) => Err(Memory),
+            Err(_) => answer.refuse(),
         }
     }
 
     /// Adds what each run of a machine with this image answers, and what is written by then.
-    fn add_of_image(&self, answer: &mut Answer, image: &Image) -> Result<(), Memory> {
-        let mut machine = Machine::new(answer.alloc(), image)?;
-        self.add_all(answer, &mut machine)
+    fn add_of_image(&self, answer: &mut Answer, image: &Image) {
+        match Machine::new(answer.alloc(), image) {
+            Ok(mut machine) => self.add_all(answer, &mut machine),
+            Err(_) => answer.refuse(),
+        }
     }
 
     /// Takes the store.
@@ -170,52 +164,47 @@ impl Setting {
     }
 }
 
-fn add_end(answer: &mut Answer, end: End) -> Result<(), Memory> {
+fn add_end(answer: &mut Answer, end: End) {
     match end {
-        End::BadInstruction(address) => answer.all(&[
-            Part::Text("BadInstruction "),
-            Part::Number(u64::from(address.get())),
-        ]),
+        End::BadInstruction(address) => {
+            answer.numbered("BadInstruction ", u64::from(address.get()));
+        }
         _ => answer.name(&end),
     }
 }
 
 /// Adds the line of a run.
-fn add_run(answer: &mut Answer, end: End, streams: &MemoryStreams) -> Result<(), Memory> {
-    answer.go_on("\n")?;
-    add_end(answer, end)?;
-    add_written(answer, streams)
+fn add_run(answer: &mut Answer, end: End, streams: &MemoryStreams) {
+    answer.go_on("\n");
+    add_end(answer, end);
+    add_written(answer, streams);
 }
 
-fn add_byte(answer: &mut Answer, output: Word, byte: u8) -> Result<(), Memory> {
-    answer.all(&[
-        Part::Text(" "),
-        Part::Number(u64::from(output.get())),
-        Part::Text(":"),
-    ])?;
-    answer.bytes(&[byte])
+fn add_byte(answer: &mut Answer, output: Word, byte: u8) {
+    answer.numbered(" ", u64::from(output.get()));
+    answer.say(":");
+    answer.bytes(&[byte]);
 }
 
 /// Adds what was written, each byte behind the number of its output.
-pub fn add_written(answer: &mut Answer, streams: &MemoryStreams) -> Result<(), Memory> {
+pub fn add_written(answer: &mut Answer, streams: &MemoryStreams) {
     for (output, byte) in streams.written() {
-        add_byte(answer, *output, *byte)?;
+        add_byte(answer, *output, *byte);
     }
-    Ok(())
 }
 
 /// Adds what each run in turn of one machine answers, and what is written by then.
-pub fn add_steps(answer: &mut Answer, lines: &str) -> Result<(), Memory> {
+pub fn add_steps(answer: &mut Answer, lines: &str) {
     let alloc = answer.alloc();
+    let store = vec![in alloc; Word::new(0); 65536];
     let mut setting = Setting {
-        store: vec![in alloc; Word::new(0); 65536]?,
+        store: answer.growth.list(store),
         input: String::new(alloc),
         room: 1000,
         budgets: Vec::new(alloc),
     };
-    setting.read_all(alloc, lines)?;
-    match image_of(alloc, setting.take_store(alloc)) {
-        Some(image) => setting.add_of_image(answer, &image),
-        None => Ok(()),
+    setting.read_all(&mut answer.growth, lines);
+    if let Some(image) = image_of(alloc, setting.take_store(alloc)) {
+        setting.add_of_image(answer, &image);
     }
 }

@@ -24,99 +24,115 @@ use crate::answer::Answer;
 use crate::answers::add_answer;
 use crate::case::{Case, belongs, is_silent};
 use crate::escapes::expanded;
-use bc_word::Memory;
+use crate::number::count;
 use std::{env, fs, io};
 
 /// Whether an answer is the one that is wanted, in which a text may be written once for many times.
-fn is_wanted(found: &Answer, case: &Case) -> Result<bool, Memory> {
+fn is_wanted(found: &mut Answer, case: &Case) -> bool {
     let wanted = case.wanted();
     if found.text() == wanted {
-        return Ok(true);
+        return true;
     }
-    let wanted = expanded(found.alloc(), wanted)?;
-    Ok(found.text().as_bytes() == wanted.as_slice())
+    let wanted = expanded(&mut found.growth, wanted);
+    found.text().as_bytes() == wanted.as_slice()
 }
 
-/// What a case answers, and whether that is what is wanted.
-fn is_answered(found: &mut Answer, case: &Case) -> Result<bool, Memory> {
-    add_answer(found, case.kind.as_str(), case.input.as_str())?;
+/// Whether a case answers what is wanted, and what it answers.
+fn is_answered(found: &mut Answer, case: &Case) -> bool {
+    add_answer(found, case.kind.as_str(), case.input.as_str());
     is_wanted(found, case)
 }
 
-/// Says what a case answers that is not what is wanted, behind what stands between; it isn't right.
-fn told(rt: &HostRuntime, case: &Case, between: &str, found: &str) -> io::Result<bool> {
-    let kind = case.kind.as_str();
-    let name = case.name.as_str();
-    println!(rt; "{kind}, {name}:{between}{found}")?;
-    Ok(false)
-}
-
-/// Says what a case answers where it is not what is wanted, and whether it is.
-fn tried(rt: &HostRuntime, case: &Case) -> io::Result<bool> {
-    let mut found = Answer::new(rt.alloc());
-    match is_answered(&mut found, case) {
-        Ok(true) => Ok(true),
-        Ok(false) => told(rt, case, "\n", found.text()),
-        Err(_) => told(rt, case, " ", "no memory"),
-    }
-}
-
-/// How many cases there are, and how many of them answer otherwise than wanted.
-#[derive(Clone, Copy)]
-struct Counts {
+/// How many cases of a file there are, how many of them answer otherwise than wanted, and what those answer.
+#[derive(Drop)]
+struct Report {
     cases: u64,
     differ: u64,
+    lines: Answer,
 }
 
-impl Counts {
-    /// A case more, which is right or not.
-    fn add(&mut self, is_right: bool) {
-        self.cases = self.cases.saturating_add(1);
-        if !is_right {
-            self.differ = self.differ.saturating_add(1);
+impl Report {
+    /// Says what a case answers that is not what is wanted, behind what stands between.
+    fn tell(&mut self, case: &Case, between: &str, found: &str) {
+        count(&mut self.differ);
+        self.lines.say(case.kind.as_str());
+        self.lines.say(", ");
+        self.lines.say(case.name.as_str());
+        self.lines.say(":");
+        self.lines.say(between);
+        self.lines.say(found);
+        self.lines.say("\n");
+    }
+
+    /// Tries a case, and says what it answers where it is not what is wanted.
+    fn try_case(&mut self, case: &Case) {
+        count(&mut self.cases);
+        let mut found = Answer::new(self.lines.alloc());
+        let is_answered = is_answered(&mut found, case);
+        if case.is_refused() || found.growth.is_refused() {
+            self.tell(case, " ", "no memory");
+        } else if !is_answered {
+            self.tell(case, "\n", found.text());
         }
     }
-}
 
-/// Tries the case that has begun last, where there is one.
-fn end_case(rt: &HostRuntime, case: &Case, counts: &mut Counts) -> io::Result<()> {
-    if case.is_begun {
-        counts.add(tried(rt, case)?);
+    /// Tries the case that has begun last, where there is one.
+    fn end_case(&mut self, case: &Case) {
+        if case.is_begun {
+            self.try_case(case);
+        }
     }
-    Ok(())
-}
 
-/// Goes on with a line of a file.
-fn read(rt: &HostRuntime, case: &mut Case, counts: &mut Counts, line: &str) -> io::Result<()> {
-    if is_silent(line) {
-        return Ok(());
+    /// A line that belongs to no case ends the one before it.
+    fn begin(&mut self, case: &mut Case, line: &str) {
+        self.end_case(case);
+        case.begin(line);
     }
-    if belongs(line) {
-        return Ok(case.add(line)?);
-    }
-    end_case(rt, case, counts)?;
-    Ok(case.begin(line)?)
-}
 
-/// Tries the cases of a text.
-fn try_cases(rt: &HostRuntime, counts: &mut Counts, text: &str) -> io::Result<()> {
-    let mut case = Case::new(rt.alloc());
-    for line in text.lines() {
-        read(rt, &mut case, counts, line)?;
+    /// Goes on with a line of a file.
+    fn read(&mut self, case: &mut Case, line: &str) {
+        if is_silent(line) {
+            return;
+        }
+        if belongs(line) {
+            case.add(line);
+        } else {
+            self.begin(case, line);
+        }
     }
-    end_case(rt, &case, counts)
+
+    /// Tries the cases of a text.
+    fn try_cases(&mut self, text: &str) {
+        let mut case = Case::new(self.lines.alloc());
+        for line in text.lines() {
+            self.read(&mut case, line);
+        }
+        self.end_case(&case);
+    }
+
+    /// What is told of the cases that answer otherwise, or that there was no memory for it.
+    fn told(&self) -> &str {
+        if self.lines.growth.is_refused() {
+            "no memory\n"
+        } else {
+            self.lines.text()
+        }
+    }
 }
 
 /// Tries the cases of a file, and says how many there are and how many of them answer otherwise than wanted.
 fn try_file(rt: &HostRuntime, path: &str) -> io::Result<()> {
     let text = fs::read_to_string(rt, path)?;
-    let mut counts = Counts {
+    let mut report = Report {
         cases: 0,
         differ: 0,
+        lines: Answer::new(rt.alloc()),
     };
-    try_cases(rt, &mut counts, text.as_str())?;
-    let Counts { cases, differ } = counts;
-    println!(rt; "{path}: {cases} cases, {differ} of them answer otherwise")
+    report.try_cases(text.as_str());
+    let cases = report.cases;
+    let differ = report.differ;
+    let lines = report.told();
+    println!(rt; "{lines}{path}: {cases} cases, {differ} of them answer otherwise")
 }
 
 fn main(rt: HostRuntime) -> io::Result<()> {

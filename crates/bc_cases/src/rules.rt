@@ -1,7 +1,6 @@
-use crate::answer::{Answer, Part};
-use crate::derivations::{last_derivation, read_derivations};
-use crate::expressions::{read_expressions, root_of};
-use crate::growth::boxed;
+use crate::answer::Answer;
+use crate::derivations::derivation_of;
+use crate::expressions::{expression_of, read_expressions, root_of};
 use crate::number::{next, short};
 use bc_core::{CoreExp, Operand, Root, constant, copy, copy_expression, operand};
 use bc_rules::{code_of, free, is_derivation, is_derivation_by, next_label, words};
@@ -42,12 +41,13 @@ fn behind(line: &str, word: &str) -> u16 {
 }
 
 /// Adds what is answered of the root that an input has in its first line.
-pub fn add_told(answer: &mut Answer, what: OfRoot, input: &str) -> Result<(), Memory> {
-    let root = root_of(answer.alloc(), line(input, 0))?;
-    add_of_root(answer, what, &root, input)
+pub fn add_told(answer: &mut Answer, what: OfRoot, input: &str) {
+    if let Some(root) = root_of(&mut answer.growth, line(input, 0)) {
+        add_of_root(answer, what, &root, input);
+    }
 }
 
-fn add_of_root(answer: &mut Answer, what: OfRoot, root: &Root, input: &str) -> Result<(), Memory> {
+fn add_of_root(answer: &mut Answer, what: OfRoot, root: &Root, input: &str) {
     match what {
         OfRoot::Derivation => add_judged(answer, root, input),
         OfRoot::Least => add_least(answer, root),
@@ -57,161 +57,139 @@ fn add_of_root(answer: &mut Answer, what: OfRoot, root: &Root, input: &str) -> R
 }
 
 /// Adds whether the derivation of the second line is one of a root by each table, and what its code is.
-fn add_judged(answer: &mut Answer, root: &Root, input: &str) -> Result<(), Memory> {
-    let alloc = answer.alloc();
-    let mut done = Vec::new(alloc);
-    read_derivations(alloc, &mut done, line(input, 1))?;
-    let derivation = boxed(alloc, last_derivation(alloc, &mut done))?;
-    add_judgement(answer, root, &derivation, line(input, 2))
+fn add_judged(answer: &mut Answer, root: &Root, input: &str) {
+    if let Some(derivation) = derivation_of(&mut answer.growth, line(input, 1)) {
+        add_judgement(answer, root, &derivation, line(input, 2));
+    }
 }
 
 /// Adds whether this is a derivation of a root by each table, and what its code is from these labels on.
-fn add_judgement(
-    answer: &mut Answer,
-    root: &Root,
-    derivation: &Derivation,
-    labels: &str,
-) -> Result<(), Memory> {
-    answer.all(&[
-        Part::Text("by table 1 "),
-        Part::Text(yes_or_no(is_derivation_by(Table::One, root, derivation))),
-        Part::Text(", by table 2 "),
-        Part::Text(yes_or_no(is_derivation_by(Table::Two, root, derivation))),
-    ])?;
+fn add_judgement(answer: &mut Answer, root: &Root, derivation: &Derivation, labels: &str) {
+    answer.say("by table 1 ");
+    answer.say(yes_or_no(is_derivation_by(Table::One, root, derivation)));
+    answer.say(", by table 2 ");
+    answer.say(yes_or_no(is_derivation_by(Table::Two, root, derivation)));
     if is_derivation(root, derivation) {
-        add_code(answer, root, derivation, labels)
-    } else {
-        Ok(())
+        add_code(answer, root, derivation, labels);
     }
 }
 
 /// Adds the code of a derivation from these labels on, and the label behind its own.
-fn add_code(
-    answer: &mut Answer,
-    root: &Root,
-    derivation: &Derivation,
-    labels: &str,
-) -> Result<(), Memory> {
+fn add_code(answer: &mut Answer, root: &Root, derivation: &Derivation, labels: &str) {
     let first = behind(labels, "first ");
     let target = behind(labels, "target ");
     let code = code_of(answer.alloc(), root, derivation, target, first);
-    add_made(answer, code)?;
-    add_label(answer, next_label(root, derivation, first))
+    add_made(answer, code);
+    add_label(answer, next_label(root, derivation, first));
 }
 
 /// Adds code, if it was made.
-fn add_made(answer: &mut Answer, code: Result<Vec<Piece>, Memory>) -> Result<(), Memory> {
+fn add_made(answer: &mut Answer, code: Result<Vec<Piece>, Memory>) {
     match code {
         Ok(code) => add_pieces(answer, code.as_slice()),
         Err(_) => answer.say("\nno code"),
     }
 }
 
-fn add_label(answer: &mut Answer, label: Option<u32>) -> Result<(), Memory> {
+fn add_label(answer: &mut Answer, label: Option<u32>) {
     match label {
-        Some(label) => answer.all(&[Part::Text("\nnext label "), Part::Number(u64::from(label))]),
+        Some(label) => answer.numbered("\nnext label ", u64::from(label)),
         None => answer.say("\nno next label"),
     }
 }
 
-fn add_piece(answer: &mut Answer, piece: &Piece) -> Result<(), Memory> {
+fn add_piece(answer: &mut Answer, piece: &Piece) {
     let piece = ShownPiece(piece);
-    answer.say(" ")?;
-    answer.show(&piece)
+    answer.say(" ");
+    answer.show(&piece);
 }
 
 /// Adds code and its words.
-fn add_pieces(answer: &mut Answer, code: &[Piece]) -> Result<(), Memory> {
-    answer.say("\ncode")?;
+fn add_pieces(answer: &mut Answer, code: &[Piece]) {
+    answer.say("\ncode");
     for piece in code {
-        add_piece(answer, piece)?;
+        add_piece(answer, piece);
     }
-    add_words(answer, code)
+    add_words(answer, code);
 }
 
-fn add_words(answer: &mut Answer, code: &[Piece]) -> Result<(), Memory> {
+fn add_words(answer: &mut Answer, code: &[Piece]) {
     if code.len() < 1 << 32 {
-        answer.all(&[
-            Part::Text("\n"),
-            Part::Number(words(code)),
-            Part::Text(" words"),
-        ])
-    } else {
-        Ok(())
+        answer.sentence("\n{} words", &[words(code)]);
     }
 }
 
 /// Adds the derivation that is chosen for a root, its words, and the row of each node.
-fn add_least(answer: &mut Answer, root: &Root) -> Result<(), Memory> {
+fn add_least(answer: &mut Answer, root: &Root) {
     if !is_selectable(root) {
         return answer.say("not selectable");
     }
-    let table = rows(answer.alloc(), root)?;
-    let selected = select(answer.alloc(), root)?;
-    add_selected(answer, &selected, &table)
+    let table = rows(answer.alloc(), root);
+    let table = answer.growth.list(table);
+    match select(answer.alloc(), root) {
+        Ok(selected) => add_selected(answer, &selected, &table),
+        Err(_) => answer.refuse(),
+    }
 }
 
-fn add_selected(answer: &mut Answer, selected: &Selected, table: &Vec<Row>) -> Result<(), Memory> {
-    add_derivation(answer, selected)?;
-    add_rows(answer, table)?;
-    if *table == selected.table {
-        Ok(())
-    } else {
-        answer.say("\nother rows")
+fn add_selected(answer: &mut Answer, selected: &Selected, table: &Vec<Row>) {
+    add_derivation(answer, selected);
+    add_rows(answer, table);
+    if *table != selected.table {
+        answer.say("\nother rows");
     }
 }
 
 /// Adds the words and the derivation that are chosen for a root.
-fn add_derivation(answer: &mut Answer, selected: &Selected) -> Result<(), Memory> {
+fn add_derivation(answer: &mut Answer, selected: &Selected) {
     let derivation = ShownDerivation(&selected.derivation);
-    answer.all(&[Part::Number(selected.words), Part::Text(" words by ")])?;
-    answer.show(&derivation)
+    answer.sentence("{} words by ", &[selected.words]);
+    answer.show(&derivation);
 }
 
-fn add_rows(answer: &mut Answer, table: &[Row]) -> Result<(), Memory> {
+fn add_rows(answer: &mut Answer, table: &[Row]) {
     for row in table {
-        add_row(answer, row)?;
+        add_row(answer, row);
     }
-    Ok(())
 }
 
 /// Adds the least words of a node, as a value, as a value that is pushed, as a jump on false and as a jump on true, each with the
 /// rule that gives them; `-` where there is no derivation: `6 V12, -, 8 J6, 8 J6`.
-fn add_row(answer: &mut Answer, row: &Row) -> Result<(), Memory> {
+fn add_row(answer: &mut Answer, row: &Row) {
     for aim in 0..4 {
-        answer.say(if aim > 0 { ", " } else { "\n" })?;
-        add_choice(answer, row.costs[aim], row.rules[aim])?;
+        answer.say(if aim > 0 { ", " } else { "\n" });
+        add_choice(answer, row.costs[aim], row.rules[aim]);
     }
-    Ok(())
 }
 
-fn add_choice(answer: &mut Answer, words: Option<u64>, rule: Option<Rule>) -> Result<(), Memory> {
+fn add_choice(answer: &mut Answer, words: Option<u64>, rule: Option<Rule>) {
     match words {
         Some(words) => add_cost(answer, words, rule),
         None => answer.say("-"),
     }
 }
 
-fn add_cost(answer: &mut Answer, words: u64, rule: Option<Rule>) -> Result<(), Memory> {
-    answer.number(words)?;
-    match rule {
-        Some(rule) => add_rule(answer, rule),
-        None => Ok(()),
+fn add_cost(answer: &mut Answer, words: u64, rule: Option<Rule>) {
+    answer.number(words);
+    if let Some(rule) = rule {
+        add_rule(answer, rule);
     }
 }
 
-fn add_rule(answer: &mut Answer, rule: Rule) -> Result<(), Memory> {
-    answer.say(" ")?;
-    answer.name(&rule)
+fn add_rule(answer: &mut Answer, rule: Rule) {
+    answer.say(" ");
+    answer.name(&rule);
 }
 
 /// Adds the least words of a root.
-fn add_least_words(answer: &mut Answer, root: &Root) -> Result<(), Memory> {
+fn add_least_words(answer: &mut Answer, root: &Root) {
     if !is_selectable(root) {
         return answer.say("not selectable");
     }
-    let selected = select(answer.alloc(), root)?;
-    answer.number(selected.words)
+    match select(answer.alloc(), root) {
+        Ok(selected) => answer.number(selected.words),
+        Err(_) => answer.refuse(),
+    }
 }
 
 fn base_letter(base: Base) -> &'static str {
@@ -224,47 +202,47 @@ fn base_letter(base: Base) -> &'static str {
 }
 
 /// Adds the operand of one instruction that an expression is, and the number that it is.
-pub fn add_operands(answer: &mut Answer, input: &str) -> Result<(), Memory> {
-    let mut done = Vec::new(answer.alloc());
-    read_expressions(answer.alloc(), &mut done, line(input, 0))?;
-    match done.last() {
-        Some(e) => add_operand(answer, e),
-        None => add_operand(answer, &CoreExp::Num(Word::new(0))),
+pub fn add_operands(answer: &mut Answer, input: &str) {
+    if let Some(e) = expression_of(&mut answer.growth, line(input, 0)) {
+        add_operand(answer, &e);
     }
 }
 
-fn add_operand(answer: &mut Answer, e: &CoreExp) -> Result<(), Memory> {
-    add_found(answer, operand(e))?;
-    add_constant(answer, constant(e))
+fn add_operand(answer: &mut Answer, e: &CoreExp) {
+    add_found(answer, operand(e));
+    add_constant(answer, constant(e));
 }
 
 /// Adds the operand of one instruction that was found.
-fn add_found(answer: &mut Answer, found: Option<Operand>) -> Result<(), Memory> {
+fn add_found(answer: &mut Answer, found: Option<Operand>) {
     match found {
-        Some(found) => answer.all(&[
-            Part::Text("operand "),
-            Part::Text(if found.direct { "" } else { "I" }),
-            Part::Text(base_letter(found.base)),
-            Part::Number(u64::from(found.n.get())),
-        ]),
+        Some(found) => add_parts(answer, &found),
         None => answer.say("no operand"),
     }
 }
 
-fn add_constant(answer: &mut Answer, constant: Option<Word>) -> Result<(), Memory> {
+/// Adds an operand of one instruction.
+fn add_parts(answer: &mut Answer, found: &Operand) {
+    answer.say(if found.direct {
+        "operand "
+    } else {
+        "operand I"
+    });
+    answer.say(base_letter(found.base));
+    answer.number(u64::from(found.n.get()));
+}
+
+fn add_constant(answer: &mut Answer, constant: Option<Word>) {
     match constant {
-        Some(word) => answer.all(&[
-            Part::Text(", constant "),
-            Part::Number(u64::from(word.get())),
-        ]),
+        Some(word) => answer.numbered(", constant ", u64::from(word.get())),
         None => answer.say(", no constant"),
     }
 }
 
 /// Adds whether two expressions may change places.
-pub fn add_freedom(answer: &mut Answer, input: &str) -> Result<(), Memory> {
+pub fn add_freedom(answer: &mut Answer, input: &str) {
     let mut pair = Vec::new(answer.alloc());
-    read_expressions(answer.alloc(), &mut pair, line(input, 0))?;
+    read_expressions(&mut answer.growth, &mut pair, line(input, 0));
     match pair.as_slice() {
         [first, second] => answer.say(yes_or_no(free(first, second))),
         _ => answer.say("not two expressions"),
@@ -272,46 +250,47 @@ pub fn add_freedom(answer: &mut Answer, input: &str) -> Result<(), Memory> {
 }
 
 /// Adds a root's copy and that of its expression, where they are equal to them, and whether the copy is the root of another line.
-fn add_copies(answer: &mut Answer, root: &Root, other: &str) -> Result<(), Memory> {
-    let other = root_of(answer.alloc(), other)?;
-    add_copy(answer, root, &other)?;
-    add_inner_copy(answer, root)
+fn add_copies(answer: &mut Answer, root: &Root, other: &str) {
+    if let Some(other) = root_of(&mut answer.growth, other) {
+        add_copy(answer, root, &other);
+    }
+    add_inner_copy(answer, root);
 }
 
-fn add_copy(answer: &mut Answer, root: &Root, other: &Root) -> Result<(), Memory> {
-    let new = copy(answer.alloc(), root)?;
-    add_compared(answer, root, other, &new)
+fn add_copy(answer: &mut Answer, root: &Root, other: &Root) {
+    match copy(answer.alloc(), root) {
+        Ok(new) => add_compared(answer, root, other, &new),
+        Err(_) => answer.refuse(),
+    }
 }
 
 /// Adds the copy of a root's expression, where it is that of a value.
-fn add_inner_copy(answer: &mut Answer, root: &Root) -> Result<(), Memory> {
+fn add_inner_copy(answer: &mut Answer, root: &Root) {
     match root {
         Root::Value { expression, .. } => add_copy_of(answer, expression),
-        Root::Test { .. } | Root::Assign { .. } => Ok(()),
+        Root::Test { .. } | Root::Assign { .. } => {}
     }
 }
 
 /// Adds a root's copy, and whether it is equal to it and to another one.
-fn add_compared(answer: &mut Answer, root: &Root, other: &Root, new: &Root) -> Result<(), Memory> {
+fn add_compared(answer: &mut Answer, root: &Root, other: &Root, new: &Root) {
     let shown = ShownRoot(new);
-    answer.show(&shown)?;
-    answer.all(&[
-        Part::Text(", the same: "),
-        Part::Truth(new == root),
-        Part::Text(", the other: "),
-        Part::Truth(new == other),
-    ])
+    answer.show(&shown);
+    answer.truth(", the same: ", new == root);
+    answer.truth(", the other: ", new == other);
 }
 
 /// Adds an expression's copy, and whether it is equal to it.
-fn add_copy_of(answer: &mut Answer, e: &CoreExp) -> Result<(), Memory> {
-    let new = copy_expression(answer.alloc(), e)?;
-    add_same(answer, e, &new)
+fn add_copy_of(answer: &mut Answer, e: &CoreExp) {
+    match copy_expression(answer.alloc(), e) {
+        Ok(new) => add_same(answer, e, &new),
+        Err(_) => answer.refuse(),
+    }
 }
 
-fn add_same(answer: &mut Answer, e: &CoreExp, new: &CoreExp) -> Result<(), Memory> {
+fn add_same(answer: &mut Answer, e: &CoreExp, new: &CoreExp) {
     let shown = ShownExpression(new);
-    answer.say("\n")?;
-    answer.show(&shown)?;
-    answer.all(&[Part::Text(", the same: "), Part::Truth(new == e)])
+    answer.say("\n");
+    answer.show(&shown);
+    answer.truth(", the same: ", new == e);
 }

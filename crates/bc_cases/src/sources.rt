@@ -1,9 +1,7 @@
 use crate::escapes::{add_expanded, expanded};
-use crate::growth::pushed;
+use crate::growth::Growth;
 use bc_lex::Source;
 use bc_library::{BLIB, LIBHDR};
-use bc_word::Memory;
-use std::alloc::Global;
 
 /// A source of a case.
 #[derive(Drop)]
@@ -15,12 +13,12 @@ struct Given {
 
 impl Given {
     /// A line more.
-    fn add(&mut self, line: &str) -> Result<(), Memory> {
+    fn add(&mut self, growth: &mut Growth, line: &str) {
         if self.has_lines {
-            pushed(&mut self.text, b'\n')?;
+            growth.push(&mut self.text, b'\n');
         }
         self.has_lines = true;
-        add_expanded(&mut self.text, line)
+        add_expanded(growth, &mut self.text, line);
     }
 
     fn source(&self) -> Source<'_> {
@@ -39,88 +37,86 @@ pub struct Sources {
 }
 
 /// Adds LIBHDR and BLIB.
-fn add_library(sources: &mut Vec<Source<'_>>) -> Result<(), Memory> {
-    pushed(
-        sources,
-        Source {
-            name: b"LIBHDR",
-            text: LIBHDR.as_bytes(),
-        },
-    )?;
-    pushed(
-        sources,
-        Source {
-            name: b"BLIB",
-            text: BLIB.as_bytes(),
-        },
-    )
+fn add_library(growth: &mut Growth, sources: &mut Vec<Source<'_>>) {
+    for (name, text) in [("LIBHDR", LIBHDR), ("BLIB", BLIB)] {
+        growth.push(
+            sources,
+            Source {
+                name: name.as_bytes(),
+                text: text.as_bytes(),
+            },
+        );
+    }
 }
 
 /// The sources of a case. A line `-- NAME` begins one, a line `== NAME` the one that is read first; without such lines all is the
 /// source A.
-pub fn sources_of(alloc: Global, input: &str) -> Result<Sources, Memory> {
+pub fn sources_of(growth: &mut Growth, input: &str) -> Sources {
     let mut sources = Sources {
-        given: Vec::new(alloc),
+        given: Vec::new(growth.alloc()),
         main: 0,
     };
     for line in input.lines() {
-        sources.read(alloc, line)?;
+        sources.read(growth, line);
     }
-    sources.begin_first(alloc)?;
-    Ok(sources)
+    sources.begin_first(growth);
+    sources
 }
 
 impl Sources {
     /// A source with this name begins.
-    fn begin(&mut self, alloc: Global, name: &str) -> Result<(), Memory> {
-        let name = expanded(alloc, name)?;
-        pushed(
+    fn begin(&mut self, growth: &mut Growth, name: &str) {
+        let name = expanded(growth, name);
+        let text = Vec::new(growth.alloc());
+        growth.push(
             &mut self.given,
             Given {
                 name,
-                text: Vec::new(alloc),
+                text,
                 has_lines: false,
             },
-        )
+        );
     }
 
     /// The source A begins, where none has begun.
-    fn begin_first(&mut self, alloc: Global) -> Result<(), Memory> {
+    fn begin_first(&mut self, growth: &mut Growth) {
         if self.given.is_empty() {
-            self.begin(alloc, "A")
-        } else {
-            Ok(())
+            self.begin(growth, "A");
         }
     }
 
     /// A line of the source that has begun last.
-    fn add(&mut self, alloc: Global, line: &str) -> Result<(), Memory> {
-        self.begin_first(alloc)?;
-        match self.given.last_mut() {
-            Some(last) => last.add(line),
-            None => Ok(()),
+    fn add(&mut self, growth: &mut Growth, line: &str) {
+        self.begin_first(growth);
+        if let Some(last) = self.given.last_mut() {
+            last.add(growth, line);
         }
     }
 
+    /// The source that is read first begins, with this name.
+    fn begin_main(&mut self, growth: &mut Growth, name: &str) {
+        self.main = self.given.len();
+        self.begin(growth, name);
+    }
+
     /// A line of a case.
-    fn read(&mut self, alloc: Global, line: &str) -> Result<(), Memory> {
+    fn read(&mut self, growth: &mut Growth, line: &str) {
         if let Some(name) = line.strip_prefix("-- ") {
-            self.begin(alloc, name)
+            self.begin(growth, name);
         } else if let Some(name) = line.strip_prefix("== ") {
-            self.main = self.given.len();
-            self.begin(alloc, name)
+            self.begin_main(growth, name);
         } else {
-            self.add(alloc, line)
+            self.add(growth, line);
         }
     }
 
     /// The sources, and behind them LIBHDR and BLIB.
-    pub fn all(&self, alloc: Global) -> Result<Vec<Source<'_>>, Memory> {
-        let mut sources = Vec::new(alloc);
+    pub fn all(&self, growth: &mut Growth) -> Vec<Source<'_>> {
+        let mut sources = Vec::new(growth.alloc());
         for given in &self.given {
-            pushed(&mut sources, given.source())?;
+            growth.push(&mut sources, given.source());
         }
-        add_library(&mut sources)?;
-        Ok(sources)
+        add_library(growth, &mut sources);
+        sources
     }
 }

@@ -1,38 +1,38 @@
-use crate::answer::{Answer, Part};
+use crate::answer::Answer;
 use crate::escapes::expanded;
-use crate::growth::pushed;
+use crate::growth::Growth;
 use crate::machines::add_written;
 use crate::number::word;
 use bc_machine::{MemoryStreams, Named, Side, Streams};
-use bc_word::Memory;
-use std::alloc::Global;
 
 /// The input of `NAME=CONTENT`.
-fn input_of(alloc: Global, binding: &str) -> Result<Named<Vec<u8>>, Memory> {
+fn input_of(growth: &mut Growth, binding: &str) -> Named<Vec<u8>> {
     let (name, content) = binding.split_once('=').unwrap_or((binding, ""));
-    let device = expanded(alloc, content)?;
-    Ok(Named {
-        name: expanded(alloc, name)?,
+    let device = expanded(growth, content);
+    Named {
+        name: expanded(growth, name),
         device,
-    })
+    }
 }
 
 /// The inputs of a line of `NAME=CONTENT`.
-fn inputs(alloc: Global, line: &str) -> Result<Vec<Named<Vec<u8>>>, Memory> {
-    let mut inputs = Vec::new(alloc);
+fn inputs(growth: &mut Growth, line: &str) -> Vec<Named<Vec<u8>>> {
+    let mut inputs = Vec::new(growth.alloc());
     for binding in line.split_whitespace() {
-        pushed(&mut inputs, input_of(alloc, binding)?)?;
+        let input = input_of(growth, binding);
+        growth.push(&mut inputs, input);
     }
-    Ok(inputs)
+    inputs
 }
 
 /// The outputs of a line of names.
-fn outputs(alloc: Global, line: &str) -> Result<Vec<Vec<u8>>, Memory> {
-    let mut outputs = Vec::new(alloc);
+fn outputs(growth: &mut Growth, line: &str) -> Vec<Vec<u8>> {
+    let mut outputs = Vec::new(growth.alloc());
     for name in line.split_whitespace() {
-        pushed(&mut outputs, expanded(alloc, name)?)?;
+        let name = expanded(growth, name);
+        growth.push(&mut outputs, name);
     }
-    Ok(outputs)
+    outputs
 }
 
 fn side_of(word: &str) -> Side {
@@ -43,13 +43,13 @@ fn side_of(word: &str) -> Side {
     }
 }
 
-fn add_byte(answer: &mut Answer, byte: u8) -> Result<(), Memory> {
-    answer.say("read ")?;
-    answer.bytes(&[byte])
+fn add_byte(answer: &mut Answer, byte: u8) {
+    answer.say("read ");
+    answer.bytes(&[byte]);
 }
 
 /// Reads a byte, and adds what that answers.
-fn add_read(answer: &mut Answer, streams: &mut MemoryStreams) -> Result<(), Memory> {
+fn add_read(answer: &mut Answer, streams: &mut MemoryStreams) {
     match streams.read() {
         Ok(Some(byte)) => add_byte(answer, byte),
         Ok(None) => answer.say("read nothing"),
@@ -57,42 +57,31 @@ fn add_read(answer: &mut Answer, streams: &mut MemoryStreams) -> Result<(), Memo
     }
 }
 
-fn add_done(answer: &mut Answer, done: bool) -> Result<(), Memory> {
-    answer.say(if done { "done" } else { "the device failed" })
+fn add_done(answer: &mut Answer, done: bool) {
+    answer.say(if done { "done" } else { "the device failed" });
 }
 
 /// Selects the stream with this number.
-fn add_selected(
-    answer: &mut Answer,
-    streams: &mut MemoryStreams,
-    side: Side,
-    number: &str,
-) -> Result<(), Memory> {
+fn add_selected(answer: &mut Answer, streams: &mut MemoryStreams, side: Side, number: &str) {
     streams.select(side, word(number));
-    add_done(answer, true)
+    add_done(answer, true);
 }
 
 /// Adds the number of the stream with a name.
-fn add_found(
-    answer: &mut Answer,
-    streams: &MemoryStreams,
-    side: Side,
-    name: &str,
-) -> Result<(), Memory> {
+fn add_found(answer: &mut Answer, streams: &MemoryStreams, side: Side, name: &str) {
     let number = streams.find(side, name.as_bytes()).get();
-    answer.all(&[Part::Text("number "), Part::Number(u64::from(number))])
+    answer.numbered("number ", u64::from(number));
 }
 
 /// Writes the first of these bytes, if there is one, and adds whether that was done.
-fn add_sent(answer: &mut Answer, streams: &mut MemoryStreams, bytes: &[u8]) -> Result<(), Memory> {
-    match bytes.first() {
-        Some(byte) => add_done(answer, streams.write(*byte).is_ok()),
-        None => Ok(()),
+fn add_sent(answer: &mut Answer, streams: &mut MemoryStreams, bytes: &[u8]) {
+    if let Some(byte) = bytes.first() {
+        add_done(answer, streams.write(*byte).is_ok());
     }
 }
 
 /// Does what a line says, and adds what it answers.
-fn act(answer: &mut Answer, streams: &mut MemoryStreams, line: &str) -> Result<(), Memory> {
+fn act(answer: &mut Answer, streams: &mut MemoryStreams, line: &str) {
     let (action, rest) = line.split_once(' ').unwrap_or((line, ""));
     let (side, value) = rest.split_once(' ').unwrap_or((rest, ""));
     let side = side_of(side);
@@ -112,12 +101,12 @@ fn front(text: &str) -> (&str, &str) {
 
 /// Adds what streams over memory answer to each line: the first has the inputs, the second the outputs, the third how many bytes may be
 /// written.
-pub fn add_streams(answer: &mut Answer, input: &str) -> Result<(), Memory> {
+pub fn add_streams(answer: &mut Answer, input: &str) {
     let (first, input) = front(input);
     let (second, input) = front(input);
     let (third, lines) = front(input);
-    let inputs = inputs(answer.alloc(), first)?;
-    let outputs = outputs(answer.alloc(), second)?;
+    let inputs = inputs(&mut answer.growth, first);
+    let outputs = outputs(&mut answer.growth, second);
     let room = usize::from(word(third).get());
     match MemoryStreams::new(answer.alloc(), inputs, outputs, room) {
         Ok(mut streams) => add_acts(answer, &mut streams, lines),
@@ -126,18 +115,17 @@ pub fn add_streams(answer: &mut Answer, input: &str) -> Result<(), Memory> {
 }
 
 /// Does what each of these lines says, and adds what they answer.
-fn act_all(answer: &mut Answer, streams: &mut MemoryStreams, lines: &str) -> Result<(), Memory> {
+fn act_all(answer: &mut Answer, streams: &mut MemoryStreams, lines: &str) {
     for line in lines.lines() {
-        answer.say("\n")?;
-        act(answer, streams, line)?;
+        answer.say("\n");
+        act(answer, streams, line);
     }
-    Ok(())
 }
 
 /// Adds what streams answer to each of these lines, and what is written then.
-fn add_acts(answer: &mut Answer, streams: &mut MemoryStreams, lines: &str) -> Result<(), Memory> {
-    answer.say("made")?;
-    act_all(answer, streams, lines)?;
-    answer.say("\nwritten")?;
-    add_written(answer, streams)
+fn add_acts(answer: &mut Answer, streams: &mut MemoryStreams, lines: &str) {
+    answer.say("made");
+    act_all(answer, streams, lines);
+    answer.say("\nwritten");
+    add_written(answer, streams);
 }

@@ -1,7 +1,8 @@
 //! Inputs with each byte replaced by each other one in turn.
 
-use crate::answer::{Answer, Part};
+use crate::answer::Answer;
 use crate::escapes::expanded;
+use crate::growth::Growth;
 use crate::linking::text_of;
 use crate::number::{count, next, short};
 use bc_cert::{Judged, check};
@@ -9,7 +10,6 @@ use bc_lex::{Source, lex};
 use bc_library::{BLIB, LIBHDR};
 use bc_text::{TextError, read_all};
 use bc_text_items::Segment;
-use bc_word::Memory;
 use std::alloc::Global;
 
 /// How often each answer comes, and the sum of its places, or of segments and items.
@@ -86,8 +86,8 @@ fn try_texts_at(alloc: Global, tally: &mut Tally, bytes: &mut Vec<u8>, at: usize
 }
 
 /// Adds how the texts are answered that differ from this one in a byte.
-pub fn add_texts(answer: &mut Answer, input: &str) -> Result<(), Memory> {
-    let mut bytes = text_of(answer.alloc(), input)?;
+pub fn add_texts(answer: &mut Answer, input: &str) {
+    let mut bytes = text_of(&mut answer.growth, input);
     let mut tally = Tally {
         lawful: 0,
         segments: 0,
@@ -101,28 +101,24 @@ pub fn add_texts(answer: &mut Answer, input: &str) -> Result<(), Memory> {
     for at in 0..bytes.len() {
         try_texts_at(answer.alloc(), &mut tally, &mut bytes, at);
     }
-    add_tally(answer, &tally)
+    add_tally(answer, &tally);
 }
 
-fn add_tally(answer: &mut Answer, tally: &Tally) -> Result<(), Memory> {
-    answer.all(&[
-        Part::Number(tally.lawful),
-        Part::Text(" lawful, with "),
-        Part::Number(tally.segments),
-        Part::Text(" segments and "),
-        Part::Number(tally.items),
-        Part::Text(" items\n"),
-        Part::Number(tally.characters),
-        Part::Text(" BadCharacter, "),
-        Part::Number(tally.numbers),
-        Part::Text(" BadNumber, "),
-        Part::Number(tally.labels),
-        Part::Text(" MissingLabel, the sum of their places "),
-        Part::Number(tally.places),
-        Part::Text("\n"),
-        Part::Number(tally.unended),
-        Part::Text(" Unended"),
-    ])
+fn add_tally(answer: &mut Answer, tally: &Tally) {
+    answer.sentence(
+        "{} lawful, with {} segments and {} items\n",
+        &[tally.lawful, tally.segments, tally.items],
+    );
+    answer.sentence(
+        "{} BadCharacter, {} BadNumber, {} MissingLabel, the sum of their places {}\n{} Unended",
+        &[
+            tally.characters,
+            tally.numbers,
+            tally.labels,
+            tally.places,
+            tally.unended,
+        ],
+    );
 }
 
 /// The number of entries and the sum of their words.
@@ -174,17 +170,17 @@ fn count_accepted_at(alloc: Global, bytes: &mut Vec<u8>, at: usize, wanted: Sum)
 }
 
 /// Adds how many of the certificates that differ from this one in a byte are accepted with as many entries and words.
-fn add_accepted(answer: &mut Answer, bytes: &mut Vec<u8>, wanted: Sum) -> Result<(), Memory> {
+fn add_accepted(answer: &mut Answer, bytes: &mut Vec<u8>, wanted: Sum) {
     let mut accepted: u64 = 0;
     for at in 0..bytes.len() {
         accepted = accepted.wrapping_add(count_accepted_at(answer.alloc(), bytes, at, wanted));
     }
-    answer.all(&[Part::Number(accepted), Part::Text(" accepted")])
+    answer.sentence("{} accepted", &[accepted]);
 }
 
 /// The same, for the certificate that an input is.
-pub fn add_certificates(answer: &mut Answer, input: &str) -> Result<(), Memory> {
-    let mut bytes = expanded(answer.alloc(), input)?;
+pub fn add_certificates(answer: &mut Answer, input: &str) {
+    let mut bytes = expanded(&mut answer.growth, input);
     match verdict(answer.alloc(), bytes.as_slice()) {
         Some(wanted) => add_accepted(answer, &mut bytes, wanted),
         None => answer.say("refused"),
@@ -220,24 +216,25 @@ fn count_texts_at(alloc: Global, bytes: &mut Vec<u8>, at: usize) -> u64 {
 }
 
 /// How many of the texts have tokens that are BLIB with any byte at a place from one to another.
-fn count_texts(alloc: Global, from: usize, to: usize) -> Result<u64, Memory> {
-    let mut bytes = Vec::from_slice(alloc, BLIB.as_bytes())?;
+fn count_texts(growth: &mut Growth, from: usize, to: usize) -> u64 {
+    let bytes = Vec::from_slice(growth.alloc(), BLIB.as_bytes());
+    let mut bytes = growth.list(bytes);
     let mut accepted: u64 = 0;
     for at in from..to {
-        accepted = accepted.wrapping_add(count_texts_at(alloc, &mut bytes, at));
+        accepted = accepted.wrapping_add(count_texts_at(growth.alloc(), &mut bytes, at));
     }
-    Ok(accepted)
+    accepted
 }
 
 /// Adds whether over 10,000 of the texts have tokens that are BLIB with any byte at a place from one to another.
-pub fn add_sources(answer: &mut Answer, input: &str) -> Result<(), Memory> {
+pub fn add_sources(answer: &mut Answer, input: &str) {
     let mut places = input.split_whitespace();
     let from = usize::from(short(next(&mut places)));
     let to = usize::from(short(next(&mut places)));
-    let accepted = count_texts(answer.alloc(), from, to)?;
+    let accepted = count_texts(&mut answer.growth, from, to);
     if accepted > 10_000 {
-        answer.say("over 10000 have tokens")
+        answer.say("over 10000 have tokens");
     } else {
-        answer.all(&[Part::Number(accepted), Part::Text(" have tokens")])
+        answer.sentence("{} have tokens", &[accepted]);
     }
 }

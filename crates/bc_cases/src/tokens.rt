@@ -1,5 +1,5 @@
-use crate::answer::{Answer, Part};
-use crate::growth::pushed;
+use crate::answer::Answer;
+use crate::growth::Growth;
 use crate::number::count;
 use crate::sources::sources_of;
 use crate::trees::{OfTree, add_closed, add_of_tree};
@@ -8,7 +8,6 @@ use bc_lex_tokens::{Token, TokenKind};
 use bc_library::{BLIB, LIBHDR};
 use bc_parse_spell::render;
 use bc_show::{ShownKind, ShownToken};
-use bc_word::Memory;
 use std::alloc::Global;
 
 /// What is answered of the tokens of a source.
@@ -41,7 +40,7 @@ fn tokens_of<'s>(
     }
 }
 
-fn add_told(answer: &mut Answer, reading: Reading, tokens: &[Token<'_>]) -> Result<(), Memory> {
+fn add_told(answer: &mut Answer, reading: Reading, tokens: &[Token<'_>]) {
     match reading {
         Reading::All => add_lines(answer, tokens),
         Reading::Kinds => add_kinds(answer, tokens),
@@ -53,12 +52,7 @@ fn add_told(answer: &mut Answer, reading: Reading, tokens: &[Token<'_>]) -> Resu
 }
 
 /// Adds what is answered of the tokens of a source, or their fault.
-fn add_of_source(
-    answer: &mut Answer,
-    reading: Reading,
-    sources: &[Source<'_>],
-    main: usize,
-) -> Result<(), Memory> {
+fn add_of_source(answer: &mut Answer, reading: Reading, sources: &[Source<'_>], main: usize) {
     match tokens_of(answer.alloc(), sources, main) {
         Ok(tokens) => add_told(answer, reading, tokens.as_slice()),
         Err(fault) => answer.name(&fault),
@@ -66,36 +60,34 @@ fn add_of_source(
 }
 
 /// Adds what is answered of the tokens of the sources of a case, or their fault.
-pub fn add_read(answer: &mut Answer, reading: Reading, input: &str) -> Result<(), Memory> {
-    let given = sources_of(answer.alloc(), input)?;
-    let sources = given.all(answer.alloc())?;
-    add_of_source(answer, reading, sources.as_slice(), given.main)
+pub fn add_read(answer: &mut Answer, reading: Reading, input: &str) {
+    let given = sources_of(&mut answer.growth, input);
+    let sources = given.all(&mut answer.growth);
+    add_of_source(answer, reading, sources.as_slice(), given.main);
 }
 
-fn add_line(answer: &mut Answer, token: &Token<'_>) -> Result<(), Memory> {
+fn add_line(answer: &mut Answer, token: &Token<'_>) {
     let token = ShownToken(token);
-    answer.go_on("\n")?;
-    answer.show(&token)
+    answer.go_on("\n");
+    answer.show(&token);
 }
 
-fn add_lines(answer: &mut Answer, tokens: &[Token<'_>]) -> Result<(), Memory> {
+fn add_lines(answer: &mut Answer, tokens: &[Token<'_>]) {
     for token in tokens {
-        add_line(answer, token)?;
+        add_line(answer, token);
     }
-    Ok(())
 }
 
-fn add_kind(answer: &mut Answer, kind: &TokenKind<'_>) -> Result<(), Memory> {
+fn add_kind(answer: &mut Answer, kind: &TokenKind<'_>) {
     let kind = ShownKind(kind);
-    answer.go_on(" ")?;
-    answer.show(&kind)
+    answer.go_on(" ");
+    answer.show(&kind);
 }
 
-fn add_kinds(answer: &mut Answer, tokens: &[Token<'_>]) -> Result<(), Memory> {
+fn add_kinds(answer: &mut Answer, tokens: &[Token<'_>]) {
     for token in tokens {
-        add_kind(answer, &token.kind)?;
+        add_kind(answer, &token.kind);
     }
-    Ok(())
 }
 
 /// How many tokens there are of each kind.
@@ -120,7 +112,7 @@ impl Counts {
     }
 }
 
-fn add_counts(answer: &mut Answer, tokens: &[Token<'_>]) -> Result<(), Memory> {
+fn add_counts(answer: &mut Answer, tokens: &[Token<'_>]) {
     let mut counts = Counts {
         names: 0,
         numbers: 0,
@@ -130,33 +122,28 @@ fn add_counts(answer: &mut Answer, tokens: &[Token<'_>]) -> Result<(), Memory> {
     for token in tokens {
         counts.add(&token.kind);
     }
-    add_all_counts(answer, &counts, tokens.len())
+    add_all_counts(answer, &counts, tokens.len());
 }
 
-fn add_all_counts(answer: &mut Answer, counts: &Counts, all: usize) -> Result<(), Memory> {
-    answer.all(&[
-        Part::Number(all as u64),
-        Part::Text(" tokens: "),
-        Part::Number(counts.names),
-        Part::Text(" names, "),
-        Part::Number(counts.numbers),
-        Part::Text(" numbers, "),
-        Part::Number(counts.characters),
-        Part::Text(" characters, "),
-        Part::Number(counts.strings),
-        Part::Text(" strings"),
-    ])
+fn add_all_counts(answer: &mut Answer, counts: &Counts, all: usize) {
+    answer.sentence(
+        "{} tokens: {} names, {} numbers, {} characters, {} strings",
+        &[
+            all as u64,
+            counts.names,
+            counts.numbers,
+            counts.characters,
+            counts.strings,
+        ],
+    );
 }
 
 /// Adds how many bytes the library has.
-pub fn add_library(answer: &mut Answer) -> Result<(), Memory> {
-    answer.all(&[
-        Part::Text("LIBHDR "),
-        Part::Number(LIBHDR.len() as u64),
-        Part::Text(" bytes, BLIB "),
-        Part::Number(BLIB.len() as u64),
-        Part::Text(" bytes"),
-    ])
+pub fn add_library(answer: &mut Answer) {
+    answer.sentence(
+        "LIBHDR {} bytes, BLIB {} bytes",
+        &[LIBHDR.len() as u64, BLIB.len() as u64],
+    );
 }
 
 /// The kind of the first of these tokens.
@@ -186,20 +173,20 @@ fn compared(first: Option<TokenKind<'_>>, second: Option<TokenKind<'_>>) -> &'st
 }
 
 /// Adds whether the first tokens of two sources are of one kind.
-pub fn add_alike(answer: &mut Answer, input: &str) -> Result<(), Memory> {
-    let given = sources_of(answer.alloc(), input)?;
-    let sources = given.all(answer.alloc())?;
+pub fn add_alike(answer: &mut Answer, input: &str) {
+    let given = sources_of(&mut answer.growth, input);
+    let sources = given.all(&mut answer.growth);
     let first = first_kind(answer.alloc(), sources.as_slice(), 0);
     let second = first_kind(answer.alloc(), sources.as_slice(), 1);
-    answer.say(compared(first, second))
+    answer.say(compared(first, second));
 }
 
-fn kinds_of<'s>(alloc: Global, tokens: &[Token<'s>]) -> Result<Vec<TokenKind<'s>>, Memory> {
-    let mut kinds = Vec::new(alloc);
+fn kinds_of<'s>(growth: &mut Growth, tokens: &[Token<'s>]) -> Vec<TokenKind<'s>> {
+    let mut kinds = Vec::new(growth.alloc());
     for token in tokens {
-        pushed(&mut kinds, token.kind)?;
+        growth.push(&mut kinds, token.kind);
     }
-    Ok(kinds)
+    kinds
 }
 
 /// Whether tokens are of these kinds, with no line break.
@@ -216,21 +203,16 @@ fn has_kinds(tokens: &[Token<'_>], kinds: &[TokenKind<'_>]) -> bool {
 }
 
 /// Adds a text, where it has these tokens.
-fn add_same(
-    answer: &mut Answer,
-    text: &[u8],
-    tokens: &[Token<'_>],
-    kinds: &[TokenKind<'_>],
-) -> Result<(), Memory> {
+fn add_same(answer: &mut Answer, text: &[u8], tokens: &[Token<'_>], kinds: &[TokenKind<'_>]) {
     if has_kinds(tokens, kinds) {
-        answer.bytes(text)
+        answer.bytes(text);
     } else {
-        answer.say("other tokens")
+        answer.say("other tokens");
     }
 }
 
 /// Adds a text, where it is read as tokens of these kinds.
-fn add_read_again(answer: &mut Answer, text: &[u8], kinds: &[TokenKind<'_>]) -> Result<(), Memory> {
+fn add_read_again(answer: &mut Answer, text: &[u8], kinds: &[TokenKind<'_>]) {
     let source = Source { name: b"A", text };
     match lex(answer.alloc(), &[source], 0) {
         Ok(tokens) => add_same(answer, text, tokens.as_slice(), kinds),
@@ -238,8 +220,9 @@ fn add_read_again(answer: &mut Answer, text: &[u8], kinds: &[TokenKind<'_>]) -> 
     }
 }
 
-fn add_rendered(answer: &mut Answer, tokens: &[Token<'_>]) -> Result<(), Memory> {
-    let kinds = kinds_of(answer.alloc(), tokens)?;
-    let text = render(answer.alloc(), kinds.as_slice())?;
-    add_read_again(answer, text.as_slice(), kinds.as_slice())
+fn add_rendered(answer: &mut Answer, tokens: &[Token<'_>]) {
+    let kinds = kinds_of(&mut answer.growth, tokens);
+    let text = render(answer.alloc(), kinds.as_slice());
+    let text = answer.growth.list(text);
+    add_read_again(answer, text.as_slice(), kinds.as_slice());
 }
