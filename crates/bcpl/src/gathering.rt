@@ -139,20 +139,21 @@ fn paths_of<'a>(
     Ok(paths)
 }
 
-/// The sources of a program as the compiler takes them, their paths, and which of them become a segment each.
+/// The sources of a program as the compiler takes them, and which of them become a segment each.
 #[derive(Drop)]
 pub struct Gathered<'a, 's> {
-    pub sources: Vec<Source<'s>>,
-    pub paths: Vec<&'a str>,
+    sources: Vec<Source<'s>>,
+    /// The path of each source, in their order.
+    paths: Vec<&'a str>,
     /// The indexes of the mains.
-    pub mains: Vec<usize>,
+    mains: Vec<usize>,
     /// How many of the first sources are those of the library.
     pub library: usize,
     ghost within: { All (λ main. main < vec_len sources) mains.items },
 }
 
 impl<'a, 's> Gathered<'a, 's> {
-    /// The program of the library and of what the words name, which was read from these files.
+    /// The program of the library and of what the words name, of which these are the files.
     pub fn new(
         alloc: Global,
         given: &Sources<'a>,

@@ -33,6 +33,7 @@ struct Shown<'a, 's> {
     mains: &'a [usize],
     /// Whether the place of a refusal is told.
     shows: bool,
+    ghost within: { All (λ index. index < length files.sources.now) mains.now },
 }
 
 impl<'a, 's> Shown<'a, 's> {
@@ -90,9 +91,7 @@ impl<'a, 's> Shown<'a, 's> {
     }
 
     /// The program of the library and the source.
-    fn built(&self, alloc: Global) -> Result<Built, Failure>
-        requires { All (λ main. main < length self.now.files.sources.now) self.now.mains.now }
-    {
+    fn built(&self, alloc: Global) -> Result<Built, Failure> {
         match build(alloc, self.files.sources, self.mains) {
             Ok(built) => Ok(built),
             Err(fault) => Err(self.refused(alloc, self.mains, fault)),
@@ -100,9 +99,7 @@ impl<'a, 's> Shown<'a, 's> {
     }
 
     /// The listing of scopes or code of a source that is built.
-    fn built_listing(&self, alloc: Global, listing: Listing) -> Result<Vec<u8>, Failure>
-        requires { All (λ main. main < length self.now.files.sources.now) self.now.mains.now }
-    {
+    fn built_listing(&self, alloc: Global, listing: Listing) -> Result<Vec<u8>, Failure> {
         let built = self.built(alloc)?;
         let tokens = self.tokens(alloc)?;
         let section = match parse(alloc, tokens.as_slice()) {
