@@ -1,156 +1,27 @@
 //! The command `build`.
 
-ghost use Rattle.std.specs.Prelude.{◌<◌, ◌≡◌, All, IfOk, map};
+ghost use Rattle.std.specs.Prelude.{◌≡◌, IfOk, map};
 ghost use Rattle.std.specs.List.{AllZip};
 ghost use Rattle.bc_rules_defs.specs.View.{entry as entry_view};
 ghost use Rattle.bc_cert_write.specs.Workings.{WorkedOut};
 ghost use Rattle.bcpl_faults.specs.declared.failure.Cause.TheVariants as causes;
 
 use crate::explaining::{Program, explained, warnings_of};
+use crate::gathering::{Gathered, sources_of};
 use crate::ignored::ignored_gets;
 use crate::output::of_output;
 use bc_build::{BuildError, Built, build};
 use bc_cert::{CertFault, write_worked};
-use bc_lex::Source;
-use bc_library_ext::{EXTHDR, EXTLIB};
-use bc_run::{BLIB, LIBHDR};
 use bc_text::{TextError, print};
 use bc_text_items::Segment;
 use bcpl_faults::{Cause, Failure};
-use bcpl_files::{Written, contents, is_one_file};
-use bcpl_messages::Named;
-use bcpl_words::{BuildOrder, Library, Sources};
+use bcpl_files::{Written, is_one_file};
+use bcpl_words::BuildOrder;
 use std::alloc::{AllocError, Global};
 use std::io;
 use std::io::Write;
 use std::mem::forget;
 use std::rt::Files;
-
-/// How many sources stand in front of those of the command line: LIBHDR and BLIB, of which the second becomes a segment.
-const BASIC_SOURCES: usize = 2;
-
-/// How many they are with the further library: EXTHDR and EXTLIB, too, of which the second becomes a segment.
-const FURTHER_SOURCES: usize = 4;
-
-/// How many sources a library has.
-pub fn library_sources(library: Library) -> usize {
-    match library {
-        Library::Basic => BASIC_SOURCES,
-        Library::Further => FURTHER_SOURCES,
-    }
-}
-
-/// A source that was read from a file.
-#[derive(Drop)]
-pub struct Loaded {
-    /// The name that GET knows it by.
-    name: Vec<u8>,
-    /// Its bytes.
-    text: Vec<u8>,
-}
-
-/// The source of this name in the file of this path.
-fn source_of<F: Files>(rt: &F, alloc: Global, name: &str, path: &str) -> Result<Loaded, Failure> {
-    let text = contents(rt, alloc, path)?;
-    let name = Vec::from_slice(alloc, name.as_bytes())?;
-    Ok(Loaded { name, text })
-}
-
-/// The sources in the files that the words name: those of `--get` first.
-pub fn sources_of<F: Files>(
-    rt: &F,
-    alloc: Global,
-    given: &Sources<'_>,
-) -> Result<Vec<Loaded>, Failure> {
-    let mut sources = Vec::new(alloc);
-    for binding in &given.gets {
-        sources.push(source_of(rt, alloc, binding.name, binding.path)?)?;
-    }
-    for path in &given.files {
-        sources.push(source_of(rt, alloc, path, path)?)?;
-    }
-    Ok(sources)
-}
-
-/// The indexes of the sources that become a segment each, of which there are this many: the library's routines, and what stands
-/// behind the library and the files of `--get`.
-pub fn mains_of(
-    alloc: Global,
-    library: usize,
-    gets: usize,
-    sources: usize,
-) -> Result<Vec<usize>, Failure>
-    ensures { IfOk result (λ mains. All (λ main. main < sources) mains.items) }
-{
-    let mut mains = Vec::new(alloc);
-    for source in 1..sources {
-        let is_main = if source < library {
-            source % 2 == 1
-        } else {
-            source - library >= gets
-        };
-        if is_main {
-            mains.push(source)?;
-        }
-    }
-    Ok(mains)
-}
-
-/// The sources of a program, as the compiler takes them: those of the library, then these.
-pub fn given_to_compiler<'s>(
-    alloc: Global,
-    library: usize,
-    files: &'s [Loaded],
-) -> Result<Vec<Source<'s>>, Failure> {
-    let mut sources = Vec::new(alloc);
-    sources.push(Source {
-        name: b"LIBHDR",
-        text: LIBHDR.as_bytes(),
-    })?;
-    sources.push(Source {
-        name: b"BLIB",
-        text: BLIB.as_bytes(),
-    })?;
-    if library > BASIC_SOURCES {
-        sources.push(Source {
-            name: b"EXTHDR",
-            text: EXTHDR.as_bytes(),
-        })?;
-        sources.push(Source {
-            name: b"EXTLIB",
-            text: EXTLIB.as_bytes(),
-        })?;
-    }
-    for file in files {
-        sources.push(Source {
-            name: file.name.as_slice(),
-            text: file.text.as_slice(),
-        })?;
-    }
-    Ok(sources)
-}
-
-/// The paths under which sources are told, in the order of `given_to_compiler`.
-pub fn paths_of<'a>(
-    alloc: Global,
-    library: usize,
-    given: &Sources<'a>,
-) -> Result<Vec<&'a str>, Failure> {
-    let mut paths = Vec::new(alloc);
-    paths.push("LIBHDR")?;
-    paths.push("BLIB")?;
-    if library > BASIC_SOURCES {
-        paths.push("EXTHDR")?;
-        paths.push("EXTLIB")?;
-    }
-    for binding in &given.gets {
-        paths.push(binding.path)?;
-    }
-    for path in &given.files {
-        paths.push(path)?;
-    }
-    Ok(paths)
-}
 
 /// The failure of a build that was refused for this fault, with what is told of it and of the mains behind. `shows` says whether anything is.
 pub fn refused(alloc: Global, program: &Program<'_, '_>, fault: BuildError, shows: bool) -> Failure
@@ -178,23 +49,14 @@ fn built<F: Files>(
 {
     let given = &order.sources;
     let files = sources_of(rt, alloc, given)?;
-    let library = library_sources(given.library);
-    let sources = given_to_compiler(alloc, library, files.as_slice())?;
-    let paths = paths_of(alloc, library, given)?;
-    let mains = mains_of(alloc, library, given.gets.len(), sources.len())?;
-    let program = Program {
-        named: Named {
-            sources: sources.as_slice(),
-            paths: paths.as_slice(),
-        },
-        mains: mains.as_slice(),
-    };
-    match build(alloc, sources.as_slice(), mains.as_slice()) {
+    let gathered = Gathered::new(alloc, given, files.as_slice())?;
+    let program = gathered.program();
+    match build(alloc, program.named.sources, program.mains) {
         Ok(built) => {
             let mut warnings = String::new(alloc);
             if order.warns && shows {
                 warnings = ignored_gets(alloc, given)?;
-                warnings.push_str(warnings_of(alloc, library, &program)?.as_str())?;
+                warnings.push_str(warnings_of(alloc, gathered.library, &program)?.as_str())?;
             }
             Ok((built, warnings))
         }

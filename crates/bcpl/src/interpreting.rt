@@ -3,9 +3,9 @@
 ghost use Rattle.std.specs.Prelude.{◌<◌, length, All};
 
 use crate::commands::{inputs, outputs};
-use crate::compiling::{given_to_compiler, library_sources, mains_of, paths_of, sources_of};
 use crate::devices::{Sink as Output, Source as Input};
 use crate::explaining::{Program, explained};
+use crate::gathering::{Gathered, sources_of};
 use crate::output::unfinished;
 use crate::sparing::spare_files;
 use bc_build::{Built, build};
@@ -16,7 +16,7 @@ use bc_machine::FileStreams;
 use bc_machine_defs::End;
 use bc_word::Memory;
 use bcpl_faults::{Cause, Failure, Wild};
-use bcpl_messages::{Message, Named, told_lines};
+use bcpl_messages::{Message, told_lines};
 use bcpl_wild::{Met, Stand, placed_message, wild_message};
 use bcpl_words::InterpretOrder;
 use std::alloc::Global;
@@ -40,19 +40,9 @@ pub fn interpret_files<F: Files, R: Read + Drop, O: Write + Drop>(
     standards: Standards<R, O>,
     shows: bool,
 ) -> Result<(), Failure> {
-    let given = &order.sources;
-    let files = sources_of(rt, alloc, given)?;
-    let library = library_sources(given.library);
-    let sources = given_to_compiler(alloc, library, files.as_slice())?;
-    let paths = paths_of(alloc, library, given)?;
-    let mains = mains_of(alloc, library, given.gets.len(), sources.len())?;
-    let program = Program {
-        named: Named {
-            sources: sources.as_slice(),
-            paths: paths.as_slice(),
-        },
-        mains: mains.as_slice(),
-    };
+    let files = sources_of(rt, alloc, &order.sources)?;
+    let gathered = Gathered::new(alloc, &order.sources, files.as_slice())?;
+    let program = gathered.program();
     match interpretation_of(rt, alloc, order, standards, &program) {
         Ok(run) => came_to(alloc, &program, &run),
         Err(failure) if shows => Err(told_of_refusal(alloc, &program, failure)?),

@@ -6,6 +6,7 @@ mod commands;
 mod compiling;
 mod devices;
 mod explaining;
+mod gathering;
 mod hinting;
 mod ignored;
 mod interpreting;

@@ -1,9 +1,7 @@
 //! The command `explain`.
 
-use crate::compiling::{
-    given_to_compiler, library_sources, mains_of, paths_of, refused, sources_of, spare,
-};
-use crate::explaining::Program;
+use crate::compiling::{refused, spare};
+use crate::gathering::{Gathered, sources_of};
 use crate::output::{of_output, print_all};
 use bc_build::{Built, build};
 use bc_cert::{check_sums, write_cert};
@@ -15,7 +13,6 @@ use bc_word::Memory;
 use bcpl_explain::{Checked, explanation};
 use bcpl_faults::{Cause, Failure};
 use bcpl_files::Written;
-use bcpl_messages::Named;
 use bcpl_show::Files;
 use bcpl_words::ExplainOrder;
 use std::alloc::Global;
@@ -137,30 +134,19 @@ fn reported<F: Access>(
 ) -> Result<Vec<u8>, Failure> {
     let given = &order.sources;
     let loaded = sources_of(rt, alloc, given)?;
-    let library = library_sources(given.library);
-    let sources = given_to_compiler(alloc, library, loaded.as_slice())?;
-    let paths = paths_of(alloc, library, given)?;
-    let mains = mains_of(alloc, library, given.gets.len(), sources.len())?;
-    match build(alloc, sources.as_slice(), mains.as_slice()) {
+    let gathered = Gathered::new(alloc, given, loaded.as_slice())?;
+    let program = gathered.program();
+    match build(alloc, program.named.sources, program.mains) {
         Ok(built) => {
             let files = Files {
-                sources: sources.as_slice(),
-                paths: paths.as_slice(),
-                library,
+                sources: program.named.sources,
+                paths: program.named.paths,
+                library: gathered.library,
             };
-            let behind = library.saturating_add(given.gets.len());
-            report_on(alloc, files, mains.as_slice(), &built, behind)
+            let behind = gathered.library.saturating_add(given.gets.len());
+            report_on(alloc, files, program.mains, &built, behind)
         }
-        Err(fault) => {
-            let program = Program {
-                named: Named {
-                    sources: sources.as_slice(),
-                    paths: paths.as_slice(),
-                },
-                mains: mains.as_slice(),
-            };
-            Err(refused(alloc, &program, fault, shows))
-        }
+        Err(fault) => Err(refused(alloc, &program, fault, shows)),
     }
 }
 

@@ -1,16 +1,15 @@
 //! The command `show`.
 
-ghost use Rattle.std.specs.Prelude.{◌≤◌, length, IfOk};
+ghost use Rattle.std.specs.Prelude.{◌≤◌, ◌<◌, length, All, IfOk};
 ghost use Rattle.bc_lex_tokens.specs.Token.{lexemes_of};
 
-use crate::compiling::{
-    given_to_compiler, library_sources, mains_of, paths_of, refused, sources_of,
-};
+use crate::compiling::refused;
 use crate::explaining::Program;
+use crate::gathering::{Gathered, sources_of};
 use crate::output::{of_output, print_all};
 use crate::reporting::entries_of;
 use bc_build::{BuildError, Built, build};
-use bc_lex::{Source, Token, lex};
+use bc_lex::{Token, lex};
 use bc_parse::{ParseError, Section, parse, spell};
 use bc_run::primitives;
 use bc_scope::{Core, resolve};
@@ -30,11 +29,11 @@ struct Shown<'a, 's> {
     files: Files<'a, 's>,
     /// The index of the source.
     main: usize,
-    /// How many sources the library has, and how many files of `--get` stand behind it.
-    library: usize,
-    gets: usize,
+    /// The indexes of the mains of its program.
+    mains: &'a [usize],
     /// Whether the place of a refusal is told.
     shows: bool,
+    ghost within: { All (λ index. index < length files.sources.now) mains.now },
 }
 
 impl<'a, 's> Shown<'a, 's> {
@@ -93,11 +92,9 @@ impl<'a, 's> Shown<'a, 's> {
 
     /// The program of the library and the source.
     fn built(&self, alloc: Global) -> Result<Built, Failure> {
-        let sources = self.files.sources;
-        let mains = mains_of(alloc, self.library, self.gets, sources.len())?;
-        match build(alloc, sources, mains.as_slice()) {
+        match build(alloc, self.files.sources, self.mains) {
             Ok(built) => Ok(built),
-            Err(fault) => Err(self.refused(alloc, mains.as_slice(), fault)),
+            Err(fault) => Err(self.refused(alloc, self.mains, fault)),
         }
     }
 
@@ -215,39 +212,28 @@ fn first_of(built: &Built) -> [u64; 3] {
     ]
 }
 
-/// What the words ask for beside the sources.
-#[derive(Clone, Copy)]
-struct Asked {
-    /// How many sources the library has, and how many files of `--get` stand behind it.
-    library: usize,
-    gets: usize,
-    listing: Listing,
-    /// Whether the place of a refusal is told.
-    shows: bool,
-}
-
-/// The listing of the last of these sources, which stand under these paths.
+/// The listing of the last of the sources that were gathered. `shows` says whether the place of a refusal is told.
 fn listed(
     alloc: Global,
-    sources: &[Source<'_>],
-    paths: &[&str],
-    asked: Asked,
+    gathered: &Gathered<'_, '_>,
+    listing: Listing,
+    shows: bool,
 ) -> Result<Vec<u8>, Failure> {
+    let program = gathered.program();
     let shown = Shown {
         files: Files {
-            sources,
-            paths,
-            library: asked.library,
+            sources: program.named.sources,
+            paths: program.named.paths,
+            library: gathered.library,
         },
-        main: sources.len().saturating_sub(1),
-        library: asked.library,
-        gets: asked.gets,
-        shows: asked.shows,
+        main: program.named.sources.len().saturating_sub(1),
+        mains: program.mains,
+        shows,
     };
-    match asked.listing {
+    match listing {
         Listing::Tokens => shown.token_listing(alloc),
         Listing::Tree => shown.tree_listing(alloc),
-        Listing::Scopes | Listing::Code => shown.built_listing(alloc, asked.listing),
+        Listing::Scopes | Listing::Code => shown.built_listing(alloc, listing),
     }
 }
 
@@ -259,17 +245,9 @@ fn listing_of<F: Access>(
     listing: Listing,
     shows: bool,
 ) -> Result<Vec<u8>, Failure> {
-    let library = library_sources(given.library);
     let loaded = sources_of(rt, alloc, given)?;
-    let sources = given_to_compiler(alloc, library, loaded.as_slice())?;
-    let paths = paths_of(alloc, library, given)?;
-    let asked = Asked {
-        library,
-        gets: given.gets.len(),
-        listing,
-        shows,
-    };
-    listed(alloc, sources.as_slice(), paths.as_slice(), asked)
+    let gathered = Gathered::new(alloc, given, loaded.as_slice())?;
+    listed(alloc, &gathered, listing, shows)
 }
 
 /// Does what `show` asks for. `shows` says whether the place of a refusal is told.
