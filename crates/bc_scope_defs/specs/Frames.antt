@@ -21,14 +21,6 @@ known_behind_all E ds = in_declarations E section_start 0 ds
 abbrev pub held : Env → Exp → (s : ℕ) → ℕ
 held E x s = cond (is_operand_kind (kinds E x).address) 0 (s + 2)
 
-abbrev pub all_held : Env → Exps → (s : ℕ) → List ℕ
-all_held E none s = []
-all_held E (more x xs) s = held E x s ∷ all_held E xs s
-
-abbrev pub widest : (held addresses values : List ℕ) → ℕ
-widest (h ∷ hs) (x ∷ xs) (e ∷ es) = max (max h (max e x)) (widest hs xs es)
-widest _ _ _ = 0
-
 -- an operator at level s may hold a value at s and one at s + 1, a call at s holds its links and n arguments
 abbrev mutual
   pub width : Env → Exp → (s : ℕ) → ℕ
@@ -44,8 +36,13 @@ abbrev mutual
   width_of_all E none s step = 0
   width_of_all E (more e es) s step = max (width E e s) (width_of_all E es (s + step) step)
 
-  pub widths : Env → Exps → List ℕ → List ℕ
-  widths E (more e es) (s ∷ ss) = width E e s ∷ widths E es ss
+  -- the pairs of an assignment at level s, each of an address and of the width of its value, which stand at a level of the pair's own
+  pub width_of_pairs : Env → Exps → (values : List ℕ) → (s : ℕ) → (levels : List ℕ) → ℕ
+  width_of_pairs E (more x xs) (w ∷ ws) s (k ∷ ks) = max (max (held E x s) (max w (width E x k))) (width_of_pairs E xs ws s ks)
+  width_of_pairs E _ _ s _ = 0
+
+  pub widths : Env → Exps → (levels : List ℕ) → List ℕ
+  widths E (more e es) (k ∷ ks) = width E e k ∷ widths E es ks
   widths E _ _ = []
 
   -- a routine in it has a frame of its own
@@ -77,7 +74,7 @@ abbrev mutual
   width_of_items E (item (Labels_alone ls) is) s = width_of_items E is s
 
   pub width_of_command : Env → Command → (s : ℕ) → ℕ
-  width_of_command E (tree.Assign xs es) s = let ss = side_levels E xs s in widest (all_held E xs s) (widths E xs ss) (widths E es ss)
+  width_of_command E (tree.Assign xs es) s = let ks = side_levels E xs s in width_of_pairs E xs (widths E es ks) s ks
   width_of_command E (tree.Do f es) s =
       max (s + 2 + count es) (max (width_of_all E es (argument_level s) 1) (width E f (routine_level s (count es))))
   width_of_command E (tree.Compound b) s = width_of_block E b s

@@ -8,7 +8,16 @@ use Rattle.bc_scope_defs.specs.Numbering.{behind, behind_all, behind_declaration
 use Rattle.bc_scope_defs.specs.Scoping.{count, cells_of_all, before_let, in_let, in_declaration, in_declarations, cells_in, level_behind, in_for, in_list, in_valof}
 use Rattle.bc_scope_defs.specs.Sides.{side_levels}
 use Rattle.bc_scope_defs.specs.Found.{FoundRoutine, RoutineBody, Gives, Does}
-use Rattle.bc_scope_defs.specs.Frames.{all_held, widest}
+use Rattle.bc_scope_defs.specs.Frames.{held}
+
+abbrev pub all_held : Env → Exps → (s : ℕ) → List ℕ
+all_held E none s = []
+all_held E (more x xs) s = held E x s ∷ all_held E xs s
+
+-- the greatest of what the pairs of an assignment take: what is held of an address, and the widths of both sides
+abbrev pub widest : (held addresses values : List ℕ) → ℕ
+widest (h ∷ hs) (x ∷ xs) (e ∷ es) = max (max h (max e x)) (widest hs xs es)
+widest _ _ _ = 0
 
 abbrev mutual
   pub width : Env → Numbers → Exp → (s : ℕ) → ℕ

@@ -1,7 +1,7 @@
 -- The widest pair of lists of which one is at its end.
 use Rattle.std.proofs.Common.{◌≡◌, ℕ, ◌≤◌, refl, ap, ◌∙◌, List, [], ◌∷◌, length, drop}
 use Rattle.std.proofs.lemmas.List.{drop_all}
-use Rattle.bc_scope_defs.specs.Frames.{widest}
+use Rattle.bc_scope_defs.specs.FramesAlong.{widest}
 
 no_place : (hs es : List ℕ) → widest hs [] es ≡ 0
 no_place [] es = refl

@@ -8,7 +8,7 @@ use Rattle.bc_scope_defs.specs.Numbering.{labels_in, behind, behind_all, behind_
 use Rattle.bc_scope_defs.specs.Scoping.{count, before_let, in_let, cells_of_all, in_entries, in_declaration, in_declarations, cells_in, level_behind, in_for, in_list}
 use Rattle.bc_scope_defs.specs.Sides.{side_levels}
 use Rattle.bc_scope_defs.specs.Found.{Thing, Gives, Does, routine, in_parameters, found, found_in_arguments, found_in_sides, found_in_initials, found_in_entries, found_in_definition, found_in_definitions, found_in_declaration, found_in_declarations, found_in_block, found_in_items, found_in_command}
-use Rattle.bc_scope_defs.specs.Frames.{all_held, widest}
+use Rattle.bc_scope_defs.specs.FramesAlong.{all_held, widest}
 use Rattle.bc_scope_defs.specs.FramesAlong.{width, widths, width_of_arguments, width_of_initials, width_of_definition, width_of_definitions, width_of_declaration, width_of_declarations, width_of_block, width_of_items, width_of_command}
 use Rattle.bc_scope_defs.specs.Faults.{Fault, ANotAssignable, Allowed, Met, or_else, unless, none_met, in_a_loop, in_a_switch, allowed_in_routine, all_have_cells, not_constant, all_twice_fault}
 use Rattle.bc_scope_defs.specs.FaultsAlong.{fault, arguments_fault, sides_fault, initials_fault, entries_fault, definition_fault, definitions_fault, declaration_fault, declarations_fault, block_fault, labels_fault, items_fault, command_fault}

@@ -1,7 +1,7 @@
 //! The faults that a part has by itself.
 ghost use Rattle.std.specs.Prelude.{◌≡◌, true, None, length, drop, [], ◌∷◌, ◌++◌, IfOk};
 ghost use Rattle.bc_parse_tree.specs.View.{exp_view, exps_view};
-ghost use Rattle.bc_scope_defs.specs.Frames.{all_held, widest};
+ghost use Rattle.bc_scope_defs.specs.FramesAlong.{all_held, widest};
 ghost use Rattle.bc_scope_defs.specs.Faults.{AMisplaced, unless, allowed_in_routine, allowed_in_valof, in_a_loop, in_a_switch, name_fault, jump_fault, is_cell, has_cell, is_label, names_label, has_address, address_fault, all_have_cells, twice_fault, all_twice_fault, none_met, case_fault, default_fault, entry_fault};
 ghost use Rattle.bc_scope_names.specs.View.{meant_view, scope_view};
 ghost use Rattle.bc_core.specs.Level.{level_behind_parameters};

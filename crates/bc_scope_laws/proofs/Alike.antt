@@ -13,7 +13,7 @@ use Rattle.bc_scope_defs.specs.Numbering.{behind_entry, behind_declaration, behi
 use Rattle.bc_scope_defs.specs.Scoping.{operator, constant, constant_in, constant_name, constant_monadic, constant_dyadic, or_zero, any_numbers, pending, own_names, meant_as, in_entry, in_entries, cells_of, cells_of_all, variables, routine_name, in_definition, in_definitions, before_let, in_let, in_declaration, in_declarations, cells_in, level_behind, in_for, in_label, in_labels, in_item, in_list, around_routine, around_valof, seen_through, in_routine, in_valof}
 use Rattle.bc_scope_defs.specs.Sides.{kinds_of_name, kinds_of_monadic, kinds_of_dyadic, kinds, is_operand_kind, side_levels}
 use Rattle.bc_scope_defs.specs.Found.{in_parameters}
-use Rattle.bc_scope_defs.specs.Frames.{all_held}
+use Rattle.bc_scope_defs.specs.Frames.{held}
 use Rattle.bc_scope_defs.specs.Faults.{ANotConstant, ANotAssignable, AGlobalNumber, unless, name_fault, jump_fault, not_constant, is_cell, has_cell, is_label, names_label, address_fault, all_have_cells, Met, met_label, met_labels, entry_fault}
 use Rattle.bc_scope_laws.specs.Laws.{without_number, without_numbers}
 
@@ -211,9 +211,8 @@ pub same_side_levels : {E F : Env} (xs : tree.Exps) (s : ℕ) → Alike E F → 
 same_side_levels tree.none s h = refl
 same_side_levels (tree.more x xs) s h = λ i. cond (is_operand_kind (same_kinds x h i).address) s (s + 1) ∷ same_side_levels xs s h i
 
-pub same_held : {E F : Env} (xs : tree.Exps) (s : ℕ) → Alike E F → all_held E xs s ≡ all_held F xs s
-same_held tree.none s h = refl
-same_held (tree.more x xs) s h = λ i. cond (is_operand_kind (same_kinds x h i).address) 0 (s + 2) ∷ same_held xs s h i
+pub same_held : {E F : Env} (x : tree.Exp) (s : ℕ) → Alike E F → held E x s ≡ held F x s
+same_held x s h = λ i. cond (is_operand_kind (same_kinds x h i).address) 0 (s + 2)
 
 -- Names that are declared
 

@@ -7,7 +7,7 @@ use Rattle.bc_scope_defs.specs.Numbering.{behind, behind_all, behind_declaration
 use Rattle.bc_scope_defs.specs.Scoping.{count, cells_of_all, before_let, cells_in, level_behind, in_list}
 use Rattle.bc_scope_defs.specs.Sides.{side_levels}
 use Rattle.bc_scope_defs.specs.Found.{FoundRoutine, RoutineBody, Gives, Does, section_start}
-use Rattle.bc_scope_defs.specs.Frames.{known_behind, known_behind_all, all_held, widest, width, width_of_all, widths, width_of_definition, width_of_definitions, width_of_declaration, width_of_declarations, width_of_block, width_of_items, width_of_command, width_of_body, frame_of}
+use Rattle.bc_scope_defs.specs.Frames.{known_behind, known_behind_all, width, width_of_all, width_of_pairs, widths, width_of_definition, width_of_definitions, width_of_declaration, width_of_declarations, width_of_block, width_of_items, width_of_command, width_of_body, frame_of}
 use Rattle.bc_scope_defs.specs.FramesAlong as along
 use Rattle.bc_scope_laws.specs.Laws.{WidthsAskNoNumbers}
 use Rattle.bc_scope_laws.proofs.Alike.{Alike, alike_self, alike_valof, alike_before_let, alike_let, alike_declaration, alike_declarations, alike_for, alike_list, same_cells, same_cells_in, same_level, same_held, same_side_levels}
@@ -41,10 +41,19 @@ mutual
       let rest = same_initials (behind at e) es s h ∙ (λ i. width_of_all F es (same i) 0) in
       λ i. max (same_width at e s h i) (rest i)
 
-  same_widths : {E F : Env} (at : Numbers) (es : tree.Exps) (ss : List ℕ) → Alike E F → along.widths E at es ss ≡ widths F es ss
-  same_widths at tree.none ss h = refl
+  same_widths : {E F : Env} (at : Numbers) (es : tree.Exps) (ks : List ℕ) → Alike E F → along.widths E at es ks ≡ widths F es ks
+  same_widths at tree.none ks h = refl
   same_widths at (tree.more e es) [] h = refl
-  same_widths at (tree.more e es) (s ∷ ss) h = λ i. same_width at e s h i ∷ same_widths (behind at e) es ss h i
+  same_widths at (tree.more e es) (k ∷ ks) h = λ i. same_width at e k h i ∷ same_widths (behind at e) es ks h i
+
+  same_pairs : {E F : Env} (at : Numbers) (xs : tree.Exps) (ws : List ℕ) (s : ℕ) (ks : List ℕ)
+      → Alike E F → along.widest (along.all_held E xs s) (along.widths E at xs ks) ws ≡ width_of_pairs F xs ws s ks
+  same_pairs at tree.none ws s ks h = refl
+  same_pairs at (tree.more x xs) [] s [] h = refl
+  same_pairs at (tree.more x xs) [] s (k ∷ ks) h = refl
+  same_pairs at (tree.more x xs) (w ∷ ws) s [] h = refl
+  same_pairs at (tree.more x xs) (w ∷ ws) s (k ∷ ks) h =
+      λ i. max (max (same_held x s h i) (max w (same_width at x k h i))) (same_pairs (behind at x) xs ws s ks h i)
 
   same_definition : {E F : Env} (at : Numbers) (d : tree.Definition) (s : ℕ) → Alike E F → along.width_of_definition E at d s ≡ width_of_definition F d s
   same_definition at (tree.Variables ns es) s h = same_initials at es s h
@@ -87,9 +96,10 @@ mutual
 
   pub same_command : {E F : Env} (at : Numbers) (c : tree.Command) (s : ℕ) → Alike E F → along.width_of_command E at c s ≡ width_of_command F c s
   same_command {E} {F} at (tree.Assign xs es) s h =
-      let ss = side_levels E xs s in
-      (λ i. widest (same_held xs s h i) (same_widths at xs ss h i) (same_widths (behind_all at xs) es ss h i))
-      ∙ (λ i. let ls = same_side_levels xs s h i in widest (all_held F xs s) (widths F xs ls) (widths F es ls))
+      let ks = side_levels E xs s in
+      same_pairs at xs (along.widths E (behind_all at xs) es ks) s ks h
+      ∙ (λ i. width_of_pairs F xs (same_widths (behind_all at xs) es ks h i) s ks)
+      ∙ (λ i. let ls = same_side_levels xs s h i in width_of_pairs F xs (widths F es ls) s ls)
   same_command at (tree.Do f es) s h =
       λ i. max (s + 2 + count es) (max (same_arguments (behind at f) es (argument_level s) h i) (same_width at f (routine_level s (count es)) h i))
   same_command at (tree.Compound b) s h = same_block at b s h

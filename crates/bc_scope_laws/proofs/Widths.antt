@@ -19,8 +19,7 @@ use Rattle.bc_scope_defs.specs.Sides.{side_levels}
 use Rattle.bc_scope_defs.specs.Translation.{Forms, form_of_name, form_of_monadic, form_of_dyadic, negation, opposite, or_not, forms, core_arguments, forms_of_all, assignments, assignment, initials, core_definition, core_definitions, core_declarations, core_labels, core_block, core_items, block_of, valofs_of, core_routine, core_body}
 use Rattle.bc_scope_defs.specs.Translation as translation
 use Rattle.bc_scope_defs.specs.Found.{Found, FoundRoutine, RoutineBody, Gives, Does, Thing, AValof, ARoutine, Data, found, found_in_arguments, found_in_sides, found_in_initials, found_in_definition, found_in_definitions, found_in_declaration, found_in_declarations, found_in_block, found_in_items, found_in_command}
-use Rattle.bc_scope_defs.specs.Frames.{all_held, widest}
-use Rattle.bc_scope_defs.specs.FramesAlong.{width, width_of_arguments, widths, width_of_initials, width_of_definition, width_of_definitions, width_of_declarations, width_of_block, width_of_items, width_of_command, width_of_body, frame_of}
+use Rattle.bc_scope_defs.specs.FramesAlong.{all_held, widest, width, width_of_arguments, widths, width_of_initials, width_of_definition, width_of_definitions, width_of_declarations, width_of_block, width_of_items, width_of_command, width_of_body, frame_of}
 use Rattle.bc_scope_laws.proofs.Forms.{count_kept}
 use Rattle.bc_scope_laws.proofs.Items.{levels}
 use Rattle.bc_scope_laws.proofs.Declared.{cells_kept, level_kept}

@@ -1,6 +1,6 @@
 use Rattle.std.proofs.Common.{◌≡◌, ◌++◌, drop}
 use Rattle.bc_parse_tree.specs.View.{exps_view}
-use Rattle.bc_scope_defs.specs.Frames.{all_held}
+use Rattle.bc_scope_defs.specs.FramesAlong.{all_held}
 use Rattle.bc_scope_names.specs.View.{scope_view}
 use Rattle.bc_scope_faults.proofs.judging.all_held.Given as goal
 

@@ -1,5 +1,5 @@
 use Rattle.std.proofs.Common.{◌≡◌, drop, max, length, ◌-◌}
-use Rattle.bc_scope_defs.specs.Frames.{widest}
+use Rattle.bc_scope_defs.specs.FramesAlong.{widest}
 use Rattle.bc_scope_faults.proofs.judging.widest.Given as goal
 
 abbrev pub invariant-loop-i : goal.invariant-loop-i
