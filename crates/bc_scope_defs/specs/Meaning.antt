@@ -39,6 +39,7 @@ plain v = record { address = v; content = v }
 abbrev pub known : ℕ → Sense
 known w = by_value (Done w)
 
+-- a name that is at fault, which no section without fault has, counts as the number 0
 abbrev pub worth_of_name : Around → Meant → (p : ℕ) → Worth
 worth_of_name A (Constant w) p = plain (known w)
 worth_of_name A (Static m) p = cell (known (A.place m))
@@ -75,7 +76,7 @@ pub record Side : Type 0 where
 abbrev pub set_side : (address value : Side) → Run (Unit {0})
 set_side x e = both (e.calls || x.calls) e.worth.content.value x.worth.address.value (λ w a. write a w)
 
--- pair by pair
+-- pair by pair; the grammar gives both sides as many
 abbrev pub set_sides : (addresses values : List Side) → Run Exit
 set_sides (x ∷ xs) (e ∷ es) = then_do (set_side x e) (λ u. set_sides xs es)
 set_sides _ _ = Done Past
@@ -123,6 +124,7 @@ abbrev pub has_case_in : Env → Items → ℕ → Bool
 has_case_in E no_items v = false
 has_case_in E (item i is) v = among_cases E (labels_of_that i) v || has_case_in E is v
 
+-- what is no label, which no GOTO without fault names, counts as label 0
 abbrev pub label_number : Meant → ℕ
 label_number (scope.Label l) = l
 label_number _ = 0

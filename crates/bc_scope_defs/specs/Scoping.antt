@@ -61,7 +61,7 @@ constant_in E (tree.Monadic m e) = constant_monadic m (constant_in E e)
 constant_in E (tree.Dyadic o l r) = constant_dyadic (operator o) (constant_in E l) (constant_in E r)
 constant_in E _ = None
 
--- what is no constant counts as 0
+-- what is no constant, where one is wanted, is a fault; it counts as 0
 abbrev pub or_zero : Option ℕ → ℕ
 or_zero None = 0
 or_zero (Some w) = w

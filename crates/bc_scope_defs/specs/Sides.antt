@@ -38,6 +38,7 @@ kinds_of_cell a = record { address = a; content = kind_of_content a }
 abbrev pub kinds_of_plain : Kind → Kinds
 kinds_of_plain v = record { address = v; content = v }
 
+-- a constant is a number; a name that is at fault counts as one
 abbrev pub kinds_of_name : Meant → Kinds
 kinds_of_name (Static m) = kinds_of_cell APlace
 kinds_of_name (Global n) = kinds_of_cell ACell

@@ -27,6 +27,7 @@ cell a = record { address = a; content = Load a }
 abbrev pub plain : Exp → Forms
 plain v = record { address = v; content = v }
 
+-- a name that is at fault, which no section without fault has, counts as the number 0
 abbrev pub form_of_name : Meant → Forms
 form_of_name (Constant w) = plain (Num w)
 form_of_name (Static m) = cell (Place m)
@@ -90,7 +91,7 @@ abbrev pub forms_of_all : Env → Numbers → tree.Exps → List Forms
 forms_of_all E at tree.none = []
 forms_of_all E at (tree.more e es) = forms E at e ∷ forms_of_all E (behind at e) es
 
--- the commands of an assignment, pair by pair
+-- the commands of an assignment, pair by pair; the grammar gives both sides as many
 abbrev pub assignments : (addresses values : List Forms) → Items
 assignments (x ∷ xs) (e ∷ es) = command (core.Assign e.content x.address) (assignments xs es)
 assignments _ _ = no_item
