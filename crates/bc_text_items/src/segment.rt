@@ -33,12 +33,4 @@ impl Segment {
     {
         self.items.as_slice()
     }
-
-    /// The items as a vector, which takes no memory.
-    pub fn into_items(self) -> Vec<Item>
-        ensures { result.items ≡ self }
-    {
-        let Segment { items: kept } = self;
-        kept
-    }
 }
