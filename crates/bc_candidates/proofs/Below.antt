@@ -4,7 +4,7 @@ use Rattle.std.proofs.lemmas.List.{map-append, drop_more, drop_all}
 use Rattle.bc_core.specs.declared.expression.CoreExp.{CoreExp}
 use Rattle.bc_core.specs.Tree.{Exp, Num, Frame, Glob, Place, Load, Neg, Not, Bin, Cond, Call, Valof, Args, no_argument, argument, count}
 use Rattle.bc_core.specs.View.{exp, args}
-use Rattle.bc_core.specs.WellFormed.{nodes, nodes_of_args}
+use Rattle.bc_core.specs.WellFormed.{nodes}
 use Rattle.bc_rules_defs.specs.declared.rule.Table.TheVariants.{Two}
 use Rattle.bc_rules_defs.specs.Piece.{w}
 use Rattle.bc_select_defs.specs.Options.{plus, sum, words_of}
@@ -13,7 +13,9 @@ use Rattle.bc_select_defs.specs.declared.choice.Choices.{Choices}
 use Rattle.bc_select_defs.specs.Nodes.{in_order, all_in_order}
 use Rattle.bc_candidates.specs.declared.nodes.Arguments.{Arguments}
 use Rattle.bc_candidates.specs.Aims.{ForAims}
-use Rattle.bc_candidates.specs.Lists.{lists, choices_of, parts_in_order, candidates_at}
+use Rattle.bc_select.specs.Order.{parts_in_order}
+use Rattle.bc_select.proofs.Wholes.{args_count}
+use Rattle.bc_candidates.specs.Lists.{lists, choices_of, candidates_at}
 use Rattle.bc_candidates.specs.Below.{AreArguments, Adds, IsOnTheWay}
 
 pub choices_are : (e : Exp) (s : ℕ) → choices_of (lists Two e s) ≡ choices Two e s
@@ -86,10 +88,6 @@ args_left es i e h k = ap args (drop_more es i e h) ∙ ap (λ x. argument (exp 
 
 pub none_left : (es : List CoreExp) (i : ℕ) → length es ≤ i → args (drop i es) ≡ no_argument
 none_left es i h = ap args (drop_all i es h)
-
-args_count : (es : List CoreExp) → count (args es) ≡ length es
-args_count [] = refl
-args_count (e ∷ es) = omega (arith, args_count es)
 
 -- the level of a call's routine
 pub behind_all : (es : List CoreExp) (s inside behind : ℕ) → inside ≡ s + 2 → behind ≡ inside + length es → behind ≡ s + 2 + count (args es)

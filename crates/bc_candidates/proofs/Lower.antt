@@ -1,55 +1,23 @@
 -- A derivation has no fewer words than its first rule has in the list of its aim.
-use Rattle.std.proofs.Common.{◌≡◌, ℕ, ◌+◌, Bool, true, false, Option, Some, None, IsTrue, refl, ap, sym, subst, ◌∙◌, arith}
-use Rattle.std.specs.Prelude.{is_some}
-use Rattle.bc_word.specs.declared.operator.Op.{Op}
-use Rattle.bc_word.specs.Words.{negated}
+use Rattle.std.proofs.Common.{◌≡◌, ℕ, ◌+◌, Bool, true, false, Some, IsTrue, refl}
 use Rattle.bc_core.specs.declared.operands.Operand.{Operand}
 use Rattle.bc_core.specs.Tree.{Exp, Num, Frame, Glob, Place, Load, Neg, Not, Bin, Cond, Call, Valof, count}
 use Rattle.bc_core.specs.Operand.{operand_of}
 use Rattle.bc_rules_defs.specs.declared.rule.Table.{Table}
-use Rattle.bc_rules_defs.specs.declared.rule.Table.TheVariants.{Two}
 use Rattle.bc_rules_defs.specs.declared.rule.Mode.TheVariants.{Any, Push}
 use Rattle.bc_rules_defs.specs.declared.rule.Aim.{Aim}
 use Rattle.bc_rules_defs.specs.declared.rule.Aim.TheVariants.{Gets, Jumps}
 use Rattle.bc_rules_defs.specs.Free.{is_plain, beside_zero, without_zero}
-use Rattle.bc_rules_defs.specs.Piece.{w, operand_words}
+use Rattle.bc_rules_defs.specs.Piece.{operand_words}
 use Rattle.bc_rules_defs.specs.Rules.{Derives, v0, v1, v2, v3, v4, v6, v7, v8, v9, v10, v11, v12, v13, v14, v15, v16, v17, v18, v19, v20, v21, v22, v22_valof, j1, j2, j3, j4, j5, j6, j7, j8, j9}
 use Rattle.bc_rules_defs.specs.Code.{cost}
 use Rattle.bc_select_defs.specs.Least.{first_rule}
 use Rattle.bc_rules_defs.specs.Names.{rule_number}
-use Rattle.bc_select_defs.specs.Options.{more, given, operand_cost, words_of}
-use Rattle.bc_select_defs.specs.Choices.{number_cost, has_tests_of_zero, choices}
-use Rattle.bc_select_defs.specs.Folds.{Within, Reaches, of_rule, words}
-use Rattle.bc_select_defs.specs.Lower.{more_words, both, by_given, exactly, at, beside_is, without_is, words_at, lower, all_lower}
+use Rattle.bc_select_defs.specs.Options.{words_of}
+use Rattle.bc_select_defs.specs.Choices.{choices}
+use Rattle.bc_select_defs.specs.Folds.{Reaches, of_rule, words}
+use Rattle.bc_select_defs.specs.Lower.{more_words, both, of_operand, more_before, by_given, exactly, number_costs, is_mirrored, beside_is, without_is, part_at, with_tests, words_at, lower, all_lower}
 use Rattle.bc_candidates.specs.Lists.{list_for, lists}
-
-operand_within : (p : Option Operand) (o : Operand) → p ≡ Some o → Within (operand_cost p) (operand_words o)
-unfolding operand_cost
-operand_within p o e = subst (λ q. Within (operand_cost q) (operand_words o)) (sym e) (omega arith)
-
-of_operand : (p : Option Operand) (o : Operand) → p ≡ Some o → Reaches (operand_cost p) (operand_words o)
-of_operand p o e = record { fact = operand_within p o e }
-
-more_within : (x : Option ℕ) (k j : ℕ) → Within x j → Within (more k x) (k + j)
-unfolding more
-more_within None k j h = h
-more_within (Some x) k j h = omega arith
-
-more_before : (x : Option ℕ) (k j : ℕ) → Reaches x j → Reaches (more k x) (k + j)
-more_before x k j h = record { fact = more_within x k j h.fact }
-
-number_costs : (n : ℕ) → Reaches (number_cost (Some n)) (w (negated n))
-unfolding number_cost
-number_costs n = exactly (w (negated n))
-
-is_mirrored : (p : Option Op) (q : Op) → p ≡ Some q → IsTrue (is_some p)
-is_mirrored p q e = subst (λ o. IsTrue (is_some o)) (sym e) refl
-
-part_at : (x : Option ℕ) (p : Option Exp) (c : Exp) (f : Exp → Option ℕ) (k : ℕ) → x ≡ at p f → p ≡ Some c → Reaches (f c) k → Reaches x k
-part_at x p c f k e i h = let P : Option ℕ → Type 0 = λ y. Reaches y k in subst P (sym (e ∙ ap (λ q. at q f) i)) h
-
-with_tests : (T : Table) (x : Option ℕ) (j : ℕ) → T ≡ Two → Reaches x j → Reaches (given (has_tests_of_zero T) x) j
-with_tests T x j e h = by_given (has_tests_of_zero T) x j (ap has_tests_of_zero e) h
 
 -- V0, V1 and J6 stand in each node's lists
 by_v0 : (T : Table) (e : Exp) (s k : ℕ) → Reaches (words_of (choices T e s).push) k → Reaches (of_rule 0 (lists T e s).any) k

@@ -1,7 +1,7 @@
 -- The words of each rule in the lists of a node are those of some derivation that begins with it.
-use Rattle.std.proofs.Common.{◌≡◌, ℕ, ◌+◌, ◌*◌, ◌==◌, List, Bool, true, false, not, Option, Some, None, IsTrue, cond, refl, ap, sym, subst, ◌∙◌}
+use Rattle.std.proofs.Common.{◌≡◌, ℕ, ◌+◌, ◌*◌, ◌==◌, List, Bool, true, false, not, Option, Some, None, IsTrue, cond, refl, sym, subst, ◌∙◌}
 use Rattle.std.specs.Prelude.{is_some}
-use Rattle.std.proofs.lemmas.Bool.{cond-true, cond-false, eqb-true}
+use Rattle.std.proofs.lemmas.Bool.{cond-true}
 use Rattle.bc_word.specs.declared.operator.Op.{Op}
 use Rattle.bc_word.specs.declared.operator.Op.TheVariants as operators
 use Rattle.bc_word.specs.Words.{number_of, negated}
@@ -11,7 +11,6 @@ use Rattle.bc_core.specs.Tree.{Exp, Num, Frame, Glob, Place, Load, Neg, Not, Bin
 use Rattle.bc_core.specs.Operand.{operand_of, constant_of}
 use Rattle.bc_rules_defs.specs.declared.rule.Table.{Table}
 use Rattle.bc_rules_defs.specs.declared.rule.Table.TheVariants as tables
-use Rattle.bc_rules_defs.specs.declared.rule.Table.TheVariants.{Two}
 use Rattle.bc_rules_defs.specs.declared.rule.Mode.{Mode}
 use Rattle.bc_rules_defs.specs.declared.rule.Mode.TheVariants.{Any, Push}
 use Rattle.bc_rules_defs.specs.declared.rule.Aim.{Aim}
@@ -28,7 +27,7 @@ use Rattle.bc_select_defs.specs.Options.{plus, more, sum, only, operand_cost, wo
 use Rattle.bc_select_defs.specs.Choices.{words_for, number_cost, zero_number, without, mixed, worked, has_tests_of_zero, pair_tests, choices, words_of_all, node_of}
 use Rattle.bc_select_defs.specs.Lower.{is_zero_is}
 use Rattle.bc_select_defs.specs.Makes.{Makes, makes_none, makes_some, makes_map, makes_plus, makes_more, makes_sum, makes_given, OperandOf, makes_operand, AllMade, all_append}
-use Rattle.bc_select_defs.specs.Attained.{part_for, attained, all_attained}
+use Rattle.bc_select_defs.specs.Attained.{part_for, attained, all_attained, same_operator, Beside, first_zero, second_zero, makes_number, some_operator, table_two}
 use Rattle.bc_candidates.specs.Lists.{list_for, lists}
 
 -- some derivation has so many words; some derivation that begins with the rule has
@@ -57,51 +56,14 @@ by_j6 T e s sense p = makes_map _ _ _ _ _ _ _ (λ d. j6 p d) (λ d. refl) (λ d 
 of_one : (T : Table) (e g : Exp) (aim of : Aim) (s t k : ℕ) (r : Rule) (rule_of : Derives T e of → Derives T g aim) → ((d : Derives T e of) → cost (rule_of d) s ≡ cost d t + k) → ((d : Derives T e of) → first_rule (rule_of d) ≡ r) → (x : Option ℕ) → Has T e of t x → By T g aim s r (plus x k)
 of_one T e g aim of s t k r rule_of c f x h = makes_map _ _ _ _ _ _ _ rule_of c (λ d i. f d) (makes_plus _ _ _ x k h)
 
--- an operator is known by its number
-abbrev operator_at : ℕ → Op
-operator_at n = cond (n == 5) operators.Multiply (cond (n == 6) operators.Divide (cond (n == 7) operators.Remainder (cond (n == 8) operators.Add (cond (n == 9) operators.Subtract (cond (n == 10) operators.Equal (cond (n == 11) operators.NotEqual (cond (n == 12) operators.Less (cond (n == 13) operators.GreaterEqual (cond (n == 14) operators.Greater (cond (n == 15) operators.LessEqual (cond (n == 16) operators.ShiftLeft (cond (n == 17) operators.ShiftRight (cond (n == 18) operators.And (cond (n == 19) operators.Or (cond (n == 20) operators.NotEquivalent (operators.Equivalent))))))))))))))))
-
-operator_at_number : (op : Op) → operator_at (number_of op) ≡ op
-operator_at_number operators.Multiply = refl
-operator_at_number operators.Divide = refl
-operator_at_number operators.Remainder = refl
-operator_at_number operators.Add = refl
-operator_at_number operators.Subtract = refl
-operator_at_number operators.Equal = refl
-operator_at_number operators.NotEqual = refl
-operator_at_number operators.Less = refl
-operator_at_number operators.GreaterEqual = refl
-operator_at_number operators.Greater = refl
-operator_at_number operators.LessEqual = refl
-operator_at_number operators.ShiftLeft = refl
-operator_at_number operators.ShiftRight = refl
-operator_at_number operators.And = refl
-operator_at_number operators.Or = refl
-operator_at_number operators.NotEquivalent = refl
-operator_at_number operators.Equivalent = refl
-
-same_operator : (op wanted : Op) → IsTrue (number_of op == number_of wanted) → wanted ≡ op
-same_operator op wanted h = sym (operator_at_number wanted) ∙ ap operator_at (sym (eqb-true (number_of op) (number_of wanted) h)) ∙ operator_at_number op
-
 by_only : (T : Table) (op wanted : Op) (a b : Exp) (aim : Aim) (s : ℕ) (r : Rule) (x : Option ℕ) → By T (Bin wanted a b) aim s r x → By T (Bin op a b) aim s r (only wanted op x)
 by_only T op wanted a b aim s r x h = makes_given _ _ _ (number_of op == number_of wanted) x (λ e. let P : Op → Type 0 = λ o. By T (Bin o a b) aim s r x in subst P (same_operator op wanted e) h)
 
 -- a derivation of the part that a rule finds
-record Beside (T : Table) (p : Option Exp) (aim : Aim) : Type 0 where
-  expression : Exp
-  is : p ≡ Some expression
-  derivation : Derives T expression aim
-
 makes_beside : (T : Table) (p : Option Exp) (a b : Exp) (aim : Aim) (s : ℕ) (x y : Option ℕ) (zero_b zero_a : Bool) → (zero_b ≡ true → p ≡ Some a) → (zero_b ≡ false → zero_a ≡ true → p ≡ Some b) → Has T a aim s x → Has T b aim s y → Makes (Beside T p aim) (λ q. cost q.derivation s) (λ q. Unit {0}) (cond zero_b x (cond zero_a y None))
 makes_beside T p a b aim s x y true zero_a f g ha hb = makes_map _ _ _ _ _ _ _ (λ d. record { expression = a; is = f refl; derivation = d }) (λ d. refl) (λ d i. tt) ha
 makes_beside T p a b aim s x y false true f g ha hb = makes_map _ _ _ _ _ _ _ (λ d. record { expression = b; is = g refl refl; derivation = d }) (λ d. refl) (λ d i. tt) hb
 makes_beside T p a b aim s x y false false f g ha hb = makes_none _ _ _
-
-second_zero : (a b : Exp) → IsTrue (zero_number (constant_of b)) → beside_zero a b ≡ Some a
-second_zero a b h = cond-true (is_zero b) _ _ (sym (is_zero_is b) ∙ h)
-
-first_zero : (a b : Exp) → zero_number (constant_of b) ≡ false → IsTrue (zero_number (constant_of a)) → beside_zero a b ≡ Some b
-first_zero a b h i = cond-false (is_zero b) _ _ (sym (is_zero_is b) ∙ h) ∙ cond-true (is_zero a) _ _ (sym (is_zero_is a) ∙ i)
 
 of_beside : (T : Table) (a b : Exp) (aim : Aim) (s : ℕ) (x y : Option ℕ) → Has T a aim s x → Has T b aim s y → Makes (Beside T (beside_zero a b) aim) (λ q. cost q.derivation s) (λ q. Unit {0}) (cond (zero_number (constant_of b)) x (cond (zero_number (constant_of a)) y None))
 of_beside T a b aim s x y ha hb = makes_beside T (beside_zero a b) a b aim s x y (zero_number (constant_of b)) (zero_number (constant_of a)) (second_zero a b) (first_zero a b) ha hb
@@ -151,23 +113,6 @@ by_v11 : (T : Table) (a b : Exp) (m : Mode) (s : ℕ) (x : Option ℕ) → IsTru
 by_v11 T a b m s x free h = makes_map _ _ _ _ _ _ _ (λ q. v11 q.1.1 free q.0) (λ q. refl) (λ q i. refl) (with_operand_more T b m s 1 (operand_of a) x h)
 
 -- a - n: the second operand is the number
-abbrev NumberOf : Exp → Type 0
-NumberOf b = (n : ℕ) × (b ≡ Num n)
-
-makes_number : (b : Exp) → Makes (NumberOf b) (λ q. w (negated q.0)) (λ q. Unit {0}) (number_cost (constant_of b))
-unfolding number_cost
-makes_number (Num n) = makes_some _ _ _ (n, refl) (w (negated n)) refl tt
-makes_number (Frame n) = makes_none _ _ _
-makes_number (Glob n) = makes_none _ _ _
-makes_number (Place n) = makes_none _ _ _
-makes_number (Load e) = makes_none _ _ _
-makes_number (Neg e) = makes_none _ _ _
-makes_number (Not e) = makes_none _ _ _
-makes_number (Bin op a b) = makes_none _ _ _
-makes_number (Cond c x y) = makes_none _ _ _
-makes_number (Call es f) = makes_none _ _ _
-makes_number (Valof n) = makes_none _ _ _
-
 record Lessened (T : Table) (a b : Exp) (m : Mode) (s : ℕ) (n : ℕ) (d : Derives T a (Gets m)) : Type 0 where
   derivation : Derives T (Bin operators.Subtract a b) (Gets m)
   words : cost derivation s ≡ cost d (s + 1) + w (negated n)
@@ -209,10 +154,6 @@ mixed_made T op a b m s x y ha hb = (
 of_two : (T : Table) (e f g : Exp) (aim1 aim2 aim : Aim) (s t k : ℕ) (r : Rule) (rule_of : Derives T e aim1 × Derives T f aim2 → Derives T g aim) → ((q : Derives T e aim1 × Derives T f aim2) → cost (rule_of q) s ≡ cost q.0 t + cost q.1 t + k) → ((q : Derives T e aim1 × Derives T f aim2) → first_rule (rule_of q) ≡ r) → (x y : Option ℕ) → Has T e aim1 t x → Has T f aim2 t y → By T g aim s r (plus (sum x y) k)
 of_two T e f g aim1 aim2 aim s t k r rule_of c fr x y h i = makes_map _ _ _ _ _ _ _ rule_of c (λ q j. fr q) (makes_plus _ _ _ (sum x y) k (makes_sum _ _ _ _ _ _ x y h i))
 
-some_operator : (p : Option Op) → IsTrue (is_some p) → (q : Op) × (p ≡ Some q)
-some_operator None h = cc
-some_operator (Some q) h = (q, refl)
-
 -- the rules with both operands worked out
 worked_made : (T : Table) (op : Op) (a b : Exp) (s : ℕ) → AllBy T (Bin op a b) (Gets Any) s (worked op (node_of T a (s + 1)) (node_of T b (s + 1)) s)
 worked_made T op a b s =
@@ -250,10 +191,6 @@ worked_made T op a b s =
 -- tests of two operands, and of the operand beside a 0
 of_tests : (T : Table) (a b g : Exp) (aim1 aim2 aim : Aim) (s : ℕ) (r : Rule) (rule_of : Derives T a aim1 × Derives T b aim2 → Derives T g aim) → ((q : Derives T a aim1 × Derives T b aim2) → cost (rule_of q) s ≡ cost q.0 (s + 1) + cost q.1 (s + 1)) → ((q : Derives T a aim1 × Derives T b aim2) → first_rule (rule_of q) ≡ r) → (x y : Option ℕ) → Has T a aim1 (s + 1) x → Has T b aim2 (s + 1) y → By T g aim s r (sum x y)
 of_tests T a b g aim1 aim2 aim s r rule_of c f x y h i = makes_map _ _ _ _ _ _ _ rule_of c (λ q j. f q) (makes_sum _ _ _ _ _ _ x y h i)
-
-table_two : (T : Table) → IsTrue (has_tests_of_zero T) → T ≡ Two
-table_two tables.One h = cc
-table_two tables.Two h = refl
 
 of_zero : (T : Table) (a b g : Exp) (aim : Aim) (s : ℕ) (r : Rule) (rule_of : (q : Beside T (beside_zero a b) (Gets Any)) → Derives T g aim) → ((q : Beside T (beside_zero a b) (Gets Any)) → cost (rule_of q) s ≡ cost q.derivation (s + 1) + 2) → ((q : Beside T (beside_zero a b) (Gets Any)) → first_rule (rule_of q) ≡ r) → By T g aim s r (plus (cond (zero_number (constant_of b)) (words_of (choices T a (s + 1)).any) (cond (zero_number (constant_of a)) (words_of (choices T b (s + 1)).any) None)) 2)
 of_zero T a b g aim s r rule_of c f = makes_map _ _ _ _ _ _ _ rule_of c (λ q i. f q) (makes_plus _ _ _ _ 2 (of_beside T a b (Gets Any) (s + 1) _ _ (has T a (Gets Any) (s + 1)) (has T b (Gets Any) (s + 1))))

@@ -16,7 +16,6 @@ use Rattle.bc_select_defs.specs.declared.choice.Candidate.{Candidate}
 use Rattle.bc_select_defs.specs.declared.choice.Node.{Node}
 use Rattle.bc_select_defs.specs.Options.{plus, sum, operand_cost, words_of, candidate, least_from}
 use Rattle.bc_select_defs.specs.Choices.{by_value, number_tests, not_tests, mixed, worked, pair_tests, choices, words_of_all, node_of}
-use Rattle.bc_select_defs.specs.Nodes.{in_order, all_in_order}
 use Rattle.bc_word.specs.declared.operator.Op.{Op}
 use Rattle.bc_candidates.specs.declared.beginning.Beginning.{Beginning}
 use Rattle.bc_candidates.specs.Aims.{ForAims}
@@ -93,16 +92,6 @@ beginnings (c ∷ cs) = applying c.rule c.words (beginnings cs)
 
 abbrev pub applying_lists : Lists → ForAims
 applying_lists f = record { any = beginnings f.any; push = beginnings f.push; on_false = beginnings f.on_false; on_true = beginnings f.on_true }
-
--- what stands below an expression
-abbrev pub parts_in_order : Exp → ℕ → List (Exp × ℕ)
-parts_in_order (Load e) s = in_order e s
-parts_in_order (Neg e) s = in_order e s
-parts_in_order (Not e) s = in_order e s
-parts_in_order (Bin op a b) s = in_order a (s + 1) ++ in_order b (s + 1)
-parts_in_order (Cond c x y) s = (in_order c s ++ in_order x s) ++ in_order y s
-parts_in_order (Call es f) s = all_in_order es (s + 2) ++ in_order f (s + 2 + count es)
-parts_in_order _ s = []
 
 -- the candidates of a node
 abbrev pub candidates_at : Exp × ℕ → ForAims

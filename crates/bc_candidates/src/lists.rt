@@ -8,11 +8,12 @@ ghost use Rattle.bc_select_defs.specs.Choices.{by_value, number_tests as tests_o
 ghost use Rattle.bc_rules_defs.specs.declared.rule.Table.TheVariants.{Two};
 ghost use Rattle.bc_candidates.specs.Lists.{pushes as pushes_of, values as values_of, least_words_of, beginnings, applying_lists, choices_of};
 
-use crate::adding::{alone, better, candidate, plus, words};
+use crate::adding::{candidate, plus};
 use crate::beginning::{Beginning, Candidates};
-use crate::pair::{Pair, tests_on_false, tests_on_true};
+use crate::pair::{tests_on_false, tests_on_true};
 use bc_core::Operand;
 use bc_rules_defs::{Rule, jumps};
+use bc_select::{Pair, alone, any_words, better};
 use bc_select_defs::{Candidate, Choice, Choices};
 use bc_word::{Memory, Word};
 use std::alloc::Global;
@@ -76,7 +77,7 @@ impl Values {
         push.push(candidate(Rule::V1, alone(operand)))?;
         push.extend_from_slice(own_pushes)?;
         let mut any = Vec::new(alloc);
-        any.push(candidate(Rule::V0, words(least_from(None, push.as_slice()))))?;
+        any.push(candidate(Rule::V0, any_words(least_from(None, push.as_slice()))))?;
         any.extend_from_slice(own_values)?;
         Ok(Values { any, push })
     }
@@ -85,7 +86,7 @@ impl Values {
     pub fn least(&self) -> Option<u64>
         ensures { result ≡ least_words_of self.now.any.items }
     {
-        words(least_from(None, self.any.as_slice()))
+        any_words(least_from(None, self.any.as_slice()))
     }
 
     /// The lists of a node with these rules of jumps.
@@ -149,8 +150,8 @@ impl Values {
           on_true = tests_of_not part.now (least_words_of self.any.items) true;
         }) }
     {
-        let on_false = [candidate(Rule::J1, words(part.on_true))];
-        let on_true = [candidate(Rule::J1, words(part.on_false))];
+        let on_false = [candidate(Rule::J1, any_words(part.on_true))];
+        let on_true = [candidate(Rule::J1, any_words(part.on_false))];
         self.with_tests(alloc, &on_false, &on_true)
     }
 

@@ -11,15 +11,17 @@ ghost use Rattle.bc_rules_defs.specs.declared.rule.Table.TheVariants.{Two};
 ghost use Rattle.bc_select_defs.specs.Options.{plus as plus_of, words_of, candidate as candidate_of};
 ghost use Rattle.bc_select_defs.specs.Choices.{choices, by_value, not_tests};
 ghost use Rattle.bc_select_defs.specs.Nodes.{in_order, all_in_order};
-ghost use Rattle.bc_candidates.specs.Lists.{pushes, values, line, unary as unary_of, pair as lists_of_pair, conditional, parts_in_order, applying_lists};
+ghost use Rattle.bc_select.specs.Order.{parts_in_order};
+ghost use Rattle.bc_candidates.specs.Lists.{pushes, values, line, unary as unary_of, pair as lists_of_pair, conditional, applying_lists};
 ghost use Rattle.bc_candidates.specs.Below.{IsBelow, IsPart, AreArguments, Adds};
 
-use crate::adding::{add, candidate, plus, sum, words};
+use crate::adding::{add, candidate, plus, sum};
 use crate::beginning::Candidates;
 use crate::lists::{Lists, Values};
-use crate::pair::{Pair, mixed, worked};
+use crate::pair::{mixed, worked};
 use bc_core::{CoreExp, Operand, constant, operand};
 use bc_rules_defs::{Rule, number_words};
+use bc_select::{Pair, any_words};
 use bc_select_defs::{Choices, Node};
 use bc_word::{Memory, Op};
 use std::alloc::Global;
@@ -109,8 +111,8 @@ fn unary_values(
     ensures any { IfOk result (λ v. v.any.items ≡ values (pushes operand (candidate_of rule (plus_of (words_of part.now.push) 1)
         ∷ [])) (candidate_of rule (plus_of (words_of part.now.any) 1) ∷ [])) }
 {
-    let push = [candidate(rule, plus(words(part.push), 1)?)];
-    let any = [candidate(rule, plus(words(part.any), 1)?)];
+    let push = [candidate(rule, plus(any_words(part.push), 1)?)];
+    let any = [candidate(rule, plus(any_words(part.any), 1)?)];
     Values::new(alloc, operand, &push, &any)
 }
 
@@ -120,8 +122,11 @@ fn pair_lists(alloc: Global, pair: &Pair, operand: Option<Operand>) -> Result<Li
 {
     let left = &pair.left.choices;
     let right = &pair.right.choices;
-    let pushes = mixed(pair, words(left.push), words(right.push))?;
-    let mut own = Vec::from_slice(alloc, &mixed(pair, words(left.any), words(right.any))?)?;
+    let pushes = mixed(pair, any_words(left.push), any_words(right.push))?;
+    let mut own = Vec::from_slice(
+        alloc,
+        &mixed(pair, any_words(left.any), any_words(right.any))?,
+    )?;
     own.extend_from_slice(&worked(pair)?)?;
     let values = Values::new(alloc, operand, &pushes, own.as_slice())?;
     values.tested_as_pair(alloc, pair)
@@ -136,11 +141,11 @@ fn conditional_lists(
 ) -> Result<Lists, Memory>
     ensures { IfOk result (λ l. l ≡ conditional condition.now this.now that.now) }
 {
-    let first = sum(words(condition.on_false), words(this.any))?;
-    let second = sum(words(condition.on_true), words(that.any))?;
+    let first = sum(any_words(condition.on_false), any_words(this.any))?;
+    let second = sum(any_words(condition.on_true), any_words(that.any))?;
     let own = [
-        candidate(Rule::V20, plus(sum(first, words(that.any))?, 2)?),
-        candidate(Rule::V21, plus(sum(second, words(this.any))?, 2)?),
+        candidate(Rule::V20, plus(sum(first, any_words(that.any))?, 2)?),
+        candidate(Rule::V21, plus(sum(second, any_words(this.any))?, 2)?),
     ];
     Values::new(alloc, None, &[], &own)?.tested_by_value(alloc)
 }
@@ -330,7 +335,7 @@ impl Gathered {
         let stored = self.arguments(arguments, inside)?;
         let behind = add(inside, arguments.len() as u64)?;
         let node = self.part(routine, behind)?;
-        let both = sum(stored.words, words(node.choices.any))?;
+        let both = sum(stored.words, any_words(node.choices.any))?;
         let words = plus(both, number_words(level))?;
         Ok(Below {
             lists: called_lists(self.alloc, words)?,
@@ -352,7 +357,7 @@ impl Gathered {
         let mut level = level;
         for argument in arguments {
             let node = self.part(argument, level)?;
-            let stored = plus(words(node.choices.any), number_words(level))?;
+            let stored = plus(any_words(node.choices.any), number_words(level))?;
             all = Arguments {
                 words: sum(all.words, stored)?,
                 nodes: count(all.nodes, node.nodes)?,

@@ -4,40 +4,21 @@
 ghost use Rattle.std.specs.Prelude.{◌≡◌, IfOk, true, false};
 ghost use Rattle.bc_select_defs.specs.Options.{plus as plus_of, words_of};
 ghost use Rattle.bc_rules_defs.specs.declared.rule.Table.TheVariants.{Two};
-ghost use Rattle.bc_rules_defs.specs.Free.{is_plain_operator};
-ghost use Rattle.bc_select_defs.specs.Choices.{beside as beside_of, without as without_of, free as are_free, mixed as mixed_of, worked as worked_of, pair_tests as tests_of};
+ghost use Rattle.bc_select_defs.specs.Choices.{beside as beside_of, without as without_of, mixed as mixed_of, worked as worked_of, pair_tests as tests_of};
 
-use crate::adding::{
-    add, alone, both, candidate, given, more, number_cost, only, plus, sum, words,
-};
-use bc_core::Operand;
-use bc_rules_defs::{Rule, is_direct, number_words};
-use bc_select_defs::{Candidate, Node, is_zero};
+use crate::adding::{add, both, candidate, more, plus, sum};
+use bc_rules_defs::{Rule, is_plain_operator, number_words};
+use bc_select::{Pair, alone, any_words, free, given, number_cost, only};
+use bc_select_defs::{Candidate, is_zero_number};
 use bc_word::{Memory, Op, mirror};
-
-/// A binary operator at a level, with its operands.
-#[derive(Clone, Copy)]
-pub struct Pair {
-    pub op: Op,
-    pub left: Node,
-    pub right: Node,
-    pub level: u64,
-}
-
-/// Whether two expressions may be worked out in either order.
-fn free(a: &Node, b: &Node) -> bool
-    ensures { result ≡ are_free a.now b.now }
-{
-    !(a.calls || b.calls) || is_direct(a.operand) || is_direct(b.operand)
-}
 
 /// Of the words of two operands those of the one beside a 0; the second 0 is taken first.
 fn beside(pair: &Pair, x: Option<u64>, y: Option<u64>) -> Option<u64>
     ensures { result ≡ beside_of pair.now.left pair.now.right x y }
 {
-    if is_zero(pair.right.number) {
+    if is_zero_number(pair.right.number) {
         x
-    } else if is_zero(pair.left.number) {
+    } else if is_zero_number(pair.left.number) {
         y
     } else {
         None
@@ -50,22 +31,16 @@ fn without(pair: &Pair, x: Option<u64>, y: Option<u64>) -> Option<u64>
 {
     match pair.op {
         Op::Add => beside(pair, x, y),
-        Op::Subtract => { if is_zero(pair.right.number) { x } else { None } }
+        Op::Subtract => {
+            if is_zero_number(pair.right.number) {
+                x
+            } else {
+                None
+            }
+        }
         Op::Multiply | Op::Divide | Op::Remainder | Op::Equal | Op::NotEqual | Op::Less => None,
         Op::GreaterEqual | Op::Greater | Op::LessEqual | Op::ShiftLeft | Op::ShiftRight => None,
         Op::And | Op::Or | Op::NotEquivalent | Op::Equivalent => None,
-    }
-}
-
-/// Whether a test may be made of an operator's value.
-fn is_plain(op: Op) -> bool
-    ensures { result ≡ is_plain_operator op }
-{
-    match op {
-        Op::And | Op::Or => false,
-        Op::Multiply | Op::Divide | Op::Remainder | Op::Add | Op::Subtract | Op::Equal => true,
-        Op::NotEqual | Op::Less | Op::GreaterEqual | Op::Greater | Op::LessEqual => true,
-        Op::ShiftLeft | Op::ShiftRight | Op::NotEquivalent | Op::Equivalent => true,
     }
 }
 
@@ -97,10 +72,10 @@ pub fn worked(pair: &Pair) -> Result<[Candidate; 8], Memory>
     ensures { IfOk result (λ cs. cs ≡ worked_of pair.now.op pair.now.left pair.now.right pair.now.level) }
 {
     let op = pair.op;
-    let x = words(pair.left.choices.any);
-    let y = words(pair.right.choices.any);
-    let pushed_first = words(pair.left.choices.push);
-    let pushed_second = words(pair.right.choices.push);
+    let x = any_words(pair.left.choices.any);
+    let y = any_words(pair.right.choices.any);
+    let pushed_first = any_words(pair.left.choices.push);
+    let pushed_second = any_words(pair.right.choices.push);
     let mirrored = mirror(op).is_some();
     let free = free(&pair.left, &pair.right);
     let held = 2 * number_words(pair.level);
@@ -129,8 +104,8 @@ fn zero_test(pair: &Pair) -> Result<Option<u64>, Memory>
     ensures { IfOk result (λ x. x ≡ plus_of (beside_of pair.now.left pair.now.right (words_of pair.now.left.choices.any)
         (words_of pair.now.right.choices.any)) 2) }
 {
-    let x = words(pair.left.choices.any);
-    let y = words(pair.right.choices.any);
+    let x = any_words(pair.left.choices.any);
+    let y = any_words(pair.right.choices.any);
     plus(beside(pair, x, y), 2)
 }
 
@@ -141,14 +116,14 @@ pub fn tests_on_false(pair: &Pair, any: Option<u64>) -> Result<[Candidate; 5], M
     let op = pair.op;
     let left = &pair.left.choices;
     let right = &pair.right.choices;
-    let conjunction = sum(words(left.on_false), words(right.on_false))?;
-    let disjunction = sum(words(left.on_true), words(right.on_false))?;
+    let conjunction = sum(any_words(left.on_false), any_words(right.on_false))?;
+    let disjunction = sum(any_words(left.on_true), any_words(right.on_false))?;
     let zero = zero_test(pair)?;
     let of_value = plus(any, 2)?;
     Ok([
         candidate(Rule::J2, only(Op::And, op, conjunction)),
         candidate(Rule::J5, only(Op::Or, op, disjunction)),
-        candidate(Rule::J6, given(is_plain(op), of_value)),
+        candidate(Rule::J6, given(is_plain_operator(op), of_value)),
         candidate(Rule::J8, only(Op::Equal, op, zero)),
         candidate(Rule::J9, only(Op::NotEqual, op, zero)),
     ])
@@ -161,14 +136,14 @@ pub fn tests_on_true(pair: &Pair, any: Option<u64>) -> Result<[Candidate; 5], Me
     let op = pair.op;
     let left = &pair.left.choices;
     let right = &pair.right.choices;
-    let conjunction = sum(words(left.on_false), words(right.on_true))?;
-    let disjunction = sum(words(left.on_true), words(right.on_true))?;
+    let conjunction = sum(any_words(left.on_false), any_words(right.on_true))?;
+    let disjunction = sum(any_words(left.on_true), any_words(right.on_true))?;
     let zero = zero_test(pair)?;
     let of_value = plus(any, 2)?;
     Ok([
         candidate(Rule::J3, only(Op::And, op, conjunction)),
         candidate(Rule::J4, only(Op::Or, op, disjunction)),
-        candidate(Rule::J6, given(is_plain(op), of_value)),
+        candidate(Rule::J6, given(is_plain_operator(op), of_value)),
         candidate(Rule::J8, only(Op::Equal, op, zero)),
         candidate(Rule::J9, only(Op::NotEqual, op, zero)),
     ])

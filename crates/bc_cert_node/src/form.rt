@@ -1,6 +1,7 @@
 ghost use Rattle.std.specs.Prelude.{◌≡◌};
 ghost use Rattle.bc_cert_node.specs.Form.{parts_of, calls_itself, is_plain as is_plain_form};
 
+use bc_rules_defs::is_plain_operator;
 use bc_word::{Op, Word};
 
 /// What a node is, without its parts.
@@ -61,24 +62,7 @@ impl Form {
     {
         match self {
             Form::Not => false,
-            Form::Bin(op) => match op {
-                Op::And | Op::Or => false,
-                Op::Multiply
-                | Op::Divide
-                | Op::Remainder
-                | Op::Add
-                | Op::Subtract
-                | Op::Equal
-                | Op::NotEqual
-                | Op::Less
-                | Op::GreaterEqual
-                | Op::Greater
-                | Op::LessEqual
-                | Op::ShiftLeft
-                | Op::ShiftRight
-                | Op::NotEquivalent
-                | Op::Equivalent => true,
-            },
+            Form::Bin(op) => is_plain_operator(op),
             Form::Num(_)
             | Form::Frame(_)
             | Form::Glob(_)

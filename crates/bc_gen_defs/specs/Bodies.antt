@@ -37,8 +37,12 @@ pub record Coding : Type 0 where
   pub labels : Root → ℕ
   pub derivation : Root → Tree
 
+-- a derivation for each root
+abbrev pub Choice : Table → Type 0
+Choice T = (r : Root) → RootDerives T r
+
 -- the code of the derivations that are chosen
-abbrev pub coding_of : {T : Table} → ((r : Root) → RootDerives T r) → Coding
+abbrev pub coding_of : {T : Table} → Choice T → Coding
 coding_of choice = record { pieces = λ r t f. root_code (choice r) t f; labels = λ r. root_labels (choice r); derivation = λ r. root_shape (choice r) }
 
 -- a root takes the labels of its pieces, and then its VALOFs' bodies take theirs

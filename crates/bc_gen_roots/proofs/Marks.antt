@@ -1,10 +1,10 @@
 -- The marks in a section's code are those of its roots.
-use Rattle.std.proofs.Common.{◌≡◌, ◌∙◌, ℕ, zero, suc, ◌+◌, ◌==◌, Bool, true, false, not, cond, List, [], ◌∷◌, ◌++◌, map, length, refl, ap, sym, subst, arith, append-nil}
+use Rattle.std.proofs.Common.{◌≡◌, ◌∙◌, ℕ, suc, ◌+◌, ◌==◌, Bool, true, false, not, cond, List, [], ◌∷◌, ◌++◌, map, length, refl, ap, sym, arith, append-nil}
 use Rattle.std.specs.Prelude.{flat_map}
 use Rattle.std.proofs.lemmas.Bool.{eqb-true}
 use Rattle.bc_text_items.specs.declared.item.Item.{Item}
 use Rattle.bc_core.specs.Tree.{Frame, Root, Value, Test, Assign}
-use Rattle.bc_core.specs.Commands.{Variable, Initial, Vector, Command, Block, block, Items, no_item, command, case, default, label, Body, Gives, Does, Place, Valof, Core}
+use Rattle.bc_core.specs.Commands.{Variable, Initial, Vector, Command, Block, block, Items, no_item, command, case, default, label, Body, Gives, Does, Place, Valof}
 use Rattle.bc_core.specs.Commands as commands
 use Rattle.bc_core.specs.Level.{cells_of, cells_of_all, cells_declared, level_in_for, level_behind_parameters}
 use Rattle.bc_core.specs.Command.{step_of_for}
@@ -14,10 +14,10 @@ use Rattle.bc_rules_defs.specs.declared.piece.Piece.TheVariants as pieces
 use Rattle.bc_rules_defs.specs.Code.{root_code, root_labels}
 use Rattle.bc_rules_defs.specs.Entry.{Entry}
 use Rattle.bc_gen_defs.specs.Emit.{Code, Roots, Exits, zero_item, labelled, labels_in, entries_in, table_of, emit_variable, emit_variables, emit_declarations, end_of_for, emit, emit_block, emit_items}
-use Rattle.bc_gen_defs.specs.Bodies.{BodiesCode, coding_of, fill, label_ahead, body_exits, emit_valof, bodies_from, emit_body, level_of}
+use Rattle.bc_gen_defs.specs.Bodies.{Choice, BodiesCode, coding_of, fill, label_ahead, body_exits, emit_valof, bodies_from, emit_body, level_of}
 use Rattle.bc_gen_defs.specs.Section.{emit_routines}
 use Rattle.bc_gen_defs.specs.Entries.{Marked, Plain, Begins, entries_from, marked_over, marked_code}
-use Rattle.bc_gen_roots.specs.Roots.{Choice, bodies_in, in_code, Counted, with_bodies, roots_of_variable, roots_of_variables, roots_of_declarations, roots_of_command, roots_of_block, roots_of_items, roots_of_bodies, roots_of_body, roots_of_places, roots_of}
+use Rattle.bc_gen_roots.specs.Roots.{bodies_in, in_code, Counted, with_bodies, roots_of_variable, roots_of_variables, roots_of_declarations, roots_of_command, roots_of_block, roots_of_items, roots_of_bodies, roots_of_body, roots_of_places}
 use Rattle.bc_gen_roots.specs.Laws.{EntriesAreOfTheRoots}
 use Rattle.bc_gen_roots.proofs.Valofs.{same_bodies}
 

@@ -1,20 +1,20 @@
 -- A section takes the fixed words of its commands and data, and the words of its roots.
-use Rattle.std.proofs.Common.{◌≡◌, ◌∙◌, ℕ, ◌+◌, ◌*◌, ◌/◌, ◌==◌, Bool, true, false, not, cond, List, [], ◌∷◌, ◌++◌, length, refl, ap, sym, subst, arith}
+use Rattle.std.proofs.Common.{◌≡◌, ◌∙◌, ℕ, ◌+◌, ◌/◌, ◌==◌, Bool, true, false, not, cond, List, [], ◌∷◌, ◌++◌, length, refl, ap, arith}
 use Rattle.std.specs.Prelude.{sum_by, flat_map}
 use Rattle.std.proofs.lemmas.List.Sums.{sum_by-cons, sum_by-append}
 use Rattle.bc_core.specs.Tree.{Frame, Root, Value, Test, Assign}
-use Rattle.bc_core.specs.Commands.{Variable, Initial, Vector, Command, Block, block, Items, no_item, command, case, default, label, Body, Gives, Does, Place, Valof, Core}
+use Rattle.bc_core.specs.Commands.{Variable, Initial, Vector, Command, Block, block, Items, no_item, command, case, default, label, Body, Gives, Does, Place, Valof}
 use Rattle.bc_core.specs.Commands as commands
 use Rattle.bc_core.specs.Level.{cells_of, cells_of_all, cells_declared, level_in_for, level_behind_parameters}
 use Rattle.bc_core.specs.Command.{step_of_for}
 use Rattle.bc_rules_defs.specs.declared.rule.Table.{Table}
-use Rattle.bc_rules_defs.specs.Code.{root_code, root_cost}
-use Rattle.bc_gen_defs.specs.Bodies.{level_of}
-use Rattle.bc_gen_defs.specs.Emit.{end_of_for, cases_in}
-use Rattle.bc_gen_defs.specs.Size.{Words, words_of_variable, words_of_variables, words_of_declarations, words_of_command, words_of_block, words_of_items, words_within_root, with_bodies, words_of_bodies, words_of_body, words_of_places}
+use Rattle.bc_rules_defs.specs.Code.{root_cost}
+use Rattle.bc_gen_defs.specs.Bodies.{Choice, level_of}
+use Rattle.bc_gen_defs.specs.Emit.{end_of_for}
+use Rattle.bc_gen_defs.specs.Size.{Words, words_of_variable, words_of_variables, words_of_declarations, words_of_command, words_of_block, words_of_items, with_bodies, words_of_bodies, words_of_body, words_of_places}
 use Rattle.bc_gen_sizes.proofs.Sections.{sections_have_their_size}
 use Rattle.bc_gen_roots.specs.Roots as walk
-use Rattle.bc_gen_roots.specs.Roots.{Choice, bodies_in, in_code, Counted, roots_of_variable, roots_of_variables, roots_of_declarations, roots_of_command, roots_of_block, roots_of_items, roots_of_bodies, roots_of_body, roots_of_places}
+use Rattle.bc_gen_roots.specs.Roots.{in_code, Counted, roots_of_variable, roots_of_variables, roots_of_declarations, roots_of_command, roots_of_block, roots_of_items, roots_of_bodies, roots_of_body, roots_of_places}
 use Rattle.bc_gen_roots.specs.Laws.{SizeIsByTheRoots}
 use Rattle.bc_gen_roots.proofs.Valofs.{words_of_root}
 use Rattle.bc_gen_roots.proofs.Marks.{own_level, further_levels}

@@ -5,11 +5,11 @@ use Rattle.bc_core.specs.Commands.{Core}
 use Rattle.bc_rules_defs.specs.declared.rule.Table.{Table}
 use Rattle.bc_rules_defs.specs.Code.{root_cost}
 use Rattle.bc_rules_defs.specs.Entry.{Entry}
-use Rattle.bc_gen_defs.specs.Bodies.{coding_of}
+use Rattle.bc_gen_defs.specs.Bodies.{Choice, coding_of}
 use Rattle.bc_gen_defs.specs.Section.{section_items}
 use Rattle.bc_gen_defs.specs.Entries.{section_entries}
 use Rattle.bc_gen_defs.specs.Size.{section_size}
-use Rattle.bc_gen_roots.specs.Roots.{Choice, in_code, roots_of}
+use Rattle.bc_gen_roots.specs.Roots.{in_code, roots_of}
 
 -- the entries of a section are those of its roots, in this order
 abbrev pub EntriesAreOfTheRoots : Type 0

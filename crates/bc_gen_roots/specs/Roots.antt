@@ -1,6 +1,6 @@
 -- The roots of a section, found by walking its commands: a root before those of its VALOFs' bodies, and the bodies in
 -- the order of the root's code.
-use Rattle.std.specs.Prelude.{ℕ, ◌+◌, ◌==◌, Bool, true, false, not, cond, nat_le, List, [], ◌∷◌, ◌++◌, flat_map}
+use Rattle.std.specs.Prelude.{ℕ, ◌+◌, ◌==◌, true, false, not, cond, nat_le, List, [], ◌∷◌, ◌++◌, flat_map}
 use Rattle.bc_word.specs.declared.operator.Op.TheVariants as operators
 use Rattle.bc_core.specs.Tree.{Exp, Frame, Load, Bin, Root, Value, Test, Assign}
 use Rattle.bc_core.specs.Commands.{Variable, Initial, Vector, Command, Block, block, Items, no_item, command, case, default, label, Body, Gives, Does, Place, Valof, Core}
@@ -10,8 +10,8 @@ use Rattle.bc_core.specs.Command.{step_of_for}
 use Rattle.bc_rules_defs.specs.declared.rule.Table.{Table}
 use Rattle.bc_rules_defs.specs.declared.piece.Piece.{Piece}
 use Rattle.bc_rules_defs.specs.declared.piece.Piece.TheVariants as pieces
-use Rattle.bc_rules_defs.specs.Rules.{RootDerives}
 use Rattle.bc_rules_defs.specs.Code.{root_code}
+use Rattle.bc_gen_defs.specs.Bodies.{Choice}
 
 -- what a root counts for: itself, and perhaps others
 abbrev pub Counted : Type 0
@@ -96,10 +96,6 @@ roots_of_places of (commands.Text bytes ∷ ps) = roots_of_places of ps
 -- the roots of a section
 abbrev pub roots_of : (valofs : Root → List ℕ) → Core → List Root
 roots_of valofs core = roots_of_places (with_bodies valofs (roots_of_bodies valofs 0 core.valofs)) core.places
-
--- a derivation for each root
-abbrev pub Choice : Table → Type 0
-Choice T = (r : Root) → RootDerives T r
 
 -- the VALOFs whose bodies stand in code, by number, in their order
 abbrev pub bodies_in : List Piece → List ℕ

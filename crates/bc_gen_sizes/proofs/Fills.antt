@@ -1,7 +1,7 @@
 -- The words of a root's code with the bodies of its VALOFs filled in.
-use Rattle.std.proofs.Common.{◌≡◌, ℕ, ◌+◌, Bool, true, false, not, cond, List, [], ◌∷◌, ◌++◌, refl, sym, subst, arith, append_assoc, append-nil}
+use Rattle.std.proofs.Common.{◌≡◌, ℕ, ◌+◌, Bool, true, false, not, cond, List, [], ◌∷◌, ◌++◌, sym, subst, arith, append_assoc, append-nil}
 use Rattle.bc_word.specs.declared.operator.Op.{Op}
-use Rattle.bc_word.specs.declared.operator.Op.TheVariants.{Multiply, Divide, Remainder, Add, Subtract, Equal, NotEqual, Less, GreaterEqual, Greater, LessEqual, ShiftLeft, ShiftRight, And, Or, NotEquivalent, Equivalent}
+use Rattle.bc_word.specs.declared.operator.Op.TheVariants.{Add}
 use Rattle.bc_word.specs.Words.{number_of, negated}
 use Rattle.bc_text_items.specs.declared.item.Item as code_item
 use Rattle.bc_text_items.specs.declared.item.Item.TheVariants.{Operation}
@@ -20,6 +20,7 @@ use Rattle.bc_rules_defs.specs.Free.{jumps_at}
 use Rattle.bc_rules_defs.specs.Piece.{on, SP, LIP, X, J, jump_if, label, w, operand_words}
 use Rattle.bc_rules_defs.specs.Rules.{Derives, v0, v1, v2, v3, v4, v6, v7, v8, v9, v10, v11, v12, v13, v14, v15, v16, v17, v18, v19, v20, v21, v22, v22_valof, j1, j2, j3, j4, j5, j6, j7, j8, j9, DerivesAll, no_more, one_more, RootDerives, value, test, a1, a2, a3}
 use Rattle.bc_rules_defs.specs.Code.{labels, all_labels, code, all_code, cost, all_cost, root_code, root_cost}
+use Rattle.bc_rules_defs.proofs.Words.{operator_words}
 use Rattle.bc_gen_defs.specs.Bodies.{BodiesCode, fill, label_ahead}
 use Rattle.bc_gen_defs.specs.Size.{words_within, words_within_args, words_within_root}
 use Rattle.bc_gen_sizes.proofs.Takes.{Takes, takes_none, takes_both, takes_as, takes_operation, takes_label}
@@ -67,25 +68,6 @@ fills_body k {F = F} {ps = ps} {n = n} h = record {
 -- by the names of the operations
 on_end : (F : Filling) (f : Function) (o : Operand) → Fills F (on f o ∷ []) (operand_words o)
 on_end F f o = op F f (cond o.direct false true) o.base o.n
-
-operator_words : (o : Op) → operation_size Number (number_of o) ≡ 1
-operator_words Multiply = refl
-operator_words Divide = refl
-operator_words Remainder = refl
-operator_words Add = refl
-operator_words Subtract = refl
-operator_words Equal = refl
-operator_words NotEqual = refl
-operator_words Less = refl
-operator_words GreaterEqual = refl
-operator_words Greater = refl
-operator_words LessEqual = refl
-operator_words ShiftLeft = refl
-operator_words ShiftRight = refl
-operator_words And = refl
-operator_words Or = refl
-operator_words NotEquivalent = refl
-operator_words Equivalent = refl
 
 apply_end : (F : Filling) (o : Op) → Fills F (X (number_of o) ∷ []) 1
 apply_end F o = fills_as (op F functions.Execute false Number (number_of o)) (operator_words o)

@@ -6,24 +6,20 @@ use Rattle.bc_text_items.specs.declared.item.Base.TheVariants as bases
 use Rattle.bc_text_items.specs.declared.item.Function.TheVariants as functions
 use Rattle.bc_text_items.specs.Sizes.{size_of_all}
 use Rattle.bc_text_items.specs.Laws.{BeginsWithNoByte}
-use Rattle.bc_core.specs.Tree.{Root, Value}
-use Rattle.bc_core.specs.Commands.{Body, Gives, Does, Place, Valof, Core}
+use Rattle.bc_core.specs.Tree.{Value}
+use Rattle.bc_core.specs.Commands.{Body, Gives, Does, Place, Valof}
 use Rattle.bc_core.specs.Commands as commands
 use Rattle.bc_core.specs.Level.{level_behind_parameters}
 use Rattle.bc_rules_defs.specs.declared.rule.Table.{Table}
-use Rattle.bc_rules_defs.specs.Rules.{RootDerives}
 use Rattle.bc_rules_defs.specs.Code.{root_cost, root_labels}
 use Rattle.bc_gen_defs.specs.Emit.{Code, Roots}
-use Rattle.bc_gen_defs.specs.Bodies.{BodiesCode, coding_of, over, body_exits, emit_valof, bodies_from, emit_body, level_of}
+use Rattle.bc_gen_defs.specs.Bodies.{Choice, BodiesCode, coding_of, over, body_exits, emit_valof, bodies_from, emit_body, level_of}
 use Rattle.bc_gen_defs.specs.Section.{emit_routines, data_items, setting, setting_items}
 use Rattle.bc_gen_defs.specs.Size.{Words, words_of_block, with_bodies, words_of_bodies, words_of_body, words_of_places}
 use Rattle.bc_gen_sizes.specs.Sizes.{SectionsHaveTheirSize}
 use Rattle.bc_gen_sizes.proofs.Takes.{Takes, takes_none, takes_both, takes_as, takes_operation, takes_label, takes_data, takes_setting}
 use Rattle.bc_gen_sizes.proofs.Fills.{root_takes}
 use Rattle.bc_gen_sizes.proofs.Commands.{RootsTake, block_takes}
-
-abbrev Choice : Table → Type 0
-Choice T = (r : Root) → RootDerives T r
 
 abbrev own : {T : Table} → Choice T → Words
 own choice r = root_cost (choice r)

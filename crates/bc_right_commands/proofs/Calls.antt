@@ -1,5 +1,5 @@
 -- Calls and VALOFs do what they mean, by induction on how deep calls nest, and within it on the VALOFs.
-use Rattle.std.proofs.Common.{◌≡◌, ◌≢◌, ◌⊎◌, inl, inr, ⊎_elim, ℕ, zero, suc, ◌+◌, ◌%◌, ◌<◌, ◌≤◌, ◌==◌, Bool, true, false, Option, Some, None, List, [], ◌∷◌, ◌++◌, length, refl, sym, ap, ◌∙◌, subst, arith}
+use Rattle.std.proofs.Common.{◌≡◌, ◌⊎◌, inl, inr, ⊎_elim, ℕ, zero, suc, ◌+◌, ◌%◌, ◌<◌, ◌≤◌, ◌==◌, Bool, true, false, Option, Some, None, List, [], ◌∷◌, ◌++◌, length, refl, sym, ap, ◌∙◌, subst, arith}
 use Rattle.std.specs.Prelude.{slice_set, slice_index, nat_le}
 use Rattle.std.proofs.lemmas.Bool.{cases_lt}
 use Rattle.std.proofs.lemmas.Bool.Decides.{nat_tests}
@@ -15,7 +15,7 @@ use Rattle.bc_machine_defs.specs.Operand.{next}
 use Rattle.bc_machine_defs.specs.Step.{step}
 use Rattle.bc_machine_defs.specs.Run.{runs, ended}
 use Rattle.bc_core.specs.Tree.{Value}
-use Rattle.bc_core.specs.Commands.{Block, Routine, Body, Gives, Valof}
+use Rattle.bc_core.specs.Commands.{Routine, Body, Gives, Valof}
 use Rattle.bc_core.specs.Commands as commands
 use Rattle.bc_core.specs.Level.{level_behind_parameters}
 use Rattle.bc_core.specs.Layout.{Bodies, cells_of_valofs, cells_of_block, cells_of_body, frame_size}
@@ -45,7 +45,7 @@ use Rattle.bc_right_steps.specs.Premises.{CallLands, BodiesCode, ValofsLand, Roo
 use Rattle.bc_gen_defs.specs.Bodies.{body_exits, bodies_from, emit_body, level_of}
 use Rattle.bc_right_commands.specs.Calls.{RoutineStands, ProgramStands, LibraryLands, CallsLand}
 use Rattle.bc_right_steps.proofs.Steps.{later_then, parts, at_end, at_label, behind_item, behind_label, acts, went, at_place, jumped, lands_done, Onward, then_raw, does_onto, turn, lands_map}
-use Rattle.bc_right_steps.proofs.Cells.{filled_either, closed_holds}
+use Rattle.bc_right_steps.proofs.Cells.{filled_either, closed_holds, differ, set_either, set_is}
 use Rattle.bc_right_commands.specs.Levelled.{BlockLevelled, BodyLevelled, ValofsLevelled}
 use Rattle.bc_right_commands.proofs.Commands.{block_lands}
 use Rattle.std.proofs.lemmas.Bool.{eqb-true}
@@ -139,18 +139,6 @@ module _ (C : Context) (address levels : ℕ → ℕ) (V : Bodies) (S K : Moment
 words_held : (m : List ℕ) (a v c : ℕ) (ws : List ℕ) → a < c → HasWords m c ws → HasWords (slice_set m a v) c ws
 words_held m a v c [] lt h = tt
 words_held m a v c (w ∷ ws) lt h = (get_or-set_other m a c v 0 (λ e. omega arith) ∙ h.0, words_held m a v (c + 1) ws (omega arith) h.1)
-
-differ : (n k : ℕ) → (n ≢ k) ⊎ (n ≡ k)
-differ n k = ⊎_elim (λ lt. inl (λ e. omega arith)) (λ ge. ⊎_elim (λ lt. inl (λ e. omega arith)) (λ le. inr (omega arith)) (cases_lt k n)) (cases_lt n k)
-
-set_either : (cells : List Cell) (a b : ℕ) (k : Cell) → (cell_at (slice_set cells a k) b ≡ k) ⊎ (cell_at (slice_set cells a k) b ≡ cell_at cells b)
-set_either cells a b k = filled_either 1 a k cells b
-
-unset_is_not : (w : ℕ) (k : Cell) → k ≡ Unset → k ≡ Set w → ⊥
-unset_is_not w k e h = let f : Unset ≡ Set w = sym e ∙ h in cc
-
-set_is : (v w : ℕ) (k : Cell) → k ≡ Set v → k ≡ Set w → v ≡ w
-set_is v w k e h = let f : Set v ≡ Set w = sym e ∙ h in cc
 
 -- the arguments become cells, above which none is live
 one_passed : (a : ℕ) (k : Cell) (cells : List Cell) (m : List ℕ) → ((w : ℕ) → k ≡ Set w → slice_index m a ≡ w) → Holds a cells m → Holds (a + 1) (slice_set cells a k) m

@@ -1,7 +1,6 @@
 -- A FOR's own test is a test like any other: it is read off over the cells with one more set, the limit's.
-use Rattle.std.proofs.Common.{◌≡◌, ◌≢◌, ◌⊎◌, inl, inr, ⊎_elim, ℕ, ◌+◌, ◌%◌, ◌<◌, ◌≤◌, List, Bool, true, false, refl, sym, ap, ◌∙◌, subst, arith}
+use Rattle.std.proofs.Common.{◌≡◌, ◌≢◌, ◌⊎◌, ⊎_elim, ℕ, ◌+◌, ◌%◌, ◌<◌, ◌≤◌, List, Bool, true, false, refl, sym, ap, ◌∙◌, subst, arith}
 use Rattle.std.specs.Prelude.{slice_set, slice_index, cond, nat_le}
-use Rattle.std.proofs.lemmas.Bool.{cases_lt}
 use Rattle.std.proofs.lemmas.List.{get_or-set_same, get_or-set_other, length-set}
 use Rattle.bc_word.specs.Words.{holds, value_of, truth as word_of}
 use Rattle.bc_word.specs.declared.operator.Rel.{Rel}
@@ -22,6 +21,7 @@ use Rattle.bc_right_steps.specs.Landing.{Moment, moment, Later, Stands, Reached,
 use Rattle.bc_right_steps.specs.Premises.{RootsLand}
 use Rattle.bc_right_steps.specs.Goals.{jumps_to, test_goal}
 use Rattle.bc_right_commands.proofs.Forms.{for_goal}
+use Rattle.bc_right_steps.proofs.Cells.{differ, set_is, dead_is_not}
 use Rattle.bc_right_steps.proofs.Steps.{later_then, later_refl}
 
 -- a value is held in a dead cell
@@ -30,15 +30,6 @@ pub record Held (S K : Moment) (k n : ℕ) : Type 0 where
   pub above : S.top ≤ k
   pub within : k < K.top
   pub is : slice_index K.store k ≡ n
-
-differ : (n k : ℕ) → (n ≢ k) ⊎ (n ≡ k)
-differ n k = ⊎_elim (λ lt. inl (λ e. omega arith)) (λ ge. ⊎_elim (λ lt. inl (λ e. omega arith)) (λ le. inr (omega arith)) (cases_lt k n)) (cases_lt n k)
-
-set_same : (n w : ℕ) (c : Cell) → c ≡ Set n → c ≡ Set w → n ≡ w
-set_same n w c e h = let f : Set n ≡ Set w = sym e ∙ h in cc
-
-never_set : (w : ℕ) (c : Cell) → c ≡ Dead → c ≡ Set w → ⊥
-never_set w c e h = let f : Dead ≡ Set w = sym e ∙ h in cc
 
 never_unset : (c : Cell) → c ≡ Dead → c ≡ Unset → ⊥
 never_unset c e h = let f : Dead ≡ Unset = sym e ∙ h in cc
@@ -112,7 +103,7 @@ module _ (C : Context) (address levels : ℕ → ℕ) (V : Bodies) (S : Moment) 
           leads = here.leads;
           holds = record {
             agrees = λ i w e. ⊎_elim (λ ne. here.holds.agrees i w (sym (get_or-set_other st.cells k i (Set n) Dead ne) ∙ e))
-                (λ at. ap (λ z. slice_index m z) at ∙ is_n ∙ set_same n w (cell_at st1.cells k) set (sym (ap (λ z. cell_at st1.cells z) at) ∙ e)) (differ i k);
+                (λ at. ap (λ z. slice_index m z) at ∙ is_n ∙ set_is n w (cell_at st1.cells k) set (sym (ap (λ z. cell_at st1.cells z) at) ∙ e)) (differ i k);
             above = λ i ge. get_or-set_other st.cells k i (Set n) Dead (λ e. omega arith) ∙ here.holds.above i ge;
             whole = here.holds.whole;
             spans = length-set st.cells k (Set n) ∙ here.holds.spans;
@@ -142,7 +133,7 @@ module _ (C : Context) (address levels : ℕ → ℕ) (V : Bodies) (S : Moment) 
             are_words = r.are_words;
             leads = r.leads;
             holds = record {
-              agrees = λ q w f. ⊎_elim (λ ne. r.holds.agrees q w (other q ne ∙ f)) (λ at. absurd (never_set w (cell_at st.cells k) gone (sym (ap (λ z. cell_at st.cells z) at) ∙ f))) (differ q k);
+              agrees = λ q w f. ⊎_elim (λ ne. r.holds.agrees q w (other q ne ∙ f)) (λ at. absurd (dead_is_not w (cell_at st.cells k) gone (sym (ap (λ z. cell_at st.cells z) at) ∙ f))) (differ q k);
               above = here.holds.above;
               whole = r.holds.whole;
               spans = here.holds.spans;

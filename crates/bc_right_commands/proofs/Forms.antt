@@ -8,7 +8,7 @@ use Rattle.bc_machine_defs.specs.State.{State}
 use Rattle.bc_word.specs.Words.{holds}
 use Rattle.bc_core.specs.Commands.{Items, no_item, command, case, default, label}
 use Rattle.bc_core.specs.Outcome as outcomes
-use Rattle.bc_core.specs.Outcome.{Done, Run, Finished, followed, then_do, choose, in_turn, ends, Round, Again, Leave, repeated}
+use Rattle.bc_core.specs.Outcome.{Done, Run, Finished, then_do, choose, ends, Round, Again, Leave, repeated}
 use Rattle.bc_core.specs.Exit.{Exit, Past, Broke, Looped, LeftCases, Returned, Resulted, Jumped, past, onward}
 use Rattle.bc_core.specs.Loop.{LoopRound, end_relation, back, leave, behind_body, agrees, while_loop, repeat_loop, repeat_while_loop}
 use Rattle.bc_core.specs.Lists.{Entry, Beginning, AtCase, AtDefault, AtLabel, has_case, has_label, behind_list, listed}

@@ -2,7 +2,7 @@
 use Rattle.std.proofs.Common.{◌≡◌, ℕ, zero, suc, ◌<◌, ◌≤◌, List, arith}
 use Rattle.bc_machine_defs.specs.State.{State}
 use Rattle.bc_core.specs.Outcome as outcomes
-use Rattle.bc_core.specs.Outcome.{Done, Run, Round, Again, Leave, next_round, rounds, repeated}
+use Rattle.bc_core.specs.Outcome.{Run, Round, Again, Leave, next_round, rounds, repeated}
 use Rattle.bc_right_steps.specs.Landing.{Moment, Reached, Goal, Lands, Does}
 use Rattle.bc_right_steps.proofs.Steps.{plain, at_place, lands_done, bind, lands_map}
 

@@ -2,7 +2,7 @@
 use Rattle.std.proofs.Common.{◌≡◌, ℕ, ◌+◌, ◌==◌, Bool, true, false, Option, Some, None, List, [], ◌∷◌, refl, sym, ◌∙◌, subst}
 use Rattle.std.proofs.lemmas.Bool.{eqb-true}
 use Rattle.bc_core.specs.Commands as commands
-use Rattle.bc_core.specs.Commands.{Place, Routine, Valof}
+use Rattle.bc_core.specs.Commands.{Place, Routine}
 use Rattle.bc_core.specs.Level.{level_behind_parameters}
 use Rattle.bc_core.specs.Primitive.{Primitive, primitives, primitive_among}
 use Rattle.bc_core.specs.Map.{Placed}

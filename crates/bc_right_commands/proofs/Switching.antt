@@ -11,7 +11,7 @@ use Rattle.bc_machine_defs.specs.Operand.{next}
 use Rattle.bc_machine_defs.specs.Switch.{case_of}
 use Rattle.bc_core.specs.Commands.{Items, no_item, command, case, default, label}
 use Rattle.bc_core.specs.Outcome as outcomes
-use Rattle.bc_core.specs.Outcome.{Outcome, Done, Run, followed, then_do, next_round, rounds}
+use Rattle.bc_core.specs.Outcome.{Done, Run, followed, then_do, next_round, rounds}
 use Rattle.bc_core.specs.Value.{Context}
 use Rattle.bc_core.specs.Exit.{Exit, Past, Broke, Looped, LeftCases, Returned, Resulted, Jumped}
 use Rattle.bc_core.specs.Command.{perform_items}

@@ -14,11 +14,10 @@ use Rattle.bc_core.specs.Map.{IsMap}
 use Rattle.bc_core.specs.Meaning.{meaning}
 use Rattle.bc_core.specs.Same.{Same}
 use Rattle.bc_rules_defs.specs.declared.rule.Table.{Table}
-use Rattle.bc_gen_defs.specs.Bodies.{coding_of}
+use Rattle.bc_gen_defs.specs.Bodies.{Choice, coding_of}
 use Rattle.bc_link.specs.Layout.{stack_base_of}
 use Rattle.bc_link.specs.Refusals.{refusal_of}
 use Rattle.bc_link.specs.Store.{boot, globals_of, words_from, store_of}
-use Rattle.bc_right_rules.specs.Right.{Choice}
 use Rattle.bc_right_programs.specs.Linked.{segments_of, linked_map}
 use Rattle.bc_right_programs.proofs.Program.{programs_run}
 use Rattle.bc_right_programs.proofs.Ranges.{linked_map_is_map}

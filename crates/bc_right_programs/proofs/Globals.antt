@@ -10,7 +10,7 @@ use Rattle.bc_text_items.specs.Sizes.{size_of_all}
 use Rattle.bc_text_items.specs.Assembled.{label_places, global_settings}
 use Rattle.bc_text_items.proofs.Parts as items
 use Rattle.bc_core.specs.Commands as commands
-use Rattle.bc_core.specs.Commands.{Place, Core}
+use Rattle.bc_core.specs.Commands.{Place}
 use Rattle.bc_core.specs.Map.{ARoutine, Standing, standing_from}
 use Rattle.bc_core.specs.Start.{or_else, sets, setting}
 use Rattle.bc_gen_defs.specs.Section as section

@@ -4,7 +4,7 @@ use Rattle.std.specs.Prelude.{map, slice_get, length, not, nat_le}
 use Rattle.std.proofs.lemmas.Bool.{eqb-true}
 use Rattle.bc_core.specs.Tree.{Exp, Num, Frame, Glob, Place, Load, Neg, Not, Bin, Cond, Call, Args, no_argument, argument, count}
 use Rattle.bc_core.specs.Tree as tree
-use Rattle.bc_core.specs.Commands.{Variable, Initial, Vector, Command, Block, block, Items, no_item, command, case, default, label, Routine, Body, Gives, Does, Valof, Core}
+use Rattle.bc_core.specs.Commands.{Variable, Initial, Vector, Command, Block, block, Items, no_item, command, case, default, label, Body, Gives, Does, Valof, Core}
 use Rattle.bc_core.specs.Commands as commands
 use Rattle.bc_core.specs.Level.{side_level, cells_of_all, cells_declared, level_in_for, level_behind_parameters}
 use Rattle.bc_core.specs.WellFormed.{nodes, entries_differ, most_nodes, Around, stands_at, exp_fits, args_fit, root_fits, assignment_fits, variables_fit, declarations_fit, Jumps, in_a_loop, in_list, jumps_in_routine, jumps_in_valof, has_entries, are_distinct, labels_of, command_fits, block_fits, items_fit, body_fits, place_fits, places_fit, valofs_fit, is_core, global_fits}

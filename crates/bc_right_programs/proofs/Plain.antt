@@ -18,10 +18,9 @@ use Rattle.bc_word.specs.Words.{number_of, negated}
 use Rattle.bc_rules_defs.specs.Rules.{Derives, v0, v1, v2, v3, v4, v6, v7, v8, v9, v10, v11, v12, v13, v14, v15, v16, v17, v18, v19, v20, v21, v22, v22_valof, j1, j2, j3, j4, j5, j6, j7, j8, j9, DerivesAll, no_more, one_more, RootDerives, value, test, a1, a2, a3}
 use Rattle.bc_rules_defs.specs.Code.{code, all_code, root_code, labels, all_labels}
 use Rattle.bc_gen_defs.specs.Emit.{Exits, jump, execute, zero_item, cases_in, labelled, labels_in, defaulted, entries_in, table_of, emit_variable, emit_variables, emit_declarations, end_of_for, emit, emit_block, emit_items}
-use Rattle.bc_gen_defs.specs.Bodies.{label_ahead, fill, over, coding_of, body_exits, bodies_from, emit_body}
+use Rattle.bc_gen_defs.specs.Bodies.{Choice, label_ahead, fill, over, coding_of, body_exits, bodies_from, emit_body}
 use Rattle.bc_gen_defs.specs.Section.{emit_routines}
 use Rattle.bc_right_steps.specs.Premises.{Roots, BodiesCode, Code}
-use Rattle.bc_right_rules.specs.Right.{Choice}
 
 abbrev pub Plain : List Item → Type 0
 Plain [] = Unit {0}

@@ -21,7 +21,7 @@ use Rattle.bc_core.specs.Start.{or_else, setting}
 use Rattle.bc_core.specs.Meaning.{Callee, OfSection, OfLibrary, callee, callee_among, of_library}
 use Rattle.bc_core.specs.Meaning as meanings
 use Rattle.bc_rules_defs.specs.declared.rule.Table.{Table}
-use Rattle.bc_gen_defs.specs.Bodies.{over, coding_of, level_of}
+use Rattle.bc_gen_defs.specs.Bodies.{Choice, over, coding_of, level_of}
 use Rattle.bc_gen_defs.specs.Section.{routines_code, section_items, data_items, setting_items}
 use Rattle.bc_link.specs.Labels.{label_address, labels_of}
 use Rattle.bc_link.specs.Layout.{size_of_segments, stack_base_of}
@@ -33,7 +33,6 @@ use Rattle.bc_link.specs.Store.{boot, words_from, globals_of, store_of}
 use Rattle.bc_link.proofs.Lengths.{length-assembled}
 use Rattle.bc_right_steps.specs.CodeAt.{HasWords, HasItems, words}
 use Rattle.bc_right_steps.specs.Landing.{Moment, Stands}
-use Rattle.bc_right_rules.specs.Right.{Choice}
 use Rattle.bc_right_rules.proofs.Derivations.{derivations_are_right}
 use Rattle.bc_right_commands.specs.Library.{primitive_items}
 use Rattle.bc_right_commands.specs.Whole.{boot_items}

@@ -10,7 +10,7 @@ use Rattle.bc_core.specs.Tree.{Value}
 use Rattle.bc_core.specs.Map.{Holding, ARoutine, Words, Standing, standing_from, standing, placed, Range, range, range_of, Apart, AllApart, Inside}
 use Rattle.bc_rules_defs.specs.declared.rule.Table.{Table}
 use Rattle.bc_gen_defs.specs.Emit.{zero_item, execute, emit_block}
-use Rattle.bc_gen_defs.specs.Bodies.{over, coding_of, bodies_from, body_exits, emit_body, level_of}
+use Rattle.bc_gen_defs.specs.Bodies.{Choice, over, coding_of, bodies_from, body_exits, emit_body, level_of}
 use Rattle.bc_gen_defs.specs.Section.{emit_routines}
 use Rattle.bc_link.specs.Labels.{label_address}
 use Rattle.bc_link.specs.Layout.{size_of_segments, stack_base_of}
@@ -18,7 +18,6 @@ use Rattle.bc_link.specs.Store.{words_from, store_of}
 use Rattle.bc_right_steps.specs.CodeAt.{HasWords, HasItems, words}
 use Rattle.bc_right_steps.specs.Premises.{Roots}
 use Rattle.bc_right_steps.proofs.Items.{words_append, has_back}
-use Rattle.bc_right_rules.specs.Right.{Choice}
 use Rattle.bc_right_programs.specs.Linked.{segments_of, addresses_from, LinkedMapIsMap}
 use Rattle.bc_right_programs.proofs.Standing.{words_front, DataBehind, DataAt}
 use Rattle.bc_right_programs.proofs.Cells.{in_bounds}

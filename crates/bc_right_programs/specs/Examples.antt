@@ -29,7 +29,8 @@ use Rattle.bc_link.specs.Labels.{label_address}
 use Rattle.bc_link.specs.Layout.{stack_base_of}
 use Rattle.bc_link.specs.Refusals.{refusal_of}
 use Rattle.bc_link.specs.Store.{boot, words_from, globals_of}
-use Rattle.bc_right_programs.specs.Linked.{execute, library_items}
+use Rattle.bc_gen_defs.specs.Emit.{execute}
+use Rattle.bc_right_programs.specs.Linked.{library_items}
 
 -- one output, selected
 abbrev streams : Content

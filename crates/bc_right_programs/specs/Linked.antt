@@ -14,23 +14,20 @@ use Rattle.bc_core.specs.Map.{Map, IsMap}
 use Rattle.bc_core.specs.Meaning.{meaning}
 use Rattle.bc_core.specs.Same.{Same}
 use Rattle.bc_rules_defs.specs.declared.rule.Table.{Table}
-use Rattle.bc_gen_defs.specs.Bodies.{Coding, coding_of}
+use Rattle.bc_gen_defs.specs.Bodies.{Choice, Coding, coding_of}
+use Rattle.bc_gen_defs.specs.Emit.{execute}
 use Rattle.bc_gen_defs.specs.Section.{section_items}
 use Rattle.bc_link.specs.Labels.{label_address}
 use Rattle.bc_link.specs.Layout.{stack_base_of}
 use Rattle.bc_link.specs.Refusals.{refusal_of}
 use Rattle.bc_link.specs.Store.{store_of}
-use Rattle.bc_right_rules.specs.Right.{Choice}
 
--- `LIP2`, `L0` and `Xn`
+-- `LIP2` and `L0`
 abbrev pub argument : Item
 argument = Operation functions.Load true bases.P 2
 
 abbrev pub nought : Item
 nought = Operation functions.Load false bases.Number 0
-
-abbrev pub execute : ℕ → Item
-execute n = Operation functions.Execute false bases.Number n
 
 -- the first segment of every program: the eight primitives, with their globals
 abbrev pub library_routines : List Item

@@ -1,5 +1,5 @@
 -- The rules of assignments: one cell is set.
-use Rattle.std.proofs.Common.{◌≡◌, ◌≢◌, ◌⊎◌, inl, inr, ⊎_elim, ℕ, ◌+◌, ◌≤◌, ◌<◌, ◌||◌, List, [], ◌∷◌, ◌++◌, length, true, not, Some, None, refl, sym, ap, ◌∙◌, subst, arith}
+use Rattle.std.proofs.Common.{◌≡◌, ◌⊎◌, ⊎_elim, ℕ, ◌+◌, ◌≤◌, ◌<◌, ◌||◌, List, [], ◌∷◌, ◌++◌, length, true, not, Some, None, refl, sym, ap, ◌∙◌, subst, arith}
 use Rattle.std.specs.Prelude.{slice_set, slice_index, cond, IsTrue, is_some}
 use Rattle.std.proofs.lemmas.Bool.{cases_lt}
 use Rattle.std.proofs.lemmas.List.{get_or-set_same, get_or-set_other, length-set}
@@ -30,6 +30,7 @@ use Rattle.bc_right_steps.specs.Landing.{Moment, Later, Stands, Reached, Lands, 
 use Rattle.bc_right_steps.specs.Items.{store_item}
 use Rattle.bc_right_steps.specs.Goals.{end_goal}
 use Rattle.bc_right_steps.specs.Premises.{StoresLast}
+use Rattle.bc_right_steps.proofs.Cells.{differ, set_is}
 use Rattle.bc_right_steps.proofs.Exchange.{sides_exchange}
 use Rattle.bc_right_steps.proofs.Steps.{at_end, behind_item, acts, leads_more, at_place, lands_done, then_raw}
 use Rattle.bc_right_rules.proofs.Filling.{filled, next, filled_parts}
@@ -37,14 +38,8 @@ use Rattle.bc_right_rules.proofs.Stretches.{gets_goal, as_value, does_lower, bot
 use Rattle.bc_right_rules.proofs.Values.{Gives}
 use Rattle.bc_right_rules.proofs.Operators.{in_order, held_parts, both_held, held_second, at_held}
 
-differ : (n k : ℕ) → (n ≢ k) ⊎ (n ≡ k)
-differ n k = ⊎_elim (λ lt. inl (λ e. omega arith)) (λ ge. ⊎_elim (λ lt. inl (λ e. omega arith)) (λ le. inr (omega arith)) (cases_lt k n)) (cases_lt n k)
-
 live_inside : (cells : List Cell) (a : ℕ) → (cell_at cells a ≡ Dead → ⊥) → a < length cells
 live_inside cells a live = ⊎_elim (λ lt. lt) (λ ge. absurd (live (get_or-eq_default cells Dead ge))) (cases_lt a (length cells))
-
-set_is : (v w : ℕ) (k : Cell) → k ≡ Set v → k ≡ Set w → v ≡ w
-set_is v w k e h = let f : Set v ≡ Set w = sym e ∙ h in cc
 
 set_is_not_unset : (w : ℕ) (k : Cell) → k ≡ Set w → k ≡ Unset → ⊥
 set_is_not_unset w k e h = let f : Set w ≡ Unset = sym e ∙ h in cc

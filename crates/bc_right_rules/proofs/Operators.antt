@@ -16,7 +16,7 @@ use Rattle.bc_machine_defs.specs.State.{State}
 use Rattle.bc_core.specs.Tree.{Exp, Bin}
 use Rattle.bc_core.specs.Layout.{Bodies, cells_of_exp}
 use Rattle.bc_core.specs.Outcome as outcomes
-use Rattle.bc_core.specs.Outcome.{Run, Done, then_do, both, followed}
+use Rattle.bc_core.specs.Outcome.{Run, then_do, both, followed}
 use Rattle.bc_core.specs.Value.{Context, has_call, given, value}
 use Rattle.bc_rules_defs.specs.declared.rule.Mode.TheVariants.{Any, Push}
 use Rattle.bc_rules_defs.specs.declared.piece.Piece.{Piece}

@@ -1,6 +1,6 @@
 -- What the code of one derivation does, as seen by the machine in front of it: the moment from which all is seen is the one at which
 -- it stands there.
-use Rattle.std.proofs.Common.{◌≡◌, ◌∙◌, ℕ, ◌+◌, ◌<◌, ◌≤◌, Bool, true, false, List, refl, sym, arith}
+use Rattle.std.proofs.Common.{◌≡◌, ◌∙◌, ℕ, ◌+◌, ◌<◌, Bool, true, false, List, refl, sym, arith}
 use Rattle.std.specs.Prelude.{cond, slice_index}
 use Rattle.bc_machine_defs.specs.Run.{runs}
 use Rattle.bc_core.specs.Loop.{agrees}

@@ -33,7 +33,7 @@ use Rattle.bc_core.specs.Outcome.{Outcome, Done, Ended, Going, Wild, Run, Ending
 use Rattle.bc_core.specs.Same.{end_of}
 use Rattle.bc_core.specs.Value.{Context, value, given}
 use Rattle.bc_rules_defs.specs.declared.rule.Mode.{Mode}
-use Rattle.bc_rules_defs.specs.declared.rule.Mode.TheVariants.{Any, Push}
+use Rattle.bc_rules_defs.specs.declared.rule.Mode.TheVariants.{Any}
 pub use Rattle.bc_right_rules.specs.Single.{Kept}
 use Rattle.bc_right_steps.specs.Leads.{machine, StopsAt, AreWords}
 use Rattle.bc_right_steps.specs.CodeAt.{HasWords}

@@ -13,7 +13,7 @@ use Rattle.bc_core.specs.Tree.{Exp, Num, Not, Bin}
 use Rattle.bc_core.specs.Layout.{Bodies, cells_of_exp}
 use Rattle.bc_core.specs.Loop.{agrees}
 use Rattle.bc_core.specs.Outcome as outcomes
-use Rattle.bc_core.specs.Outcome.{Run, Done, then_do, choose, both}
+use Rattle.bc_core.specs.Outcome.{Done, choose}
 use Rattle.bc_core.specs.Value.{Context, is_true, truth_of_value, value, truth}
 use Rattle.bc_rules_defs.specs.declared.rule.Mode.TheVariants.{Any}
 use Rattle.bc_rules_defs.specs.declared.piece.Piece.{Piece}

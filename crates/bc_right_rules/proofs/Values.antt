@@ -25,7 +25,6 @@ use Rattle.bc_rules_defs.specs.Free.{are_free, is_zero, without_zero}
 use Rattle.bc_rules_defs.specs.Piece.{L, A, A_number, X}
 use Rattle.bc_gen_defs.specs.Bodies.{BodiesCode}
 use Rattle.bc_right_steps.specs.Landing.{Moment, Later, Stands, Reached, Lands, Does}
-use Rattle.bc_right_steps.specs.Items.{hold_item}
 use Rattle.bc_right_steps.specs.Items as code
 use Rattle.bc_right_steps.proofs.Exchange.{sides_exchange}
 use Rattle.bc_right_steps.proofs.Operands.{Reads, operand_reads}

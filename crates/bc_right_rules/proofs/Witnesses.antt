@@ -8,12 +8,11 @@ use Rattle.bc_core.specs.Layout.{Bodies}
 use Rattle.bc_core.specs.Outcome.{wild}
 use Rattle.bc_core.specs.Value.{Context, value}
 use Rattle.bc_rules_defs.specs.declared.rule.Table.{Table}
-use Rattle.bc_gen_defs.specs.Bodies.{BodiesCode, coding_of, over}
+use Rattle.bc_gen_defs.specs.Bodies.{Choice, BodiesCode, coding_of, over}
 use Rattle.bc_right_steps.specs.Landing.{Moment, Does}
 use Rattle.bc_right_steps.specs.Goals.{value_goal}
 use Rattle.bc_right_steps.specs.Premises.{CallLands, ValofsLand, RootsLand}
 use Rattle.bc_right_steps.proofs.Steps.{parts, behind_label, at_end}
-use Rattle.bc_right_rules.specs.Right.{Choice}
 use Rattle.bc_right_rules.specs.Examples.{alone, no_body}
 use Rattle.bc_right_rules.proofs.Derivations.{derivations_are_right}
 

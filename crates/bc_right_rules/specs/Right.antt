@@ -1,15 +1,9 @@
 -- That each derivation is right on the machine, whichever is chosen for a root.
 use Rattle.std.specs.Prelude.{ℕ}
-use Rattle.bc_core.specs.Tree.{Root}
 use Rattle.bc_rules_defs.specs.declared.rule.Table.{Table}
-use Rattle.bc_rules_defs.specs.Rules.{RootDerives}
-use Rattle.bc_gen_defs.specs.Bodies.{coding_of, over}
+use Rattle.bc_gen_defs.specs.Bodies.{Choice, coding_of, over}
 use Rattle.bc_right_steps.specs.Landing.{Moment}
 use Rattle.bc_right_steps.specs.Premises.{RootsRight}
-
--- a derivation for each root
-abbrev pub Choice : Table → Type 0
-Choice T = (r : Root) → RootDerives T r
 
 -- by either table, for every choice of derivations, wherever the code stands: each root's code does what the root
 -- means, where its calls and VALOFs do

@@ -1,5 +1,5 @@
 -- The laws of the scopes and of linked programs put together.
-use Rattle.std.proofs.Common.{◌≡◌, ℕ, true, List, map, subst, sym}
+use Rattle.std.proofs.Common.{◌≡◌, true, List, map, subst, sym}
 use Rattle.std.specs.Prelude.{All}
 use Rattle.std.proofs.lemmas.List.Elements.{All-map, All-weaker}
 use Rattle.bc_machine_defs.specs.State.{start}

@@ -9,11 +9,10 @@ use Rattle.bc_scope_defs.specs.Translation.{core_of}
 use Rattle.bc_scope_defs.specs.Faults.{section_fault}
 use Rattle.bc_scope_defs.specs.Sections.{meaning_of_sections}
 use Rattle.bc_rules_defs.specs.declared.rule.Table.{Table}
-use Rattle.bc_gen_defs.specs.Bodies.{coding_of}
+use Rattle.bc_gen_defs.specs.Bodies.{Choice, coding_of}
 use Rattle.bc_link.specs.Layout.{stack_base_of}
 use Rattle.bc_link.specs.Refusals.{refusal_of}
 use Rattle.bc_link.specs.Store.{store_of}
-use Rattle.bc_right_rules.specs.Right.{Choice}
 use Rattle.bc_right_programs.specs.Linked.{segments_of, linked_map}
 
 -- a section that is not refused, and no greater than any that is parsed

@@ -1,7 +1,6 @@
 -- Agreement of cells and store from one moment to the next.
-use Rattle.std.proofs.Common.{◌≡◌, ◌≢◌, ◌⊎◌, inl, inr, ⊎_elim, ℕ, ◌+◌, ◌<◌, ◌≤◌, List, [], ◌∷◌, length, sym, ap, ◌∙◌, arith}
+use Rattle.std.proofs.Common.{◌≡◌, ◌⊎◌, ⊎_elim, ℕ, ◌+◌, ◌<◌, ◌≤◌, List, [], ◌∷◌, length, sym, ap, ◌∙◌, arith}
 use Rattle.std.specs.Prelude.{slice_set}
-use Rattle.std.proofs.lemmas.Bool.{cases_lt}
 use Rattle.std.proofs.lemmas.List.{length-set, get_or-set_other}
 use Rattle.bc_text_items.specs.declared.item.Item.{Item}
 use Rattle.bc_text_items.specs.Sizes.{size}
@@ -9,6 +8,7 @@ use Rattle.bc_text_items.specs.Assembled.{words_of_item}
 use Rattle.bc_core.specs.Store.{Cell, Dead, Set, cell_at}
 use Rattle.bc_right_steps.specs.Agreement.{Holds, Keeps}
 use Rattle.bc_right_steps.specs.CodeAt.{HasWords, HasItems, words, IsCode}
+use Rattle.bc_right_steps.proofs.Cells.{differ}
 
 pub keeps_then : (top : ℕ) (c0 c1 c2 : List Cell) (m0 m1 m2 : List ℕ) → Keeps top c0 m0 c1 m1 → Keeps top c1 m1 c2 m2 → Keeps top c0 m0 c2 m2
 keeps_then top c0 c1 c2 m0 m1 m2 k l = record {
@@ -22,9 +22,6 @@ keeps_down top top1 c0 c1 m0 m1 le k = record { dead = λ a lt d. k.dead a (omeg
 
 pub holds_up : (top top1 : ℕ) (cells : List Cell) (m : List ℕ) → top ≤ top1 → Holds top cells m → Holds top1 cells m
 holds_up top top1 cells m le h = record { agrees = h.agrees; above = λ a ge. h.above a (omega arith); whole = h.whole; spans = h.spans }
-
-differ : (n k : ℕ) → (n ≢ k) ⊎ (n ≡ k)
-differ n k = ⊎_elim (λ lt. inl (λ e. omega arith)) (λ ge. ⊎_elim (λ lt. inl (λ e. omega arith)) (λ le. inr (omega arith)) (cases_lt k n)) (cases_lt n k)
 
 -- a value is held in a dead cell
 pub holds_held : (top a v : ℕ) (cells : List Cell) (m : List ℕ) → Holds top cells m → cell_at cells a ≡ Dead → Holds top cells (slice_set m a v)

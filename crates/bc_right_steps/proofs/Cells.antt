@@ -15,11 +15,11 @@ filled_length : (n a : ℕ) (k : Cell) (cells : List Cell) → length (filled n 
 filled_length zero a k cells = refl
 filled_length (suc n) a k cells = filled_length n (a + 1) k (slice_set cells a k) ∙ length-set cells a k
 
-differ : (n k : ℕ) → (n ≢ k) ⊎ (n ≡ k)
+pub differ : (n k : ℕ) → (n ≢ k) ⊎ (n ≡ k)
 differ n k = ⊎_elim (λ lt. inl (λ e. omega arith)) (λ ge. ⊎_elim (λ lt. inl (λ e. omega arith)) (λ le. inr (omega arith)) (cases_lt k n)) (cases_lt n k)
 
 -- a cell is the new one, or as it was
-set_either : (cells : List Cell) (a b : ℕ) (k : Cell) → (cell_at (slice_set cells a k) b ≡ k) ⊎ (cell_at (slice_set cells a k) b ≡ cell_at cells b)
+pub set_either : (cells : List Cell) (a b : ℕ) (k : Cell) → (cell_at (slice_set cells a k) b ≡ k) ⊎ (cell_at (slice_set cells a k) b ≡ cell_at cells b)
 set_either cells a b k = ⊎_elim (λ ne. inr (get_or-set_other cells a b k Dead ne)) (λ e. here e) (differ b a) where
   here : b ≡ a → (cell_at (slice_set cells a k) b ≡ k) ⊎ (cell_at (slice_set cells a k) b ≡ cell_at cells b)
   here e = ⊎_elim (λ lt. inl (ap (λ z. cell_at (slice_set cells a k) z) e ∙ get_or-set_same cells a k Dead lt))
@@ -31,10 +31,13 @@ filled_either zero a k cells b = inr refl
 filled_either (suc n) a k cells b =
     ⊎_elim (λ e. inl e) (λ e. ⊎_elim (λ h. inl (e ∙ h)) (λ h. inr (e ∙ h)) (set_either cells a b k)) (filled_either n (a + 1) k (slice_set cells a k) b)
 
-unset_is_not : (w : ℕ) (k : Cell) → k ≡ Unset → k ≡ Set w → ⊥
+pub set_is : (v w : ℕ) (k : Cell) → k ≡ Set v → k ≡ Set w → v ≡ w
+set_is v w k e h = let f : Set v ≡ Set w = sym e ∙ h in cc
+
+pub unset_is_not : (w : ℕ) (k : Cell) → k ≡ Unset → k ≡ Set w → ⊥
 unset_is_not w k e h = let f : Unset ≡ Set w = sym e ∙ h in cc
 
-dead_is_not : (w : ℕ) (k : Cell) → k ≡ Dead → k ≡ Set w → ⊥
+pub dead_is_not : (w : ℕ) (k : Cell) → k ≡ Dead → k ≡ Set w → ⊥
 dead_is_not w k e h = let f : Dead ≡ Set w = sym e ∙ h in cc
 
 opened_holds : (n top : ℕ) (cells : List Cell) (m : List ℕ) → Holds top cells m → Holds (top + n) (opened n top cells) m

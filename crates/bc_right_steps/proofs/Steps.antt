@@ -17,7 +17,7 @@ use Rattle.bc_machine_defs.specs.Run.{runs, ended}
 use Rattle.bc_core.specs.Store.{Dead, cell_at}
 use Rattle.std.proofs.lemmas.Bool.{cases_lt}
 use Rattle.bc_core.specs.Outcome as outcomes
-use Rattle.bc_core.specs.Outcome.{Outcome, Done, Ended, Going, Wild, Run, Ending, followed, then_do, choose, taken, in_turn, ends}
+use Rattle.bc_core.specs.Outcome.{Outcome, Done, Ended, Going, Wild, Run, followed, then_do, choose, taken, in_turn, ends}
 use Rattle.bc_right_steps.specs.Leads.{machine, Ahead, StopsAt}
 use Rattle.bc_right_steps.specs.CodeAt.{HasItems, words}
 use Rattle.bc_right_steps.proofs.Agreeing.{keeps_then, keeps_down, code_kept}

@@ -7,7 +7,7 @@ ghost use Rattle.bc_rules.specs.View.{parts, expression};
 
 use crate::parts::{Part, Parts};
 use bc_core::{CoreExp, constant, operand};
-use bc_rules_defs::{Aim, Mode, Rule, Takes, is_zero};
+use bc_rules_defs::{Aim, Mode, Rule, Takes, is_plain_operator, is_zero};
 use bc_word::{Op, mirror};
 
 /// Whether the test of an expression is made of its value: neither NOT nor `&` nor the bar is on top.
@@ -16,24 +16,7 @@ fn plain(e: &CoreExp) -> bool
 {
     match e {
         CoreExp::Not(_) => false,
-        CoreExp::Bin(op, _, _) => match op {
-            Op::And | Op::Or => false,
-            Op::Multiply
-            | Op::Divide
-            | Op::Remainder
-            | Op::Add
-            | Op::Subtract
-            | Op::Equal
-            | Op::NotEqual
-            | Op::Less
-            | Op::GreaterEqual
-            | Op::Greater
-            | Op::LessEqual
-            | Op::ShiftLeft
-            | Op::ShiftRight
-            | Op::NotEquivalent
-            | Op::Equivalent => true,
-        },
+        CoreExp::Bin(op, _, _) => is_plain_operator(*op),
         CoreExp::Num(_)
         | CoreExp::Frame(_)
         | CoreExp::Glob(_)

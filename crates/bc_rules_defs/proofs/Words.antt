@@ -50,7 +50,7 @@ weighs_body k {ps = ps} {n = n} h = record { all = λ rest. h.all rest }
 on_end : (f : Function) (o : Operand) → Weighs (on f o ∷ []) (operand_words o)
 on_end f o = op f (cond o.direct false true) o.base o.n
 
-operator_words : (o : Op) → operation_size Number (number_of o) ≡ 1
+pub operator_words : (o : Op) → operation_size Number (number_of o) ≡ 1
 operator_words Multiply = refl
 operator_words Divide = refl
 operator_words Remainder = refl

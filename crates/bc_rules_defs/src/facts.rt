@@ -3,12 +3,12 @@
 ghost use Rattle.std.specs.Prelude.{◌≡◌, ◌≤◌};
 ghost use Rattle.bc_core.specs.View.{exp};
 ghost use Rattle.bc_rules_defs.specs.Piece.{w, operand_words as words_of_operand};
-ghost use Rattle.bc_rules_defs.specs.Free.{direct_operand, jumps_at, is_zero as is_zero_of};
+ghost use Rattle.bc_rules_defs.specs.Free.{direct_operand, is_plain_operator as is_plain_of, jumps_at, is_zero as is_zero_of};
 
 use bc_core::{Base, CoreExp, Operand};
-use bc_word::Word;
+use bc_word::{Op, Word};
 
-/// The words of an instruction with this number: 1 to 511, 2 from 512 on.
+/// The words of an instruction with this number: one word up to 511, two words from 512 on.
 #[inline(always)]
 pub fn number_words(number: u64) -> u64
     ensures words { result ≡ w number }
@@ -44,6 +44,19 @@ pub fn jumps(sense: bool, number: Word) -> bool
     ensures { result ≡ jumps_at sense number }
 {
     (number.get() != 0) == sense
+}
+
+/// Whether a test of an operator may be made of its value: neither `&` nor the bar.
+#[inline(always)]
+pub fn is_plain_operator(op: Op) -> bool
+    ensures { result ≡ is_plain_of op }
+{
+    match op {
+        Op::And | Op::Or => false,
+        Op::Multiply | Op::Divide | Op::Remainder | Op::Add | Op::Subtract | Op::Equal => true,
+        Op::NotEqual | Op::Less | Op::GreaterEqual | Op::Greater | Op::LessEqual => true,
+        Op::ShiftLeft | Op::ShiftRight | Op::NotEquivalent | Op::Equivalent => true,
+    }
 }
 
 /// Whether an expression is the number 0.

@@ -12,7 +12,7 @@ mod takes;
 
 pub use derivation::Derivation;
 pub use entry::Entry;
-pub use facts::{is_direct, is_zero, jumps, number_words, operand_words};
+pub use facts::{is_direct, is_plain_operator, is_zero, jumps, number_words, operand_words};
 pub use names::RULES;
 pub use piece::Piece;
 pub use rule::{Aim, Mode, Rule, Table};

@@ -6,12 +6,12 @@ use Rattle.bc_parse_tree.specs.declared.tree.Storage.{Storage}
 use Rattle.bc_parse_tree.specs.declared.tree.Storage.TheVariants as storage
 use Rattle.bc_parse_tree.specs.Tree as tree
 use Rattle.bc_core.specs.Level.{operand_level, argument_level, routine_level, level_in_for, level_behind_parameters}
-use Rattle.bc_core.specs.WellFormed.{Around, Jumps, nodes, most_nodes, stands_at, exp_fits, args_fit, root_fits, assignment_fits, variables_fit, declarations_fit, has, are_distinct, has_entries, global_fits, command_fits, block_fits, items_fit}
+use Rattle.bc_core.specs.WellFormed.{Around, has, global_fits}
 use Rattle.bc_core.specs.WellFormed as fitting
 use Rattle.bc_scope_defs.specs.Scope.{Meant, Constant, Pending, Static, Global, Routine, Variable, OuterVariable, OuterLabel, StrayVariable, StrayLabel, LabelOutside, Undeclared, Env, Names, Name, Numbers, meant_among, meant_by, is_name, behind_valof, behind_labels, behind_place}
 use Rattle.bc_scope_defs.specs.Scope as scope
 use Rattle.bc_scope_defs.specs.Numbering.{behind, behind_all, behind_declarations, behind_declaration, behind_definition, behind_command, behind_block, labels_of, labels_in}
-use Rattle.bc_scope_defs.specs.Scoping.{names_of, operator, constant, constant_in, or_zero, count, pending, in_entry, in_entries, variables, routine_name, in_definition, in_definitions, before_let, in_let, in_declaration, in_declarations, cells_in, level_behind, in_for, in_label, in_labels, in_item, in_list, around_routine, around_valof, seen_through, in_valof, in_routine}
+use Rattle.bc_scope_defs.specs.Scoping.{names_of, count, pending, in_entry, before_let, in_let, in_declaration, in_declarations, cells_in, level_behind, in_for, in_list, around_routine, around_valof, seen_through, in_valof, in_routine}
 use Rattle.bc_scope_defs.specs.Scoping as scoping
 use Rattle.bc_scope_defs.specs.Translation.{core_items}
 use Rattle.bc_scope_defs.specs.Found.{RoutineBody, Gives, Does, in_parameters, global_of, Thing, AValof, ARoutine, Data, AText, found, found_in_arguments, found_in_sides, found_in_initials, found_in_definition, found_in_definitions, found_in_entries, found_in_declaration, found_in_declarations, found_in_block, found_in_items, found_in_command}

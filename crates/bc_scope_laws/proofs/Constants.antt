@@ -15,7 +15,7 @@ use Rattle.bc_core.specs.Numbers.{is_word, are_words, are_bytes}
 use Rattle.bc_scope_defs.specs.Scope.{Meant, Constant, Pending, Static, Global, Routine, Variable, OuterVariable, OuterLabel, StrayVariable, StrayLabel, LabelOutside, Undeclared, Env, Names, Name, Numbers, meant_among, meant_by, is_name}
 use Rattle.bc_scope_defs.specs.Scope as scope
 use Rattle.bc_scope_defs.specs.Numbering.{behind_entry, behind_declaration, behind_definition, labels_of}
-use Rattle.bc_scope_defs.specs.Scoping.{operator, constant, constant_in, constant_name, constant_monadic, constant_dyadic, or_zero, any_numbers, pending, own_names, meant_as, in_entry, in_entries, variables, routine_name, in_definition, in_definitions, before_let, in_let, in_declaration, in_declarations, cells_in, in_label, in_labels, in_list, around_routine, around_valof, seen_through, in_routine, in_valof}
+use Rattle.bc_scope_defs.specs.Scoping.{operator, constant, constant_in, constant_name, constant_monadic, constant_dyadic, or_zero, any_numbers, pending, own_names, meant_as, in_entry, in_entries, variables, routine_name, in_definition, in_definitions, before_let, in_let, in_declaration, in_declarations, cells_in, in_labels, in_list, around_routine, around_valof, seen_through, in_routine, in_valof}
 use Rattle.bc_scope_defs.specs.Scoping as scoping
 use Rattle.bc_scope_defs.specs.Characters.{escaped, characters, decoded}
 use Rattle.bc_scope_defs.specs.Found.{words_of_table, in_parameters}

@@ -9,7 +9,7 @@ use Rattle.bc_core.specs.Command.{initialise_one, initialise}
 use Rattle.bc_scope_defs.specs.Scope.{Env, Numbers}
 use Rattle.bc_scope_defs.specs.Numbering.{behind, behind_declaration, behind_definition}
 use Rattle.bc_scope_defs.specs.Scoping as scoping
-use Rattle.bc_scope_defs.specs.Scoping.{count, before_let, in_let, in_declaration, cells_in, level_behind, constant}
+use Rattle.bc_scope_defs.specs.Scoping.{count, before_let, in_let, in_declaration, level_behind}
 use Rattle.bc_scope_defs.specs.Translation.{initials, forms_of_all, core_definition, core_definitions, core_declarations}
 use Rattle.bc_scope_laws.proofs.Runs.{then_then}
 

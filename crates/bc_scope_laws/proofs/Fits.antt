@@ -10,14 +10,14 @@ use Rattle.bc_parse_tree.specs.Tree as tree
 use Rattle.bc_core.specs.Tree.{Exp, Num, Frame, Glob, Place, Load, Neg, Not, Bin, Cond, Call, Valof}
 use Rattle.bc_core.specs.Level.{operand_level, argument_level, routine_level}
 use Rattle.bc_core.specs.WellFormed.{Around, stands_at, exp_fits, args_fit, has}
-use Rattle.bc_scope_defs.specs.Scope.{Meant, Constant, Pending, Static, Global, Routine, Variable, OuterVariable, OuterLabel, StrayVariable, StrayLabel, LabelOutside, Undeclared, Env, Name, Numbers, with_name, meant_by, is_name, behind_valof, behind_labels, behind_place}
+use Rattle.bc_scope_defs.specs.Scope.{Meant, Constant, Pending, Static, Global, Routine, Variable, OuterVariable, OuterLabel, StrayVariable, StrayLabel, LabelOutside, Undeclared, Env, Name, Numbers, with_name, meant_by, is_name, behind_place}
 use Rattle.bc_scope_defs.specs.Scope as scope
 use Rattle.bc_scope_defs.specs.Numbering.{behind, behind_definition, behind_entry}
-use Rattle.bc_scope_defs.specs.Scoping.{operator, constant, constant_in, or_zero, count, pending, in_entry, in_entries, variables, routine_name, in_definition, in_definitions, before_let, in_let, in_declaration, in_declarations, cells_in, level_behind, in_for, in_label, in_labels, in_item, in_list, in_valof}
+use Rattle.bc_scope_defs.specs.Scoping.{operator, constant, constant_in, count, pending, in_entry, in_entries, variables, routine_name, in_definition, in_definitions}
 use Rattle.bc_scope_defs.specs.Scoping as scoping
 use Rattle.bc_scope_defs.specs.Translation.{Forms, form_of_name, form_of_monadic, form_of_dyadic, negation, opposite, or_not, forms, core_arguments}
 use Rattle.bc_scope_defs.specs.Found.{Thing, AValof, ARoutine, Data, found, found_in_arguments, found_in_definition, found_in_definitions, found_in_entries}
-use Rattle.bc_scope_defs.specs.Faults.{Fault, or_else, unless, Allowed}
+use Rattle.bc_scope_defs.specs.Faults.{Fault, or_else, unless}
 use Rattle.bc_scope_defs.specs.Faults as faults
 use Rattle.bc_scope_defs.specs.FaultsAlong as along
 use Rattle.bc_scope_laws.proofs.Forms.{count_kept}

@@ -5,21 +5,21 @@ use Rattle.bc_core.specs.Tree.{Exp, Frame}
 use Rattle.bc_core.specs.Commands as core
 use Rattle.bc_core.specs.Commands.{Items, no_item, command, case, default, label}
 use Rattle.bc_core.specs.Level.{level_in_for, side_level}
-use Rattle.bc_core.specs.WellFormed.{Around, Jumps, nodes, most_nodes, stands_at, exp_fits, args_fit, root_fits, assignment_fits, variables_fit, declarations_fit, has, are_distinct, has_entries, command_fits, block_fits, items_fit}
+use Rattle.bc_core.specs.WellFormed.{Around, Jumps, nodes, most_nodes, exp_fits, root_fits, assignment_fits, variables_fit, declarations_fit, has, are_distinct, has_entries, command_fits, block_fits, items_fit}
 use Rattle.bc_core.specs.WellFormed as fitting
-use Rattle.bc_scope_defs.specs.Scope.{Meant, Constant, Pending, Static, Global, Routine, Variable, OuterVariable, OuterLabel, StrayVariable, StrayLabel, LabelOutside, Undeclared, Env, Name, Numbers, meant_by, is_name, behind_valof, behind_labels, behind_place}
+use Rattle.bc_scope_defs.specs.Scope.{Meant, Constant, Pending, Static, Global, Routine, Variable, OuterVariable, OuterLabel, StrayVariable, StrayLabel, LabelOutside, Undeclared, Env, Name, Numbers, meant_by, behind_labels}
 use Rattle.bc_scope_defs.specs.Scope as scope
 use Rattle.bc_scope_defs.specs.Numbering.{behind, behind_all, behind_declarations, behind_declaration, behind_definition, behind_command, behind_block, labels_of, labels_in}
-use Rattle.bc_scope_defs.specs.Scoping.{operator, constant, constant_in, or_zero, count, pending, in_entry, in_entries, variables, routine_name, in_definition, in_definitions, before_let, in_let, in_declaration, in_declarations, cells_in, level_behind, in_for, in_label, in_labels, in_item, in_list, in_valof}
+use Rattle.bc_scope_defs.specs.Scoping.{pending, before_let, in_let, in_declaration, in_declarations, cells_in, level_behind, in_for, in_labels, in_list, in_valof}
 use Rattle.bc_scope_defs.specs.Scoping as scoping
-use Rattle.bc_scope_defs.specs.Translation.{Forms, form_of_name, form_of_monadic, form_of_dyadic, negation, opposite, or_not, forms, core_arguments, forms_of_all, assignments, assignment, initials, core_definition, core_definitions, core_declarations, core_labels, core_block, core_items, block_of}
+use Rattle.bc_scope_defs.specs.Translation.{Forms, forms, forms_of_all, assignments, assignment, initials, core_definition, core_definitions, core_declarations, core_labels, core_block, core_items, block_of}
 use Rattle.bc_scope_defs.specs.Translation as translation
 use Rattle.bc_scope_defs.specs.Found.{found, found_in_sides, found_in_initials, found_in_definition, found_in_definitions, found_in_declaration, found_in_declarations, found_in_block, found_in_items, found_in_command}
 use Rattle.bc_parse_tree.specs.Size.{exp_size, exps_size, block_size, declarations_size, definition_size, definitions_size, items_size, command_size}
 use Rattle.bc_core.specs.Lists.{has_label}
 use Rattle.bc_scope_defs.specs.Sides.{side_levels}
 use Rattle.bc_scope_defs.specs.Meaning.{among_labels, has_label_in, label_number}
-use Rattle.bc_scope_defs.specs.Faults.{Fault, or_else, unless, Allowed}
+use Rattle.bc_scope_defs.specs.Faults.{Fault, or_else, Allowed}
 use Rattle.bc_scope_defs.specs.Faults as faults
 use Rattle.bc_scope_defs.specs.FaultsAlong as along
 use Rattle.bc_scope_laws.proofs.Declared.{cells_kept, level_kept}

@@ -7,7 +7,7 @@ use Rattle.bc_word.specs.Words.{value_of, complemented, truth, signed}
 use Rattle.bc_parse_tree.specs.declared.tree.Monadic.{Monadic}
 use Rattle.bc_parse_tree.specs.declared.tree.Monadic.TheVariants as monadic
 use Rattle.bc_parse_tree.specs.Tree as tree
-use Rattle.bc_core.specs.Tree.{Exp, Num, Frame, Glob, Place, Load, Neg, Not, Bin, Cond, Call, Valof, Args, no_argument, argument}
+use Rattle.bc_core.specs.Tree.{Exp, Num, Frame, Glob, Place, Load, Neg, Not, Bin, Cond, Call, Valof}
 use Rattle.bc_core.specs.Tree as core
 use Rattle.bc_core.specs.Outcome.{Done, Run, then_do, both}
 use Rattle.bc_core.specs.Value.{Context, Sense, has_call, sense, value, by_value, given, not_sense, is_true, truth_of_value}

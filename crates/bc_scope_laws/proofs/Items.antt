@@ -2,7 +2,7 @@
 use Rattle.std.proofs.Common.{◌≡◌, ◌∙◌, ℕ, ◌+◌, ◌||◌, Bool, true, false, List, [], ◌∷◌, refl, sym, ap, arith}
 use Rattle.std.specs.Prelude.{◌==◌}
 use Rattle.bc_parse_tree.specs.Tree as tree
-use Rattle.bc_core.specs.Commands.{Command, Block, block, Items, no_item, command, case, default, label}
+use Rattle.bc_core.specs.Commands.{Command, block, Items, no_item, command, label}
 use Rattle.bc_core.specs.Commands as core
 use Rattle.bc_core.specs.Level.{side_level}
 use Rattle.bc_core.specs.Outcome.{then_do, both, write}

@@ -16,11 +16,11 @@ use Rattle.bc_core.specs.Command as core_command
 use Rattle.bc_core.specs.Meaning.{valof_value}
 use Rattle.bc_scope_defs.specs.Scope.{Env, Numbers, meant_by, behind_labels}
 use Rattle.bc_scope_defs.specs.Numbering.{behind, behind_all, behind_declarations, behind_declaration, behind_definition, behind_command, behind_block, labels_of, labels_in}
-use Rattle.bc_scope_defs.specs.Scoping.{operator, constant, count, before_let, in_let, in_declaration, in_declarations, cells_in, level_behind, in_for, in_list, in_valof}
+use Rattle.bc_scope_defs.specs.Scoping.{operator, constant, count, before_let, in_let, in_declaration, in_declarations, level_behind, in_for, in_list}
 use Rattle.bc_scope_defs.specs.Scoping as scoping
 use Rattle.bc_scope_defs.specs.Sides.{side_levels}
 use Rattle.bc_scope_defs.specs.Meaning.{Around, Worth, plain, worth, worth_of_monadic, worth_of_dyadic, arguments, sides, set_variable, initial_values, initialise_one, initialise, declare, run_block, run_items, run_command, run_for, met_labels}
-use Rattle.bc_scope_defs.specs.Translation.{Forms, forms, core_arguments, forms_of_all, initials, core_definition, core_definitions, core_declarations, core_block, core_items, block_of}
+use Rattle.bc_scope_defs.specs.Translation.{Forms, forms, core_arguments, forms_of_all, initials, core_definition, core_definitions, core_declarations, core_block, core_items}
 use Rattle.bc_scope_defs.specs.Translation as translation
 use Rattle.bc_scope_defs.specs.Found.{Thing, AValof, ARoutine, Data, found, found_in_arguments, found_in_sides, found_in_initials, found_in_definition, found_in_definitions, found_in_declaration, found_in_declarations, found_in_block, found_in_items, found_in_command}
 use Rattle.bc_scope_laws.proofs.Runs.{then_then, then_done, both_done}

@@ -5,11 +5,11 @@ use Rattle.bc_core.specs.Level.{level_behind_parameters}
 use Rattle.bc_core.specs.Layout.{cells_of_valofs}
 use Rattle.bc_core.specs.Outcome.{then_do}
 use Rattle.bc_core.specs.Primitive.{Primitive, primitives, primitive_among}
-use Rattle.bc_core.specs.Map.{Map, Placed, placed, Words, standing_from, standing}
+use Rattle.bc_core.specs.Map.{Placed, placed, Words, standing_from, standing}
 use Rattle.bc_core.specs.Map as places
 use Rattle.bc_core.specs.Words.{string_words}
 use Rattle.bc_core.specs.Start.{start_cells}
-use Rattle.bc_core.specs.Meaning.{Call, routine_value, context_in, body_value, Callee, OfSection, OfLibrary, callee_among, of_library, callee, Entered, entered_of, entered_at, meaning_over}
+use Rattle.bc_core.specs.Meaning.{Call, routine_value, body_value, Callee, OfSection, OfLibrary, callee_among, of_library, Entered, entered_of, entered_at, meaning_over}
 use Rattle.bc_core.specs.Meaning as meaning
 use Rattle.bc_scope_defs.specs.Meaning.{Around}
 use Rattle.bc_scope_defs.specs.Found.{AStatic, ATable, AText, Thing, AValof, ARoutine, Data, FoundRoutine, RoutineBody, Gives, Does, found_in_section}

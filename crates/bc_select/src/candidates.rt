@@ -32,7 +32,7 @@ pub fn words(choice: Option<Choice>) -> Option<u64>
     Some(choice.words)
 }
 
-/// The same, however many they are.
+/// The words of a choice, however many they are.
 #[inline(always)]
 pub fn any_words(choice: Option<Choice>) -> Option<u64>
     ensures { result ≡ words_of choice }

@@ -18,6 +18,8 @@ mod waiting;
 mod whole;
 
 pub use bc_rules_defs::{Derivation, Rule};
+pub use candidates::{alone, any_words, better, number_cost};
 pub use counting::is_selectable;
+pub use pair::{Pair, free, given, only};
 pub use row::Row;
 pub use selection::{Selected, rows, select};

@@ -16,7 +16,7 @@ use crate::candidates::{
 };
 use bc_core::Operand;
 use bc_rules_defs::{Rule, is_direct, number_words, operand_words};
-use bc_select_defs::{Choice, Choices, Node, is_zero};
+use bc_select_defs::{Choice, Choices, Node, is_zero_number};
 use bc_word::{Op, mirror};
 
 /// A binary operator at a level, with its operands.
@@ -35,13 +35,15 @@ pub fn free(a: &Node, b: &Node) -> bool
     !(a.calls || b.calls) || is_direct(a.operand) || is_direct(b.operand)
 }
 
-fn given(holds: bool, x: Option<u64>) -> Option<u64>
+/// The words where this holds.
+pub fn given(holds: bool, x: Option<u64>) -> Option<u64>
     ensures { result ≡ given_of holds x }
 {
     if holds { x } else { None }
 }
 
-fn only(wanted: Op, op: Op, x: Option<u64>) -> Option<u64>
+/// The words where the operator is the wanted one.
+pub fn only(wanted: Op, op: Op, x: Option<u64>) -> Option<u64>
     ensures { result ≡ only_of wanted op x }
 {
     given(is(op, wanted), x)
@@ -54,9 +56,9 @@ fn beside(pair: &Pair, x: Option<u64>, y: Option<u64>) -> Option<u64>
     ensures value { result ≡ beside_of pair.now.left pair.now.right x y }
     ensures small { Small result }
 {
-    if is_zero(pair.right.number) {
+    if is_zero_number(pair.right.number) {
         x
-    } else if is_zero(pair.left.number) {
+    } else if is_zero_number(pair.left.number) {
         y
     } else {
         None
@@ -94,7 +96,7 @@ fn mixed_difference(
     let less_number = sum(x, number_cost(pair.right.number));
     let less_second = with_operand_and(x, pair.right.operand, 2);
     let from_first = given(free, with_operand_and(y, pair.left.operand, 1));
-    let best = better(best, Rule::V8, given(is_zero(pair.right.number), x));
+    let best = better(best, Rule::V8, given(is_zero_number(pair.right.number), x));
     let best = better(best, Rule::V9, less_number);
     let best = better(best, Rule::V10, less_second);
     better(best, Rule::V11, from_first)

@@ -21,7 +21,7 @@ use crate::table::Nodes;
 use crate::waiting::{Place, Step, Waiting, wait};
 use bc_core::{CoreExp, constant};
 use bc_rules_defs::{Aim, Mode, Rule, Takes};
-use bc_select_defs::is_zero;
+use bc_select_defs::is_zero_number;
 use bc_word::Memory;
 
 pub const ANY: Aim = Aim::Gets(Mode::Any);
@@ -179,7 +179,7 @@ fn pair_read<'a>(
     ensures { OnOk result (Added nodes.now waiting.old.items waiting.new.items (pair_parts (zero_number (constant_of (exp right.now))) (readings Two (exp left.now) (step.place.level + 1)) (readings Two (exp right.now) (step.place.level + 1)) step.aim step.rule)) }
 {
     let taken = Taken {
-        takes: step.rule.takes(step.aim, is_zero(constant(right))),
+        takes: step.rule.takes(step.aim, is_zero_number(constant(right))),
         place: Place {
             level: step.place.level + 1,
             end: step.place.end,

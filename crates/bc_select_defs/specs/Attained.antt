@@ -183,7 +183,7 @@ operator_at_number operators.Or = refl
 operator_at_number operators.NotEquivalent = refl
 operator_at_number operators.Equivalent = refl
 
-same_operator : (op wanted : Op) → IsTrue (number_of op == number_of wanted) → wanted ≡ op
+pub same_operator : (op wanted : Op) → IsTrue (number_of op == number_of wanted) → wanted ≡ op
 same_operator op wanted h = sym (operator_at_number wanted) ∙ ap operator_at (sym (eqb-true (number_of op) (number_of wanted) h)) ∙ operator_at_number op
 
 makes_only : (T : Table) (op wanted : Op) (a b : Exp) (aim : Aim) (s : ℕ) (t : Tree) (x : Option ℕ) → Whole T (Bin wanted a b) aim s t x
@@ -193,10 +193,10 @@ makes_only T op wanted a b aim s t x h =
     subst P (same_operator op wanted e) h)
 
 -- a derivation of the part that a rule finds
-record Beside (T : Table) (p : Option Exp) (aim : Aim) : Type 0 where
-  expression : Exp
-  is : p ≡ Some expression
-  derivation : Derives T expression aim
+pub record Beside (T : Table) (p : Option Exp) (aim : Aim) : Type 0 where
+  pub expression : Exp
+  pub is : p ≡ Some expression
+  pub derivation : Derives T expression aim
 
 makes_beside : (T : Table) (p : Option Exp) (a b : Exp) (aim : Aim) (s : ℕ) (ra rb : Readings) (x y : Option ℕ) (zero_b zero_a : Bool)
     → (zero_b ≡ true → p ≡ Some a) → (zero_b ≡ false → zero_a ≡ true → p ≡ Some b) → Part T a aim s (tree_for aim ra) x
@@ -208,10 +208,10 @@ makes_beside T p a b aim s ra rb x y false true f g ha hb = makes_map _ _ _ _ _ 
     (λ d. refl) (λ d i. i) hb
 makes_beside T p a b aim s ra rb x y false false f g ha hb = makes_none _ _ _
 
-second_zero : (a b : Exp) → IsTrue (zero_number (constant_of b)) → beside_zero a b ≡ Some a
+pub second_zero : (a b : Exp) → IsTrue (zero_number (constant_of b)) → beside_zero a b ≡ Some a
 second_zero a b h = cond-true (is_zero b) _ _ (sym (is_zero_is b) ∙ h)
 
-first_zero : (a b : Exp) → zero_number (constant_of b) ≡ false → IsTrue (zero_number (constant_of a)) → beside_zero a b ≡ Some b
+pub first_zero : (a b : Exp) → zero_number (constant_of b) ≡ false → IsTrue (zero_number (constant_of a)) → beside_zero a b ≡ Some b
 first_zero a b h i = cond-false (is_zero b) _ _ (sym (is_zero_is b) ∙ h) ∙ cond-true (is_zero a) _ _ (sym (is_zero_is a) ∙ i)
 
 -- what stands beside a 0
@@ -297,10 +297,10 @@ by_v11 T a b m s x t free h = beside_operand T b (Bin operators.Subtract a b) m 
     (λ q. refl) (λ q i. i) (with_operand_more T b m s 1 (operand_of a) x t h)
 
 -- a - n: the second operand is the number
-abbrev NumberOf : Exp → Type 0
+abbrev pub NumberOf : Exp → Type 0
 NumberOf b = (n : ℕ) × (b ≡ Num n)
 
-makes_number : (b : Exp) → Makes (NumberOf b) (λ q. w (negated q.0)) (λ q. Unit {0}) (number_cost (constant_of b))
+pub makes_number : (b : Exp) → Makes (NumberOf b) (λ q. w (negated q.0)) (λ q. Unit {0}) (number_cost (constant_of b))
 unfolding number_cost
 makes_number (Num n) = makes_some _ _ _ (n, refl) (w (negated n)) refl tt
 makes_number (Frame n) = makes_none _ _ _
@@ -380,7 +380,7 @@ of_both T e f g aim1 aim2 aim s s1 t u k r x rule_of w sh least h =
       parts = least q (least_parts i.0, least_parts i.1);
     }) h
 
-some_operator : (p : Option Op) → IsTrue (is_some p) → (q : Op) × (p ≡ Some q)
+pub some_operator : (p : Option Op) → IsTrue (is_some p) → (q : Op) × (p ≡ Some q)
 some_operator None h = cc
 some_operator (Some q) h = (q, refl)
 
@@ -441,7 +441,7 @@ test_of_both T a b g aim1 aim2 aim s t u r x y rule_of w sh least h i =
       parts = least q (least_parts j.0, least_parts j.1);
     }) (makes_sum _ _ _ _ _ _ x y h i)
 
-table_two : (T : Table) → IsTrue (has_tests_of_zero T) → T ≡ Two
+pub table_two : (T : Table) → IsTrue (has_tests_of_zero T) → T ≡ Two
 table_two tables.One h = cc
 table_two tables.Two h = refl
 

@@ -43,7 +43,7 @@ operand_within : (p : Option Operand) (o : Operand) → p ≡ Some o → Within 
 unfolding operand_cost
 operand_within p o e = subst (λ q. Within (operand_cost q) (operand_words o)) (sym e) (omega arith)
 
-of_operand : (p : Option Operand) (o : Operand) → p ≡ Some o → Reaches (operand_cost p) (operand_words o)
+pub of_operand : (p : Option Operand) (o : Operand) → p ≡ Some o → Reaches (operand_cost p) (operand_words o)
 of_operand p o e = record { fact = operand_within p o e }
 
 more_within : (x : Option ℕ) (k j : ℕ) → Within x j → Within (more k x) (k + j)
@@ -51,7 +51,7 @@ unfolding more
 more_within None k j h = h
 more_within (Some x) k j h = omega arith
 
-more_before : (x : Option ℕ) (k j : ℕ) → Reaches x j → Reaches (more k x) (k + j)
+pub more_before : (x : Option ℕ) (k j : ℕ) → Reaches x j → Reaches (more k x) (k + j)
 more_before x k j h = record { fact = more_within x k j h.fact }
 
 pub by_given : (b : Bool) (x : Option ℕ) (j : ℕ) → IsTrue b → Reaches x j → Reaches (given b x) j
@@ -62,11 +62,11 @@ by_given false x j e h = cc
 pub exactly : (n : ℕ) → Reaches (Some n) n
 exactly n = record { fact = omega arith }
 
-number_costs : (n : ℕ) → Reaches (number_cost (Some n)) (w (negated n))
+pub number_costs : (n : ℕ) → Reaches (number_cost (Some n)) (w (negated n))
 unfolding number_cost
 number_costs n = exactly (w (negated n))
 
-is_mirrored : (p : Option Op) (q : Op) → p ≡ Some q → IsTrue (is_some p)
+pub is_mirrored : (p : Option Op) (q : Op) → p ≡ Some q → IsTrue (is_some p)
 is_mirrored p q e = subst (λ o. IsTrue (is_some o)) (sym e) refl
 
 -- V0, V1 and J6 stand in each line
@@ -174,10 +174,10 @@ without_is T operators.NotEquivalent a b s f = refl
 without_is T operators.Equivalent a b s f = refl
 
 -- the words of a part that a rule finds
-part_at : (x : Option ℕ) (p : Option Exp) (c : Exp) (f : Exp → Option ℕ) (k : ℕ) → x ≡ at p f → p ≡ Some c → Reaches (f c) k → Reaches x k
+pub part_at : (x : Option ℕ) (p : Option Exp) (c : Exp) (f : Exp → Option ℕ) (k : ℕ) → x ≡ at p f → p ≡ Some c → Reaches (f c) k → Reaches x k
 part_at x p c f k e i h = let P : Option ℕ → Type 0 = λ y. Reaches y k in subst P (sym (e ∙ ap (λ q. at q f) i)) h
 
-with_tests : (T : Table) (x : Option ℕ) (j : ℕ) → T ≡ Two → Reaches x j → Reaches (given (has_tests_of_zero T) x) j
+pub with_tests : (T : Table) (x : Option ℕ) (j : ℕ) → T ≡ Two → Reaches x j → Reaches (given (has_tests_of_zero T) x) j
 with_tests T x j e h = by_given (has_tests_of_zero T) x j (ap has_tests_of_zero e) h
 
 abbrev pub words_at : (T : Table) (aim : Aim) (s : ℕ) → Exp → Option ℕ

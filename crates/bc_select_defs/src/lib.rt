@@ -6,4 +6,4 @@ pub mod laws;
 mod zero;
 
 pub use choice::{Candidate, Choice, Choices, Node};
-pub use zero::is_zero;
+pub use zero::is_zero_number;

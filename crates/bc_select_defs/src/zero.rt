@@ -4,7 +4,7 @@ ghost use Rattle.bc_select_defs.specs.Choices.{zero_number};
 use bc_word::Word;
 
 /// Whether there is such a number, and it is 0.
-pub fn is_zero(number: Option<Word>) -> bool
+pub fn is_zero_number(number: Option<Word>) -> bool
     ensures { result ≡ zero_number number }
 {
     match number {

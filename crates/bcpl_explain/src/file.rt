@@ -263,7 +263,8 @@ impl<'p, 's> File<'p, 's> {
         Ok(())
     }
 
-    /// Begins the totals of a routine, where this of the commands' own begins one.
+    /// Begins the totals of a routine, where what is at this index of the commands' own is what a routine begins with. Memory is answered where
+    /// a growth was refused.
     fn begin_routine(&self, index: usize, totals: &mut Totals<'s>) -> Result<(), Memory> {
         match self.marks.own.get(index) {
             Some(own) if own.what == Purpose::Routine => totals.begin(self.ground.leaf(own.leaf)),

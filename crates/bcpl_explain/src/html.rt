@@ -1,4 +1,5 @@
 use bc_word::Memory;
+use bcpl_show::unit;
 use std::alloc::Global;
 use std::str;
 
@@ -124,9 +125,4 @@ fn is_shown(byte: u8, is_text: bool) -> bool {
         128..=255 => is_text,
         _ => false,
     }
-}
-
-/// What so many words are called.
-fn unit(words: u64) -> &'static str {
-    if words == 1 { "word" } else { "words" }
 }

@@ -37,7 +37,7 @@ pub fn global_name<'s>(globals: &[GlobalName<'s>], number: u16) -> &'s [u8] {
     b""
 }
 
-/// The globals of a list, where their numbers are written as such.
+/// Puts the globals of a list behind those that are there, where their numbers are written as such. Memory is answered where a growth was refused.
 fn add_globals<'s>(globals: &mut Vec<GlobalName<'s>>, list: &[Constant<'s>]) -> Result<(), Memory> {
     for constant in list {
         if let Exp::Number(number) = &constant.value {

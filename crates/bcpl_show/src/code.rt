@@ -1,4 +1,3 @@
-use crate::leaves::leaves_of;
 use crate::lines::{Files, Lines};
 use crate::marks::{Marks, Owner};
 use crate::outline::Outline;
@@ -6,6 +5,7 @@ use crate::page::{Field, Page, WIDTH};
 use crate::sizes::{words_of_items, words_of_pieces};
 use bc_core::{Core, Place};
 use bc_lex_tokens::Token;
+use bc_parse_leaves::leaves_of;
 use bc_parse_tree::Section;
 use bc_rules::code_of;
 use bc_rules_defs::Entry;
@@ -503,7 +503,7 @@ fn words_of_entry(alloc: Global, entry: &Entry) -> Result<u64, Memory> {
 }
 
 /// What so many words are called.
-fn unit(words: u64) -> &'static str {
+pub fn unit(words: u64) -> &'static str {
     if words == 1 { "word" } else { "words" }
 }
 

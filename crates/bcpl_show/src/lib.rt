@@ -2,7 +2,6 @@
 #![tactic(auto)]
 
 mod code;
-mod leaves;
 mod lines;
 mod marks;
 mod outline;
@@ -11,8 +10,8 @@ mod sizes;
 mod tokens;
 mod tree;
 
-pub use code::{Program, code_listing};
-pub use leaves::leaves_of;
+pub use bc_parse_leaves::leaves_of;
+pub use code::{Program, code_listing, unit};
 pub use lines::{Files, Lines};
 pub use marks::{Marks, Own, Owner};
 pub use outline::{Outline, Purpose, Step, Work};

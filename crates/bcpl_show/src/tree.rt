@@ -1,8 +1,8 @@
-use crate::leaves::{is_leaf, leaves_of};
 use crate::lines::Files;
 use crate::page::{Field, Page, WIDTH, width};
 use bc_lex_tokens::{Symbol, Token, TokenKind};
 use bc_parse_close::is_symbol_end;
+use bc_parse_leaves::{is_leaf, leaves_of};
 use bc_parse_spell::render;
 use bc_word::Memory;
 use bcpl_places::way_to;

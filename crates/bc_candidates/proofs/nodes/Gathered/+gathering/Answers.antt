@@ -1,4 +1,4 @@
-use Rattle.std.proofs.Common.{◌≡◌, ℕ, ◌+◌, ◌∷◌, [], Option, Some, None, arith, refl, ap, subst, ◌∙◌, drop}
+use Rattle.std.proofs.Common.{◌≡◌, ℕ, ◌+◌, ◌∷◌, [], None, arith, refl, ap, subst, ◌∙◌, drop}
 use Rattle.bc_core.specs.Tree.{Args}
 use Rattle.bc_core.specs.View.{exp, args}
 use Rattle.bc_rules_defs.specs.declared.rule.Rule.TheVariants.{V22}
@@ -21,7 +21,7 @@ call-returns-clause-below t c =
     let es = c.args.arguments.now in let f = exp c.args.routine.now in let s = c.args.level in
     let stored = c.in_ok-stored.ensures.arguments in let part = c.in_ok-node.ensures.part in
     let behind = behind_all es s _ _ c.in_ok-inside.ensures c.in_ok-behind.ensures in
-    let words = call_words (args es) f s _ _ _ _ _ _ _ _ c.in_ok-inside.ensures behind stored.words part.choices c.words.ensures c.in_ok-both.ensures c.number_words.ensures.words c.in_ok-words.ensures in
+    let words = call_words (args es) f s _ _ _ _ _ _ _ _ c.in_ok-inside.ensures behind stored.words part.choices c.any_words.ensures c.in_ok-both.ensures c.number_words.ensures.words c.in_ok-words.ensures in
     let own = stored.nodes in let more = part.nodes in let first = c.in_ok-count.ensures in let last = c.in_ok-count-2.ensures in
     record { lists = c.in_ok-called_lists.ensures ∙ ap (λ x. line None [] (candidate V22 x ∷ []) by_value) words; calls = refl; nodes = omega arith }
 
@@ -41,7 +41,7 @@ arguments-loop-argument-preserved t c =
     let es = c.args.arguments.now in let e = c.argument-item.result in let i = c.loop-argument.argument-index in let part = c.in_ok-node.ensures.part in
     let old = c.args.self.now.found.items in let mid = c.loop-argument.self.found.items in let all = c.loop-argument.all in let s = c.loop-argument.level in
     let P : Args → Type 0 = λ x. IsOnTheWay all old mid x (args es) s c.args.level in
-    let own : c.words.result ≡ words_of (choices Two (exp e) s).any = c.words.ensures ∙ ap (λ q. words_of q.any) part.choices in
+    let own : c.any_words.result ≡ words_of (choices Two (exp e) s).any = c.any_words.ensures ∙ ap (λ q. words_of q.any) part.choices in
     let stored = c.in_ok-stored.ensures ∙ ap (λ x. plus x c.number_words.result) own ∙ ap (plus (words_of (choices Two (exp e) s).any)) c.number_words.ensures.words in
     on_step all _ old mid c.part.new.self.found.items (exp e) (args (drop (i + 1) es)) (args es) s _ c.args.level (subst P (args_left es i e c.loop-argument-test.true c.argument-item.is) c.loop-argument.invariant)
     (c.in_ok-sum.ensures ∙ ap (sum all.words) stored) (c.in_ok-count.ensures ∙ ap (λ n. all.nodes + n) part.nodes) c.in_ok-node.ensures.found c.in_ok-level.ensures

@@ -1,4 +1,4 @@
-//! The leaves of a section: the tokens that a walk over its trees in text order meets one by one.
+ghost use Rattle.std.specs.Prelude.{◌<◌, length, IfSome};
 
 use bc_lex_tokens::{Symbol, Token, TokenKind};
 use bc_word::Memory;
@@ -25,7 +25,8 @@ fn is_word(symbol: Symbol) -> bool {
     )
 }
 
-/// Whether a token is a leaf.
+/// Whether a token is a leaf: a name, a number, a character, a string, or one of BREAK, CASE, DEFAULT, ENDCASE, FALSE,
+/// FINISH, GOTO, LOOP, RESULTIS, RETURN, TABLE, TRUE, VALOF and VEC.
 pub fn is_leaf(kind: TokenKind<'_>) -> bool {
     match kind {
         TokenKind::Name(_)
@@ -34,6 +35,22 @@ pub fn is_leaf(kind: TokenKind<'_>) -> bool {
         | TokenKind::String(_) => true,
         TokenKind::Symbol(symbol) => is_word(symbol),
     }
+}
+
+/// The index of the token that is this leaf, if there are as many.
+pub fn token_at(tokens: &[Token<'_>], leaf: u64) -> Option<usize>
+    ensures within { IfSome result (λ i. i < length tokens.now) }
+{
+    let mut left = leaf;
+    for (i, token) in tokens.iter().enumerate() {
+        if is_leaf(token.kind) {
+            if left == 0 {
+                return Some(i);
+            }
+            left -= 1;
+        }
+    }
+    None
 }
 
 /// The tokens that are leaves, in their order.
