@@ -1,5 +1,5 @@
 -- For proofs: what functions of the parser gave, without where it lies in memory.
-use Rattle.std.specs.Prelude.{◌≡◌, ℕ, Bool, true, false, List, Vec, Option, Some, None, Result, Ok, Err}
+use Rattle.std.specs.Prelude.{◌≡◌, ◌≤◌, ℕ, Bool, true, false, List, Vec, Option, Some, None, Result, Ok, Err, IfOk}
 use Rattle.std.specs.declared.alloc.Global.{Global}
 use Rattle.std.specs.declared.boxed.Box.{Box}
 use Rattle.bc_parse_tree.specs.declared.tree.Exp as code
@@ -72,3 +72,25 @@ parts_view p = (declarations_view p.declarations.items, items_view p.items.items
 abbrev pub exp_option : Option (Box code.Exp Global) → Option Exp
 exp_option None = None
 exp_option (Some e) = Some (exp_view e.value)
+
+-- what was made of a part: whatever reading gives the part, going on like this gives the whole
+abbrev pub Made : {X Y A B : Type 0} → (X → Y) → Result (Read X) ReadFault → (A → B) → Result (Read A) ReadFault → (Piece Y → Result (Piece B) Fault) → Type 0
+Made view part whole_view whole next = (r : Result (Piece _) Fault) → Reads view part r → Reads whole_view whole (r ~> next)
+
+-- the same of an operand, with the level that it has
+abbrev pub MadeOperand : {X Y : Type 0} → (X → Y) → Result (Read X) ReadFault → Result (Read Levelled) ReadFault
+    → (Piece Y → Result (Piece Exp) Fault) → ℕ → Type 0
+MadeOperand view part whole next level = (r : Result (Piece _) Fault) → Reads view part r
+    → Reads levelled_view whole ((r ~> next) ~> λ p. Ok (piece (p.tree, level) p.height p.rest))
+
+-- the same of a turn
+abbrev pub MadeTurn : {X Y A B : Type 0} → (X → Y) → Result (Read X) ReadFault → (A → B) → Result (code_turn.Turn A) ReadFault
+    → (Piece Y → Result (Piece B × Bool) Fault) → Type 0
+MadeTurn view part whole_view whole next = (r : Result (Piece _) Fault) → Reads view part r → Takes whole_view whole (r ~> next)
+
+-- what was read nests at most so deep
+abbrev pub Nests : {X : Type 0} → Result (Read X) ReadFault → ℕ → Type 0
+Nests read most = IfOk read (λ x. x.height ≤ most)
+
+abbrev pub NestsTurn : {X : Type 0} → Result (code_turn.Turn X) ReadFault → ℕ → Type 0
+NestsTurn read most = IfOk read (λ x. turn_height x ≤ most)

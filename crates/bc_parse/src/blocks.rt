@@ -1,17 +1,16 @@
 //! Blocks and bodies: declarations and items, what ends them, and the section that they make.
 ghost use Rattle.std.specs.Prelude.{◌≡◌, ◌+◌, ◌≤◌, ℕ, length, max, option_map, if◌then◌else◌, Ok, Err, IfOk};
-ghost use Rattle.bc_parse_tree.specs.Spelling.{add_declaration, add_item};
-ghost use Rattle.bc_lex_tokens.specs.declared.symbol.Symbol.TheVariants as sign;
-ghost use Rattle.bc_parse_tree.specs.Tree.{Labelled, Labels_alone};
-ghost use Rattle.bc_parse_tree.specs.View.{exp_view, command_view, block_view, declarations_view, labels_view};
+ghost use Rattle.bc_parse_tree.specs.Spelling.{add_item};
+ghost use Rattle.bc_parse_tree.specs.Tree.{Labels_alone};
+ghost use Rattle.bc_parse_tree.specs.View.{command_view, block_view, declarations_view, labels_view};
 ghost use Rattle.bc_parse_tree.specs.View.{items_view};
 ghost use Rattle.bc_parse_defs.specs.Reading.{piece, exp_of, command_of, definition_of, label_read};
-ghost use Rattle.bc_parse_defs.specs.Reading.{labels_read, CaseLabel, DefaultLabel, NameLabel, Expected};
-ghost use Rattle.bc_parse_defs.specs.Reading.{declaration_read, item_read, part_read, place_turn, places_read};
+ghost use Rattle.bc_parse_defs.specs.Reading.{labels_read, DefaultLabel, NameLabel, Expected};
+ghost use Rattle.bc_parse_defs.specs.Reading.{item_read, part_read, place_turn, places_read};
 ghost use Rattle.bc_parse_defs.specs.Reading.{block_read, body_of_block, body_read, do_read, section_of, moved};
 ghost use Rattle.bc_parse_defs.specs.Reading.{label_start, as_body, place_end, declares, no_item_yet, some_label};
 ghost use Rattle.bc_parse_defs.specs.Reading.{may_command};
-ghost use Rattle.bc_parse.specs.Seen.{◌~>◌, seen, Gives, read_view, box_view, list_view, parts_view, Reads, Takes};
+ghost use Rattle.bc_parse.specs.Seen.{◌~>◌, seen, Gives, read_view, list_view, parts_view, Reads, Takes};
 ghost use Rattle.bc_parse.specs.Seen.{turn_height};
 ghost use Rattle.bc_parse.specs.SeenFollow.{end_view};
 
@@ -21,10 +20,10 @@ use crate::declarations::declaration;
 use crate::expressions::exp_apart;
 use crate::fault::ReadFault;
 use crate::read::{Answer, Read, Room, Turn};
-use crate::{apart, cursor};
+use crate::{apart, cursor, made};
 use bc_lex_tokens::Symbol;
 use bc_parse_defs::words::{DeclarationWord, Places};
-use bc_parse_tree::{Block, Command, Declaration, Exp, Item, Label, Section};
+use bc_parse_tree::{Block, Command, Declaration, Item, Label, Section};
 use std::alloc::Global;
 
 /// The declarations and the items of a list of places.
@@ -42,20 +41,7 @@ pub fn block<'s, 't>(room: Room, rest: Rest<'s, 't>) -> Answer<'s, 't, Block<'s>
         Reads block_view result (block_read (exp_of n) (command_of n) (definition_of n) room.nest room.round (seen rest.entry)) }
     ensures low { IfOk result (λ x. x.height ≤ room.nest) }
 {
-    let found = places(room, Places::Block, rest)?;
-    let Parts {
-        declarations,
-        items,
-    } = found.tree;
-    let tree = Block {
-        declarations,
-        items,
-    };
-    Ok(Read {
-        tree,
-        height: found.height,
-        rest: found.rest,
-    })
+    made::block_from(room, places(room, Places::Block, rest))
 }
 
 /// A block that is a body, unless a REPEAT word follows it.
@@ -78,8 +64,7 @@ fn block_body<'s, 't>(room: Room, inner: Read<'s, 't, Block<'s>>) -> Answer<'s, 
         height: inner.height + 1,
         rest: inner.rest,
     };
-    let whole = repeats(room, first)?;
-    body_from(room.alloc, whole)
+    made::body_of(room, repeats(room, first))
 }
 
 /// A block, or one command as the block that it is.
@@ -94,19 +79,7 @@ pub fn body<'s, 't>(room: Room, rest: Rest<'s, 't>) -> Answer<'s, 't, Block<'s>>
         let inner = block(room, then)?;
         return block_body(room, inner);
     }
-    command_body(room, rest)
-}
-
-/// One command as the block that it is.
-#[cycle(parser)]
-fn command_body<'s, 't>(room: Room, rest: Rest<'s, 't>) -> Answer<'s, 't, Block<'s>>
-    ensures read { (n : ℕ) → room.nest + room.round ≤ n →
-        Reads block_view result (command_of n room.nest room.round (seen rest.entry) ~> λ c.
-        Ok (piece (as_body c.tree c.height).0 (as_body c.tree c.height).1 c.rest)) }
-    ensures low { IfOk result (λ x. x.height ≤ room.nest) }
-{
-    let whole = command(room, rest)?;
-    body_from(room.alloc, whole)
+    made::body_of(room, command(room, rest))
 }
 
 /// A body behind a line break and DO, which may be left out.
@@ -121,7 +94,10 @@ pub fn do_body<'s, 't>(room: Room, rest: Rest<'s, 't>) -> Answer<'s, 't, Block<'
 }
 
 /// A command as the body that it is, and how deep that nests.
-fn body_from<'s, 't>(alloc: Global, whole: Read<'s, 't, Command<'s>>) -> Answer<'s, 't, Block<'s>>
+pub fn body_from<'s, 't>(
+    alloc: Global,
+    whole: Read<'s, 't, Command<'s>>,
+) -> Answer<'s, 't, Block<'s>>
     ensures read { Reads block_view result (Ok (piece (as_body (command_view whole.entry.tree) whole.entry.height).0
         (as_body (command_view whole.entry.tree) whole.entry.height).1 (seen whole.entry.rest))) }
     ensures low { (m : ℕ) → whole.entry.height ≤ m → IfOk result (λ x. x.height ≤ m) }
@@ -176,34 +152,10 @@ fn label_step<'s, 't>(
 {
     match cursor::label_at(list.rest) {
         LabelAt::No => Ok(Turn::Last(list)),
-        LabelAt::Case(rest) => case_label(room, list, rest),
+        LabelAt::Case(rest) => made::case_of(room, exp_apart(room, 2, rest), list),
         LabelAt::Default(rest) => default_label(list, rest),
         LabelAt::Name(name, rest) => name_label(list, name, rest),
     }
-}
-
-/// `CASE value:`, behind its word.
-#[cycle(parser)]
-#[tactic(auto, unfolding(bc_parse_defs::specs::Reading::label_read))]
-fn case_label<'s, 't>(
-    room: Room,
-    list: Read<'s, 't, Vec<Label<'s>>>,
-    rest: Rest<'s, 't>,
-) -> Result<Turn<'s, 't, Vec<Label<'s>>>, ReadFault>
-    requires { list.height ≤ room.nest }
-    ensures read { (n : ℕ) → room.nest + room.round ≤ n →
-        Takes (list_view labels_view) result
-        (label_read (exp_of n) room.nest room.round (read_view (list_view labels_view) list.entry) (CaseLabel (seen rest.entry))) }
-    ensures low { IfOk result (λ x. turn_height x ≤ room.nest) }
-{
-    let value = exp_apart(room, 2, rest)?;
-    let rest = cursor::expect(Symbol::Colon, value.rest)?;
-    let tree = apart::case_added(list.tree, value.tree)?;
-    Ok(Turn::More(Read {
-        tree,
-        height: list.height.max(value.height),
-        rest,
-    }))
 }
 
 /// `DEFAULT:`, behind its word.
@@ -271,7 +223,7 @@ fn item_part<'s, 't>(
     if has_label(&found.tree) && cursor::is_place_end_at(found.rest) {
         return labels_part(list, found);
     }
-    command_part(room, list, found)
+    made::command_item(room, command(room, found.rest), list, found)
 }
 
 /// One more item, of these labels alone.
@@ -302,73 +254,6 @@ fn labels_part<'s, 't>(
     })
 }
 
-/// One more item, of these labels and the command behind them.
-#[cycle(parser)]
-fn command_part<'s, 't>(
-    room: Room,
-    list: Read<'s, 't, Parts<'s>>,
-    found: Read<'s, 't, Vec<Label<'s>>>,
-) -> Answer<'s, 't, Parts<'s>>
-    requires list { list.height ≤ room.nest }
-    requires found { found.height ≤ room.nest }
-    ensures read { (n : ℕ) → room.nest + room.round ≤ n →
-        Reads parts_view result ((command_of n room.nest room.round (seen found.entry.rest) ~> λ c.
-        Ok (piece (Labelled (labels_view found.entry.tree.items) c.tree) (max found.entry.height c.height) c.rest)) ~> λ i.
-        Ok (piece (declarations_view list.entry.tree.declarations.items, add_item (items_view list.entry.tree.items.items) i.tree)
-        (max list.entry.height i.height) i.rest)) }
-    ensures low { IfOk result (λ x. x.height ≤ room.nest) }
-{
-    let behind = command(room, found.rest)?;
-    let Parts {
-        declarations,
-        items,
-    } = list.tree;
-    let items = apart::command_added(items, found.tree, behind.tree)?;
-    let tree = Parts {
-        declarations,
-        items,
-    };
-    let height = found.height.max(behind.height);
-    Ok(Read {
-        tree,
-        height: list.height.max(height),
-        rest: behind.rest,
-    })
-}
-
-/// One more declaration of a list of places.
-#[cycle(parser)]
-fn declaration_part<'s, 't>(
-    room: Room,
-    word: DeclarationWord,
-    list: Read<'s, 't, Parts<'s>>,
-    rest: Rest<'s, 't>,
-) -> Answer<'s, 't, Parts<'s>>
-    requires { list.height ≤ room.nest }
-    ensures read { (n : ℕ) → room.nest + room.round ≤ n →
-        Reads parts_view result
-        (declaration_read (exp_of n) (command_of n) (definition_of n) room.nest room.round word (seen rest.entry) ~> λ d.
-        Ok (piece (add_declaration (declarations_view list.entry.tree.declarations.items) d.tree, items_view list.entry.tree.items.items)
-        (max list.entry.height d.height) d.rest)) }
-    ensures low { IfOk result (λ x. x.height ≤ room.nest) }
-{
-    let Parts {
-        declarations,
-        items,
-    } = list.tree;
-    let found = declaration(room, word, rest)?;
-    let declarations = apart::declaration_added(declarations, found.tree)?;
-    let tree = Parts {
-        declarations,
-        items,
-    };
-    Ok(Read {
-        tree,
-        height: list.height.max(found.height),
-        rest: found.rest,
-    })
-}
-
 /// One more declaration or item of a list of places.
 #[cycle(parser)]
 #[tactic(auto, unfolding(bc_parse_defs::specs::Reading::part_read))]
@@ -384,7 +269,7 @@ fn part_of<'s, 't>(
     ensures low { IfOk result (λ x. x.height ≤ room.nest) }
 {
     match declared(mode, has_no_item(&list.tree.items), list.rest) {
-        Some((word, then)) => declaration_part(room, word, list, then),
+        Some((word, then)) => made::declared(room, declaration(room, word, then), list),
         None => item_part(room, mode, list),
     }
 }

@@ -4,8 +4,7 @@ ghost use Rattle.std.specs.Prelude.{option_map};
 ghost use Rattle.bc_parse_tree.specs.View.{exp_view, exps_view, command_view, block_view, items_view, for_from};
 ghost use Rattle.bc_lex_tokens.specs.declared.symbol.Symbol.TheVariants as sign;
 ghost use Rattle.bc_parse_tree.specs.Tree as tree;
-ghost use Rattle.bc_parse_tree.specs.Spelling.{count};
-ghost use Rattle.bc_parse_defs.specs.Reading.{Expected, on, name_of, exps_read, piece, expect_of, exp_of};
+ghost use Rattle.bc_parse_defs.specs.Reading.{Expected, on, name_of, piece, expect_of, exp_of};
 ghost use Rattle.bc_parse_defs.specs.Reading.{command_of, definition_of, repeated, repeat_turn, repeats_read};
 ghost use Rattle.bc_parse_defs.specs.Reading.{assigned_read, simple_read, tested_read, test_read, step_read, for_read};
 ghost use Rattle.bc_parse_defs.specs.Reading.{switch_read, compound_read, repeatable_read, command_read, call_in};
@@ -13,7 +12,7 @@ ghost use Rattle.bc_parse_defs.specs.Reading.{do_read, body_read, word_in, simpl
 ghost use Rattle.bc_parse_defs.specs.declared.words.Places.TheVariants as places_mode;
 ghost use Rattle.bc_parse_defs.specs.declared.words.RepeatWord.TheVariants as repeat_word;
 ghost use Rattle.bc_parse_defs.specs.declared.words.SimpleWord.TheVariants as simple_word;
-ghost use Rattle.bc_parse.specs.Seen.{◌~>◌, seen, read_view, box_view, list_view};
+ghost use Rattle.bc_parse.specs.Seen.{◌~>◌, seen, read_view, box_view};
 ghost use Rattle.bc_parse.specs.Seen.{Reads, Takes, turn_height, exp_option};
 
 use crate::blocks::{Parts, block, body, do_body, places};
@@ -21,7 +20,7 @@ use crate::cursor::Rest;
 use crate::expressions::{exp, exp_apart, exp_count, exps};
 use crate::fault::ReadFault;
 use crate::read::{Answer, Read, Room, Turn};
-use crate::{apart, cursor};
+use crate::{apart, cursor, made};
 use bc_lex_tokens::Symbol;
 use bc_parse_defs::words;
 use bc_parse_defs::words::{CommandWord, Places, RepeatWord, SimpleWord, Tested};
@@ -164,6 +163,7 @@ fn repeat_step<'s, 't>(
 }
 
 #[cycle(parser)]
+#[tactic(auto, unfolding(bc_parse_defs::specs::Reading::repeated))]
 fn repeat_by<'s, 't>(
     room: Room,
     word: RepeatWord,
@@ -176,63 +176,15 @@ fn repeat_by<'s, 't>(
         (repeated (exp_of n) room.nest room.round word (read_view (box_view command_view) whole.entry) (seen rest.entry)) }
     ensures low { IfOk result (λ x. turn_height x ≤ room.nest) }
 {
+    let inner = Room {
+        nest: room.nest - 1,
+        ..room
+    };
     match word {
         RepeatWord::Repeat => repeat_always(room, whole, rest),
-        RepeatWord::While => repeat_while(room, whole, rest),
-        RepeatWord::Until => repeat_until(room, whole, rest),
+        RepeatWord::While => made::while_of(room, whole, exp(inner, 1, rest)),
+        RepeatWord::Until => made::until_of(room, whole, exp(inner, 1, rest)),
     }
-}
-
-#[cycle(parser)]
-#[tactic(auto, unfolding(bc_parse_defs::specs::Reading::repeated))]
-fn repeat_while<'s, 't>(
-    room: Room,
-    whole: Read<'s, 't, Box<Command<'s>>>,
-    rest: Rest<'s, 't>,
-) -> Result<Turn<'s, 't, Box<Command<'s>>>, ReadFault>
-    requires { whole.height < room.nest }
-    ensures read { (n : ℕ) → room.nest + room.round ≤ n + 1 →
-        Takes (box_view command_view) result
-        (repeated (exp_of n) room.nest room.round repeat_word.While (read_view (box_view command_view) whole.entry) (seen rest.entry)) }
-    ensures low { IfOk result (λ x. turn_height x ≤ room.nest) }
-{
-    let inner = Room {
-        nest: room.nest - 1,
-        ..room
-    };
-    let test = exp(inner, 1, rest)?;
-    let tree = apart::command(room.alloc, Command::RepeatWhile(whole.tree, test.tree))?;
-    Ok(Turn::More(Read {
-        tree,
-        height: whole.height.max(test.height) + 1,
-        rest: test.rest,
-    }))
-}
-
-#[cycle(parser)]
-#[tactic(auto, unfolding(bc_parse_defs::specs::Reading::repeated))]
-fn repeat_until<'s, 't>(
-    room: Room,
-    whole: Read<'s, 't, Box<Command<'s>>>,
-    rest: Rest<'s, 't>,
-) -> Result<Turn<'s, 't, Box<Command<'s>>>, ReadFault>
-    requires { whole.height < room.nest }
-    ensures read { (n : ℕ) → room.nest + room.round ≤ n + 1 →
-        Takes (box_view command_view) result
-        (repeated (exp_of n) room.nest room.round repeat_word.Until (read_view (box_view command_view) whole.entry) (seen rest.entry)) }
-    ensures low { IfOk result (λ x. turn_height x ≤ room.nest) }
-{
-    let inner = Room {
-        nest: room.nest - 1,
-        ..room
-    };
-    let test = exp(inner, 1, rest)?;
-    let tree = apart::command(room.alloc, Command::RepeatUntil(whole.tree, test.tree))?;
-    Ok(Turn::More(Read {
-        tree,
-        height: whole.height.max(test.height) + 1,
-        rest: test.rest,
-    }))
 }
 
 #[tactic(auto, unfolding(bc_parse_defs::specs::Reading::repeated))]
@@ -271,7 +223,10 @@ fn assigned<'s, 't>(room: Room, rest: Rest<'s, 't>) -> Answer<'s, 't, Command<'s
     let targets = exps(inner, 1, rest.parts.len() + 1, rest)?;
     match cursor::after(Symbol::Assign, targets.rest) {
         None => call_of(room, targets),
-        Some(then) => assignment(room, targets, then),
+        Some(then) => {
+            let limit = exp_count(&targets.tree);
+            made::assignment(room, targets, exps(inner, 1, limit, then))
+        }
     }
 }
 
@@ -308,41 +263,6 @@ fn one_call<'s>(list: Vec<Exp<'s>>) -> Option<(Box<Exp<'s>>, Vec<Exp<'s>>)>
     }
 }
 
-/// An assignment, behind its sign.
-#[cycle(parser)]
-#[tactic(auto, using(crate::proofs::Views::assign_view))]
-fn assignment<'s, 't>(
-    room: Room,
-    targets: Read<'s, 't, Vec<Exp<'s>>>,
-    rest: Rest<'s, 't>,
-) -> Answer<'s, 't, Command<'s>>
-    requires { targets.height < room.nest }
-    ensures read { (n : ℕ) → room.nest + room.round ≤ n + 1 →
-        Reads command_view result
-        (exps_read (exp_of n) (room.nest - 1) room.round 1 (count (exps_view targets.entry.tree.items)) (seen rest.entry) ~> λ es.
-        if count es.tree == count (exps_view targets.entry.tree.items)
-        then Ok (piece (tree.Assign (exps_view targets.entry.tree.items) es.tree) (max targets.entry.height es.height + 1) es.rest)
-        else Err (Expected (length es.rest))) }
-    ensures low { IfOk result (λ x. x.height ≤ room.nest) }
-{
-    let inner = Room {
-        nest: room.nest - 1,
-        ..room
-    };
-    let limit = exp_count(&targets.tree);
-    let values = exps(inner, 1, limit, rest)?;
-    if exp_count(&values.tree) != limit {
-        return Err(ReadFault::Expected(values.rest.parts.len()));
-    }
-    let tree = Command::Assign(targets.tree, values.tree);
-    let height = targets.height.max(values.height) + 1;
-    Ok(Read {
-        tree,
-        height,
-        rest: values.rest,
-    })
-}
-
 #[cycle(parser)]
 #[tactic(auto, unfolding(bc_parse_defs::specs::Reading::simple_read))]
 fn simple<'s, 't>(room: Room, word: SimpleWord, rest: Rest<'s, 't>) -> Answer<'s, 't, Command<'s>>
@@ -351,14 +271,18 @@ fn simple<'s, 't>(room: Room, word: SimpleWord, rest: Rest<'s, 't>) -> Answer<'s
         Reads command_view result (simple_read (exp_of n) (command_of n) (definition_of n) room.nest room.round word (seen rest.entry)) }
     ensures low { IfOk result (λ x. x.height ≤ room.nest) }
 {
+    let inner = Room {
+        nest: room.nest - 1,
+        ..room
+    };
     match word {
-        SimpleWord::Block => compound_command(room, rest),
+        SimpleWord::Block => made::compound(room, block(inner, rest)),
         SimpleWord::Break => Ok(alone(Command::Break, rest)),
         SimpleWord::Loop => Ok(alone(Command::Loop, rest)),
         SimpleWord::EndCase => Ok(alone(Command::EndCase, rest)),
         SimpleWord::Return => Ok(alone(Command::Return, rest)),
         SimpleWord::Finish => Ok(alone(Command::Finish, rest)),
-        SimpleWord::ResultIs => result_is(room, rest),
+        SimpleWord::ResultIs => made::result_of(room, exp(inner, 1, rest)),
         SimpleWord::Goto => goto(rest),
     }
 }
@@ -373,48 +297,6 @@ fn alone<'s, 't>(tree: Command<'s>, rest: Rest<'s, 't>) -> Read<'s, 't, Command<
         height: 1,
         rest,
     }
-}
-
-#[cycle(parser)]
-#[tactic(auto, unfolding(bc_parse_defs::specs::Reading::simple_read))]
-fn compound_command<'s, 't>(room: Room, rest: Rest<'s, 't>) -> Answer<'s, 't, Command<'s>>
-    requires { 0 < room.nest }
-    ensures read { (n : ℕ) → room.nest + room.round ≤ n + 1 →
-        Reads command_view result (simple_read (exp_of n) (command_of n) (definition_of n) room.nest room.round simple_word.Block (seen rest.entry)) }
-    ensures low { IfOk result (λ x. x.height ≤ room.nest) }
-{
-    let inner = Room {
-        nest: room.nest - 1,
-        ..room
-    };
-    let found = block(inner, rest)?;
-    let tree = Command::Block(found.tree);
-    Ok(Read {
-        tree,
-        height: found.height + 1,
-        rest: found.rest,
-    })
-}
-
-#[cycle(parser)]
-#[tactic(auto, unfolding(bc_parse_defs::specs::Reading::simple_read))]
-fn result_is<'s, 't>(room: Room, rest: Rest<'s, 't>) -> Answer<'s, 't, Command<'s>>
-    requires { 0 < room.nest }
-    ensures read { (n : ℕ) → room.nest + room.round ≤ n + 1 →
-        Reads command_view result (simple_read (exp_of n) (command_of n) (definition_of n) room.nest room.round simple_word.ResultIs (seen rest.entry)) }
-    ensures low { IfOk result (λ x. x.height ≤ room.nest) }
-{
-    let inner = Room {
-        nest: room.nest - 1,
-        ..room
-    };
-    let value = exp(inner, 1, rest)?;
-    let tree = Command::ResultIs(value.tree);
-    Ok(Read {
-        tree,
-        height: value.height + 1,
-        rest: value.rest,
-    })
 }
 
 fn goto<'s, 't>(rest: Rest<'s, 't>) -> Answer<'s, 't, Command<'s>>
@@ -458,17 +340,12 @@ fn tested<'s, 't>(room: Room, word: Tested, rest: Rest<'s, 't>) -> Answer<'s, 't
         ..room
     };
     let test = exp_apart(inner, 1, rest)?;
-    let found = do_body(inner, test.rest)?;
-    let tree = tested_of(word, test.tree, found.tree);
-    Ok(Read {
-        tree,
-        height: test.height.max(found.height) + 1,
-        rest: found.rest,
-    })
+    let behind = test.rest;
+    made::tested(room, word, test, do_body(inner, behind))
 }
 
 /// IF, UNLESS, WHILE or UNTIL.
-fn tested_of<'s>(word: Tested, test: Box<Exp<'s>>, body: Block<'s>) -> Command<'s>
+pub fn tested_of<'s>(word: Tested, test: Box<Exp<'s>>, body: Block<'s>) -> Command<'s>
     ensures { command_view result ≡ tested_command word (exp_view test.entry.value) (block_view body.entry) }
 {
     let test = Box::into_inner(test);
@@ -518,15 +395,10 @@ fn test_else<'s, 't>(
         ..room
     };
     let rest = cursor::expect(Symbol::Else, this.rest)?;
-    let that = body(inner, rest)?;
-    Ok(Read {
-        tree: test_of(test.tree, this.tree, that.tree),
-        height: test.height.max(this.height).max(that.height) + 1,
-        rest: that.rest,
-    })
+    made::test(room, test, this, body(inner, rest))
 }
 
-fn test_of<'s>(test: Box<Exp<'s>>, this: Block<'s>, that: Block<'s>) -> Command<'s>
+pub fn test_of<'s>(test: Box<Exp<'s>>, this: Block<'s>, that: Block<'s>) -> Command<'s>
     ensures { command_view result ≡ tree.Test (exp_view test.entry.value) (block_view this.entry) (block_view that.entry) }
 {
     Command::Test { test, this, that }
@@ -675,15 +547,10 @@ fn switch_cases<'s, 't>(
         ..room
     };
     let rest = cursor::expect(Symbol::OpenSection, rest)?;
-    let found = places(inner, Places::Cases, rest)?;
-    Ok(Read {
-        tree: switch_of(value.tree, found.tree),
-        height: value.height.max(found.height) + 1,
-        rest: found.rest,
-    })
+    made::switch(room, value, places(inner, Places::Cases, rest))
 }
 
-fn switch_of<'s>(value: Box<Exp<'s>>, found: Parts<'s>) -> Command<'s>
+pub fn switch_of<'s>(value: Box<Exp<'s>>, found: Parts<'s>) -> Command<'s>
     ensures { command_view result ≡ tree.SwitchOn (exp_view value.entry.value) (items_view found.entry.items.items) }
 {
     Command::SwitchOn(Box::into_inner(value), found.items)

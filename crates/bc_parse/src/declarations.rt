@@ -1,12 +1,11 @@
 //! Declarations and definitions.
-ghost use Rattle.std.specs.Prelude.{◌≡◌, ◌+◌, ◌-◌, ◌<◌, ◌≤◌, ◌==◌, if◌then◌else◌, ℕ, length, max, Ok, Err, IfOk};
+ghost use Rattle.std.specs.Prelude.{◌+◌, ◌-◌, ◌<◌, ◌≤◌, ◌==◌, ℕ, Ok, Err, IfOk};
 ghost use Rattle.bc_lex_tokens.specs.declared.symbol.Symbol.TheVariants as sign;
 ghost use Rattle.bc_parse_tree.specs.Tree as tree;
-ghost use Rattle.bc_parse_tree.specs.Spelling.{add_entry, count};
 ghost use Rattle.bc_parse_defs.specs.declared.words.Places.TheVariants as places_mode;
 ghost use Rattle.bc_parse_tree.specs.View.{declaration_view, definition_view, definitions_view, entries_view};
-ghost use Rattle.bc_parse_defs.specs.Reading.{Expected, exps_read, piece, moved, place_end, expect_of, body_read, exp_of, command_of};
-ghost use Rattle.bc_parse_defs.specs.Reading.{definition_of, entry_read, entry_turn, entries_read, definition_turn};
+ghost use Rattle.bc_parse_defs.specs.Reading.{piece, moved, place_end, expect_of, body_read, exp_of, command_of};
+ghost use Rattle.bc_parse_defs.specs.Reading.{definition_of, entry_read, entry_turn, entries_read};
 ghost use Rattle.bc_parse_defs.specs.Reading.{definitions_read, declaration_read, variables_read, vector_read};
 ghost use Rattle.bc_parse_defs.specs.Reading.{routine_read, defined_read};
 ghost use Rattle.bc_parse_defs.specs.declared.words.DeclarationWord.TheVariants as declaration_word;
@@ -15,17 +14,18 @@ ghost use Rattle.bc_parse.specs.Seen.{◌~>◌, seen, read_view, list_view, Read
 
 use crate::blocks::{PlaceEnd, body, place_end_at};
 use crate::cursor::{Rest, ShapeAt};
-use crate::expressions::{exp, exp_count, exps};
+use crate::expressions::{exp, exps};
 use crate::fault::ReadFault;
 use crate::names::{name_count, names, parameters};
 use crate::read::{Answer, Read, Room, Turn};
-use crate::{apart, cursor};
+use crate::{apart, cursor, made};
 use bc_lex_tokens::Symbol;
 use bc_parse_defs::words::{DeclarationWord, Places};
 use bc_parse_tree::{Constant, Declaration, Definition, Storage};
 
 /// A declaration, behind its word.
 #[cycle(parser)]
+#[tactic(auto, unfolding(bc_parse_defs::specs::Reading::declaration_read))]
 pub fn declaration<'s, 't>(
     room: Room,
     word: DeclarationWord,
@@ -36,27 +36,9 @@ pub fn declaration<'s, 't>(
     ensures low { IfOk result (λ x. x.height ≤ room.nest) }
 {
     match word {
-        DeclarationWord::Let => let_declaration(room, rest),
+        DeclarationWord::Let => made::let_of(room, definitions(room, rest)),
         DeclarationWord::Constants(storage) => constants(room, storage, rest),
     }
-}
-
-/// The definitions of a LET.
-#[cycle(parser)]
-#[tactic(auto, unfolding(bc_parse_defs::specs::Reading::declaration_read))]
-fn let_declaration<'s, 't>(room: Room, rest: Rest<'s, 't>) -> Answer<'s, 't, Declaration<'s>>
-    ensures read { (n : ℕ) → room.nest + room.round ≤ n →
-        Reads declaration_view result
-        (declaration_read (exp_of n) (command_of n) (definition_of n) room.nest room.round declaration_word.Let (seen rest.entry)) }
-    ensures low { IfOk result (λ x. x.height ≤ room.nest) }
-{
-    let found = definitions(room, rest)?;
-    let tree = Declaration::Let(found.tree);
-    Ok(Read {
-        tree,
-        height: found.height,
-        rest: found.rest,
-    })
 }
 
 /// Constants of this storage.
@@ -73,13 +55,7 @@ fn constants<'s, 't>(
     ensures low { IfOk result (λ x. x.height ≤ room.nest) }
 {
     let rest = cursor::expect(Symbol::OpenSection, rest)?;
-    let found = entries(room, rest)?;
-    let tree = Declaration::Constants(storage, found.tree);
-    Ok(Read {
-        tree,
-        height: found.height,
-        rest: found.rest,
-    })
+    made::constants(room, storage, entries(room, rest))
 }
 
 /// Names with their constants, up to the section bracket.
@@ -152,30 +128,7 @@ fn entry<'s, 't>(
 {
     let (name, rest) = cursor::name(list.rest)?;
     let rest = cursor::constant_sign(rest)?;
-    named(room, list, name, rest)
-}
-
-/// Constants with one more, of this name and the value behind it.
-#[cycle(parser)]
-fn named<'s, 't>(
-    room: Room,
-    list: Read<'s, 't, Vec<Constant<'s>>>,
-    name: &'s [u8],
-    rest: Rest<'s, 't>,
-) -> Answer<'s, 't, Vec<Constant<'s>>>
-    requires { list.height ≤ room.nest }
-    ensures read { (n : ℕ) → room.nest + room.round ≤ n →
-        Reads (list_view entries_view) result (exp_of n room.nest room.round 2 (seen rest.entry) ~> λ k.
-        Ok (piece (add_entry (entries_view list.entry.tree.items) name.entry.now k.tree) (max list.entry.height k.height) k.rest)) }
-    ensures low { IfOk result (λ x. x.height ≤ room.nest) }
-{
-    let value = exp(room, 2, rest)?;
-    let tree = apart::constant_added(list.tree, name, value.tree)?;
-    Ok(Read {
-        tree,
-        height: list.height.max(value.height),
-        rest: value.rest,
-    })
+    made::constant(room, name, exp(room, 2, rest), list)
 }
 
 /// The definitions of a LET, which AND joins.
@@ -192,34 +145,12 @@ fn definitions<'s, 't>(room: Room, rest: Rest<'s, 't>) -> Answer<'s, 't, Vec<Def
         rest,
     };
     for _ in 0..rest.parts.len() + 1 {
-        match definition_step(room, found)? {
+        match made::definitions_more(room, definition(room, found.rest), found)? {
             Turn::Last(list) => return Ok(list),
             Turn::More(list) => found = list,
         }
     }
     Err(apart::spent(found))
-}
-
-#[cycle(parser)]
-#[tactic(auto, unfolding(bc_parse_defs::specs::Reading::definition_turn))]
-fn definition_step<'s, 't>(
-    room: Room,
-    list: Read<'s, 't, Vec<Definition<'s>>>,
-) -> Result<Turn<'s, 't, Vec<Definition<'s>>>, ReadFault>
-    requires { list.height ≤ room.nest }
-    ensures read { (n : ℕ) → room.nest + room.round ≤ n →
-        Takes (list_view definitions_view) result
-        (definition_turn (exp_of n) (command_of n) (definition_of n) room.nest room.round (read_view (list_view definitions_view) list.entry)) }
-    ensures low { IfOk result (λ x. turn_height x ≤ room.nest) }
-{
-    let next = definition(room, list.rest)?;
-    let tree = apart::definition_added(list.tree, next.tree)?;
-    let height = list.height.max(next.height);
-    let rest = next.rest;
-    Ok(match cursor::after(Symbol::And, rest) {
-        None => Turn::Last(Read { tree, height, rest }),
-        Some(rest) => Turn::More(Read { tree, height, rest }),
-    })
 }
 
 /// A definition.
@@ -236,40 +167,23 @@ fn definition<'s, 't>(room: Room, rest: Rest<'s, 't>) -> Answer<'s, 't, Definiti
 }
 
 #[cycle(parser)]
-#[tactic(auto, unfolding(bc_parse_defs::specs::Reading::defined_read, bc_parse_defs::specs::Reading::shaped_read))]
+#[tactic(auto, unfolding(bc_parse_defs::specs::Reading::defined_read, bc_parse_defs::specs::Reading::shaped_read, bc_parse_defs::specs::Reading::vector_read))]
 fn defined<'s, 't>(room: Room, rest: Rest<'s, 't>) -> Answer<'s, 't, Definition<'s>>
     requires { 0 < room.nest }
     ensures read { (n : ℕ) → room.nest + room.round ≤ n + 1 →
         Reads definition_view result (defined_read (exp_of n) (command_of n) (definition_of n) room.nest room.round (seen rest.entry)) }
     ensures low { IfOk result (λ x. x.height ≤ room.nest) }
 {
-    let (name, behind) = cursor::name(rest)?;
-    match cursor::shape_at(behind) {
-        ShapeAt::Parameters(then) => routine(room, name, behind.parts.len(), then),
-        ShapeAt::Size(then) => vector(room, name, then),
-        ShapeAt::Values => variables(room, rest),
-    }
-}
-
-#[cycle(parser)]
-#[tactic(auto, unfolding(bc_parse_defs::specs::Reading::vector_read))]
-fn vector<'s, 't>(room: Room, name: &'s [u8], rest: Rest<'s, 't>) -> Answer<'s, 't, Definition<'s>>
-    requires { 0 < room.nest }
-    ensures read { (n : ℕ) → room.nest + room.round ≤ n + 1 →
-        Reads definition_view result (vector_read (exp_of n) (command_of n) (definition_of n) room.nest room.round name.entry.now (seen rest.entry)) }
-    ensures low { IfOk result (λ x. x.height ≤ room.nest) }
-{
     let inner = Room {
         nest: room.nest - 1,
         ..room
     };
-    let size = exp(inner, 2, rest)?;
-    let tree = Definition::Vector(name, size.tree);
-    Ok(Read {
-        tree,
-        height: size.height + 1,
-        rest: size.rest,
-    })
+    let (name, behind) = cursor::name(rest)?;
+    match cursor::shape_at(behind) {
+        ShapeAt::Parameters(then) => routine(room, name, behind.parts.len(), then),
+        ShapeAt::Size(then) => made::vector(room, name, exp(inner, 2, then)),
+        ShapeAt::Values => variables(room, rest),
+    }
 }
 
 #[cycle(parser)]
@@ -280,42 +194,14 @@ fn variables<'s, 't>(room: Room, rest: Rest<'s, 't>) -> Answer<'s, 't, Definitio
         Reads definition_view result (variables_read (exp_of n) (command_of n) (definition_of n) room.nest room.round (seen rest.entry)) }
     ensures low { IfOk result (λ x. x.height ≤ room.nest) }
 {
-    let found = names(room.alloc, rest)?;
-    let rest = cursor::expect(Symbol::Equal, found.rest)?;
-    values(room, found.tree, rest)
-}
-
-/// The values of variables, as many as there are names.
-#[cycle(parser)]
-fn values<'s, 't>(
-    room: Room,
-    found: Vec<&'s [u8]>,
-    rest: Rest<'s, 't>,
-) -> Answer<'s, 't, Definition<'s>>
-    requires { 0 < room.nest }
-    ensures read { (n : ℕ) → room.nest + room.round ≤ n + 1 →
-        Reads definition_view result
-        (exps_read (exp_of n) (room.nest - 1) room.round 1 (length (names_view found.entry.items)) (seen rest.entry) ~> λ es.
-        if count es.tree == length (names_view found.entry.items)
-        then Ok (piece (tree.Variables (names_view found.entry.items) es.tree) (es.height + 1) es.rest)
-        else Err (Expected (length es.rest))) }
-    ensures low { IfOk result (λ x. x.height ≤ room.nest) }
-{
     let inner = Room {
         nest: room.nest - 1,
         ..room
     };
-    let limit = name_count(&found);
-    let values = exps(inner, 1, limit, rest)?;
-    if exp_count(&values.tree) != limit {
-        return Err(ReadFault::Expected(values.rest.parts.len()));
-    }
-    let tree = Definition::Variables(found, values.tree);
-    Ok(Read {
-        tree,
-        height: values.height + 1,
-        rest: values.rest,
-    })
+    let found = names(room.alloc, rest)?;
+    let rest = cursor::expect(Symbol::Equal, found.rest)?;
+    let limit = name_count(&found.tree);
+    made::variables(room, found.tree, exps(inner, 1, limit, rest))
 }
 
 #[cycle(parser)]
@@ -335,38 +221,15 @@ fn routine<'s, 't>(
     if room.round == 0 {
         return Err(ReadFault::TooDeep(place));
     }
-    let found = parameters(room.alloc, rest)?;
-    match cursor::after(Symbol::Equal, found.rest) {
-        Some(then) => function(room, name, found.tree, then),
-        None => procedure(room, name, found.tree, found.rest),
-    }
-}
-
-/// The value of a function, behind its sign.
-#[cycle(parser)]
-fn function<'s, 't>(
-    room: Room,
-    name: &'s [u8],
-    found: Vec<&'s [u8]>,
-    rest: Rest<'s, 't>,
-) -> Answer<'s, 't, Definition<'s>>
-    requires { 0 < room.nest }
-    ensures read { (n : ℕ) → room.nest + room.round ≤ n + 1 →
-        Reads definition_view result (exp_of n (room.nest - 1) room.round 1 (seen rest.entry) ~> λ e.
-        Ok (piece (tree.Function name.entry.now (names_view found.entry.items) e.tree) (e.height + 1) e.rest)) }
-    ensures low { IfOk result (λ x. x.height ≤ room.nest) }
-{
     let inner = Room {
         nest: room.nest - 1,
         ..room
     };
-    let value = exp(inner, 1, rest)?;
-    let tree = Definition::Function(name, found, value.tree);
-    Ok(Read {
-        tree,
-        height: value.height + 1,
-        rest: value.rest,
-    })
+    let found = parameters(room.alloc, rest)?;
+    match cursor::after(Symbol::Equal, found.rest) {
+        Some(then) => made::function(room, name, found.tree, exp(inner, 1, then)),
+        None => procedure(room, name, found.tree, found.rest),
+    }
 }
 
 /// The body of a routine, with BE before it.
@@ -389,11 +252,5 @@ fn procedure<'s, 't>(
         ..room
     };
     let rest = cursor::expect(Symbol::Be, rest)?;
-    let body = body(inner, rest)?;
-    let tree = Definition::Routine(name, found, body.tree);
-    Ok(Read {
-        tree,
-        height: body.height + 1,
-        rest: body.rest,
-    })
+    made::routine(room, name, found, body(inner, rest))
 }

@@ -4,19 +4,18 @@ ghost use Rattle.bc_lex_tokens.specs.declared.symbol.Symbol.TheVariants as sign;
 ghost use Rattle.bc_parse_tree.specs.Spelling.{count};
 ghost use Rattle.bc_parse_tree.specs.Tree as tree;
 ghost use Rattle.bc_parse_tree.specs.View.{exp_view, exps_view};
-ghost use Rattle.bc_parse_defs.specs.Reading.{piece, exp_of, command_of, definition_of, exps_turn, exps_read};
+ghost use Rattle.bc_parse_defs.specs.Reading.{piece, exp_of, command_of, definition_of, exps_read};
 ghost use Rattle.bc_parse_defs.specs.Reading.{arguments_read, suffix_read, grow_turn, grow_read, started_read};
 ghost use Rattle.bc_parse_defs.specs.Reading.{operand_read, expect_of, Operator, Arguments, Choice};
 ghost use Rattle.bc_parse_defs.specs.declared.words.Start.TheVariants as start;
 ghost use Rattle.bc_parse.specs.Seen.{◌~>◌, seen, read_view, list_view, box_view, levelled_view, Reads, Takes};
 ghost use Rattle.bc_parse.specs.Seen.{turn_height};
-ghost use Rattle.bc_parse.specs.SeenFollow.{follow_view};
 
 use crate::blocks::body;
 use crate::cursor::{Follow, Rest};
 use crate::fault::ReadFault;
 use crate::read::{Answer, Read, Room, Turn};
-use crate::{apart, cursor};
+use crate::{apart, cursor, made};
 use bc_lex_tokens::Symbol;
 use bc_parse_defs::words;
 use bc_parse_defs::words::Start;
@@ -53,13 +52,7 @@ pub fn exp_apart<'s, 't>(
     ensures read { (n : ℕ) → room.nest + room.round ≤ n → Reads (box_view exp_view) result (exp_of n room.nest room.round level (seen rest.entry)) }
     ensures low { IfOk result (λ x. x.height ≤ room.nest) }
 {
-    let found = exp(room, level, rest)?;
-    let tree = apart::exp(room.alloc, found.tree)?;
-    Ok(Read {
-        tree,
-        height: found.height,
-        rest: found.rest,
-    })
+    made::exp_kept(room, exp(room, level, rest))
 }
 
 /// An operand.
@@ -86,6 +79,7 @@ fn operand<'s, 't>(room: Room, rest: Rest<'s, 't>) -> Answer<'s, 't, Levelled<'s
 }
 
 #[cycle(parser)]
+#[tactic(auto, unfolding(bc_parse_defs::specs::Reading::started_read, bc_parse_defs::specs::Reading::table_read, bc_parse_defs::specs::Reading::valof_read, bc_parse_defs::specs::Reading::monadic_read))]
 fn started<'s, 't>(
     room: Room,
     place: usize,
@@ -97,11 +91,17 @@ fn started<'s, 't>(
         Reads levelled_view result (started_read (exp_of n) (command_of n) (definition_of n) room.nest room.round place word (seen rest.entry)) }
     ensures low { IfOk result (λ x. x.height ≤ room.nest) }
 {
+    let inner = Room {
+        nest: room.nest - 1,
+        ..room
+    };
     match word {
         Start::Bracket => bracket(room, place, rest),
-        Start::Table => table(room, rest),
-        Start::Valof => valof(room, rest),
-        Start::Monadic(op) => monadic(room, op, rest),
+        Start::Table => made::table_of(room, exps(inner, 2, rest.parts.len() + 1, rest)),
+        Start::Valof => made::valof_of(room, body(inner, rest)),
+        Start::Monadic(op) => {
+            made::monadic_of(room, op, exp_apart(inner, words::level_behind(op), rest))
+        }
     }
 }
 
@@ -119,89 +119,7 @@ fn bracket<'s, 't>(room: Room, place: usize, rest: Rest<'s, 't>) -> Answer<'s, '
         round: room.round - 1,
         ..room
     };
-    let found = exp(inner, 1, rest)?;
-    let found = apart::closed(Symbol::CloseBracket, found)?;
-    let tree = Levelled {
-        exp: found.tree,
-        level: 12,
-    };
-    Ok(Read {
-        tree,
-        height: found.height,
-        rest: found.rest,
-    })
-}
-
-#[cycle(parser)]
-#[tactic(auto, unfolding(bc_parse_defs::specs::Reading::started_read, bc_parse_defs::specs::Reading::table_read))]
-fn table<'s, 't>(room: Room, rest: Rest<'s, 't>) -> Answer<'s, 't, Levelled<'s>>
-    requires { 0 < room.nest }
-    ensures read { (n : ℕ) → room.nest + room.round ≤ n + 1 → (place : ℕ) →
-        Reads levelled_view result (started_read (exp_of n) (command_of n) (definition_of n) room.nest room.round place start.Table (seen rest.entry)) }
-    ensures low { IfOk result (λ x. x.height ≤ room.nest) }
-{
-    let inner = Room {
-        nest: room.nest - 1,
-        ..room
-    };
-    let found = exps(inner, 2, rest.parts.len() + 1, rest)?;
-    let tree = Levelled {
-        exp: Exp::Table(found.tree),
-        level: 12,
-    };
-    Ok(Read {
-        tree,
-        height: found.height + 1,
-        rest: found.rest,
-    })
-}
-
-#[cycle(parser)]
-#[tactic(auto, unfolding(bc_parse_defs::specs::Reading::started_read, bc_parse_defs::specs::Reading::valof_read))]
-fn valof<'s, 't>(room: Room, rest: Rest<'s, 't>) -> Answer<'s, 't, Levelled<'s>>
-    requires { 0 < room.nest }
-    ensures read { (n : ℕ) → room.nest + room.round ≤ n + 1 → (place : ℕ) →
-        Reads levelled_view result (started_read (exp_of n) (command_of n) (definition_of n) room.nest room.round place start.Valof (seen rest.entry)) }
-    ensures low { IfOk result (λ x. x.height ≤ room.nest) }
-{
-    let inner = Room {
-        nest: room.nest - 1,
-        ..room
-    };
-    let found = body(inner, rest)?;
-    let tree = Levelled {
-        exp: Exp::Valof(found.tree),
-        level: 12,
-    };
-    Ok(Read {
-        tree,
-        height: found.height + 1,
-        rest: found.rest,
-    })
-}
-
-#[cycle(parser)]
-#[tactic(auto, unfolding(bc_parse_defs::specs::Reading::started_read, bc_parse_defs::specs::Reading::monadic_read))]
-fn monadic<'s, 't>(room: Room, op: Monadic, rest: Rest<'s, 't>) -> Answer<'s, 't, Levelled<'s>>
-    requires { 0 < room.nest }
-    ensures read { (n : ℕ) → room.nest + room.round ≤ n + 1 → (place : ℕ) →
-        Reads levelled_view result (started_read (exp_of n) (command_of n) (definition_of n) room.nest room.round place (start.Monadic op) (seen rest.entry)) }
-    ensures low { IfOk result (λ x. x.height ≤ room.nest) }
-{
-    let inner = Room {
-        nest: room.nest - 1,
-        ..room
-    };
-    let found = exp_apart(inner, words::level_behind(op), rest)?;
-    let tree = Levelled {
-        exp: Exp::Monadic(op, found.tree),
-        level: words::monadic_level(op),
-    };
-    Ok(Read {
-        tree,
-        height: found.height + 1,
-        rest: found.rest,
-    })
+    made::bracket_of(room, exp(inner, 1, rest))
 }
 
 /// An expression from its first operand on: operators, calls and choices behind it.
@@ -248,31 +166,11 @@ fn grow_step<'s, 't>(
         Takes levelled_view result (grow_turn (exp_of n) room.nest room.round begin level (read_view levelled_view left.entry)) }
     ensures low { IfOk result (λ x. turn_height x ≤ room.nest) }
 {
-    let next = cursor::following_at(level, left.tree.level, left.rest);
-    if let Follow::Ends = next {
-        return Ok(Turn::Last(left));
-    }
-    Ok(Turn::More(suffix(room, begin, next, left)?))
-}
-
-#[cycle(parser)]
-#[tactic(auto, unfolding(bc_parse_defs::specs::Reading::suffix_read))]
-fn suffix<'s, 't>(
-    room: Room,
-    begin: usize,
-    next: Follow<'s, 't>,
-    left: Read<'s, 't, Levelled<'s>>,
-) -> Answer<'s, 't, Levelled<'s>>
-    ensures read { (n : ℕ) → room.nest + room.round ≤ n + 1 →
-        Reads levelled_view result (suffix_read (exp_of n) room.nest room.round begin (follow_view next.entry)
-        (exp_view left.entry.tree.exp) left.entry.height (length (seen left.entry.rest))) }
-    ensures low { IfOk result (λ x. x.height ≤ room.nest) }
-{
-    match next {
-        Follow::Ends => Err(apart::spent(left)),
-        Follow::Operator(op, rest) => operated(room, op, left, rest),
-        Follow::Arguments(rest) => called(room, left, rest),
-        Follow::Choice(rest) => chosen(room, begin, left, rest),
+    match cursor::following_at(level, left.tree.level, left.rest) {
+        Follow::Ends => Ok(Turn::Last(left)),
+        Follow::Operator(op, rest) => made::grown(room, operated(room, op, left, rest)),
+        Follow::Arguments(rest) => made::grown(room, called(room, left, rest)),
+        Follow::Choice(rest) => made::grown(room, chosen(room, begin, left, rest)),
     }
 }
 
@@ -299,16 +197,7 @@ fn operated<'s, 't>(
     let level = words::level(op);
     let height = left.height;
     let left = apart::exp(room.alloc, left.tree.exp)?;
-    let right = exp_apart(inner, level + 1, rest)?;
-    let tree = Levelled {
-        exp: Exp::Dyadic(op, left, right.tree),
-        level,
-    };
-    Ok(Read {
-        tree,
-        height: height.max(right.height) + 1,
-        rest: right.rest,
-    })
+    made::dyadic_of(room, op, height, left, exp_apart(inner, level + 1, rest))
 }
 
 #[cycle(parser)]
@@ -333,16 +222,7 @@ fn called<'s, 't>(
     };
     let height = left.height;
     let routine = apart::exp(room.alloc, left.tree.exp)?;
-    let found = arguments(inner, rest)?;
-    let tree = Levelled {
-        exp: Exp::Call(routine, found.tree),
-        level: 12,
-    };
-    Ok(Read {
-        tree,
-        height: height.max(found.height) + 1,
-        rest: found.rest,
-    })
+    made::call_from(room, height, routine, arguments(inner, rest))
 }
 
 #[cycle(parser)]
@@ -392,20 +272,7 @@ fn otherwise<'s, 't>(
         ..room
     };
     let rest = cursor::expect(Symbol::Comma, this.rest)?;
-    let that = exp_apart(inner, 1, rest)?;
-    let tree = Levelled {
-        exp: Exp::Condition {
-            test,
-            this: this.tree,
-            that: that.tree,
-        },
-        level: 1,
-    };
-    Ok(Read {
-        tree,
-        height: height.max(that.height) + 1,
-        rest: that.rest,
-    })
+    made::condition_of(room, height, test, this.tree, exp_apart(inner, 1, rest))
 }
 
 #[cycle(parser)]
@@ -447,38 +314,12 @@ pub fn exps<'s, 't>(
         rest,
     };
     for _ in 0..rest.parts.len() + 1 {
-        match exps_step(room, level, limit, found)? {
+        match made::exps_more(room, limit, exp(room, level, found.rest), found)? {
             Turn::Last(list) => return Ok(list),
             Turn::More(list) => found = list,
         }
     }
     Err(apart::spent(found))
-}
-
-#[cycle(parser)]
-#[tactic(auto, unfolding(bc_parse_defs::specs::Reading::exps_turn))]
-fn exps_step<'s, 't>(
-    room: Room,
-    level: usize,
-    limit: usize,
-    list: Read<'s, 't, Vec<Exp<'s>>>,
-) -> Result<Turn<'s, 't, Vec<Exp<'s>>>, ReadFault>
-    requires { list.height ≤ room.nest }
-    ensures read { (n : ℕ) → room.nest + room.round ≤ n →
-        Takes (list_view exps_view) result (exps_turn (exp_of n) room.nest room.round level limit (read_view (list_view exps_view) list.entry)) }
-    ensures low { IfOk result (λ x. turn_height x ≤ room.nest) }
-{
-    let next = exp(room, level, list.rest)?;
-    let tree = apart::exp_added(list.tree, next.tree)?;
-    let height = list.height.max(next.height);
-    let rest = next.rest;
-    if exp_count(&tree) == limit {
-        return Ok(Turn::Last(Read { tree, height, rest }));
-    }
-    Ok(match cursor::after(Symbol::Comma, rest) {
-        None => Turn::Last(Read { tree, height, rest }),
-        Some(rest) => Turn::More(Read { tree, height, rest }),
-    })
 }
 
 /// How many expressions a list has.

@@ -9,6 +9,7 @@ mod declarations;
 mod error;
 mod expressions;
 mod fault;
+mod made;
 mod names;
 mod read;
 mod section;

@@ -43,6 +43,22 @@ fn name<'s>(out: &mut Vec<TokenKind<'s>>, name: &'s [u8]) -> Result<(), Memory>
     put(out, TokenKind::Name(name))
 }
 
+/// A word, and the name behind it.
+fn worded_name<'s>(out: &mut Vec<TokenKind<'s>>, word: Symbol, text: &'s [u8]) -> Result<(), Memory>
+    ensures { Adds result out.old out.new (A word ∷ Name text.entry.now ∷ []) }
+{
+    sign(out, word)?;
+    name(out, text)
+}
+
+/// A word, and the section bracket behind it.
+fn opened<'s>(out: &mut Vec<TokenKind<'s>>, word: Symbol) -> Result<(), Memory>
+    ensures { Adds result out.old out.new (A word ∷ A sign.OpenSection ∷ []) }
+{
+    sign(out, word)?;
+    sign(out, Symbol::OpenSection)
+}
+
 /// What stands before an element of a list: nothing before the first.
 fn separate<'s>(out: &mut Vec<TokenKind<'s>>, is_first: bool, symbol: Symbol) -> Result<(), Memory>
     ensures { Adds result out.old out.new (separator is_first symbol) }
@@ -73,6 +89,26 @@ fn parameters<'s>(out: &mut Vec<TokenKind<'s>>, found: &[&'s [u8]]) -> Result<()
     sign(out, Symbol::CloseBracket)
 }
 
+/// The name of a function or a routine, and its parameters.
+fn heading<'s>(
+    out: &mut Vec<TokenKind<'s>>,
+    text: &'s [u8],
+    found: &[&'s [u8]],
+) -> Result<(), Memory>
+    ensures { Adds result out.old out.new (Name text.entry.now ∷ in_round (named (map (λ n. n.now) found.now))) }
+{
+    name(out, text)?;
+    parameters(out, found)
+}
+
+/// A name, and the `=` behind it.
+fn equated<'s>(out: &mut Vec<TokenKind<'s>>, text: &'s [u8]) -> Result<(), Memory>
+    ensures { Adds result out.old out.new (Name text.entry.now ∷ A sign.Equal ∷ []) }
+{
+    name(out, text)?;
+    sign(out, Symbol::Equal)
+}
+
 /// An expression that stands alone in its place.
 #[cycle(spelling)]
 fn whole<'s>(out: &mut Vec<TokenKind<'s>>, tree: &Exp<'s>) -> Result<(), Memory>
@@ -85,29 +121,17 @@ fn whole<'s>(out: &mut Vec<TokenKind<'s>>, tree: &Exp<'s>) -> Result<(), Memory>
         Exp::String(text) => put(out, TokenKind::String(text)),
         Exp::True => sign(out, Symbol::True),
         Exp::False => sign(out, Symbol::False),
-        Exp::Table(constants) => {
-            sign(out, Symbol::Table)?;
-            expressions(out, constants)
-        }
-        Exp::Valof(body) => {
-            sign(out, Symbol::ValueOf)?;
-            block(out, body)
-        }
-        Exp::Monadic(operator, operand) => {
-            sign(out, signs::monadic(*operator))?;
-            part(out, operand)
-        }
+        Exp::Table(constants) => listed(out, Symbol::Table, constants),
+        Exp::Valof(body) => bodied(out, Symbol::ValueOf, body),
+        Exp::Monadic(operator, operand) => parted(out, signs::monadic(*operator), operand),
         Exp::Dyadic(operator, left, right) => {
             part(out, left)?;
-            sign(out, signs::dyadic(*operator))?;
-            part(out, right)
+            parted(out, signs::dyadic(*operator), right)
         }
         Exp::Condition { test, this, that } => {
             part(out, test)?;
-            sign(out, Symbol::Arrow)?;
-            part(out, this)?;
-            sign(out, Symbol::Comma)?;
-            part(out, that)
+            parted(out, Symbol::Arrow, this)?;
+            parted(out, Symbol::Comma, that)
         }
         Exp::Call(called, values) => {
             routine(out, called)?;
@@ -207,8 +231,7 @@ fn declaration<'s>(out: &mut Vec<TokenKind<'s>>, tree: &Declaration<'s>) -> Resu
 {
     match tree {
         Declaration::Constants(storage, constants) => {
-            sign(out, signs::storage(*storage))?;
-            sign(out, Symbol::OpenSection)?;
+            opened(out, signs::storage(*storage))?;
             entries(out, signs::entry(*storage), constants)?;
             sign(out, Symbol::CloseSection)
         }
@@ -260,26 +283,19 @@ fn definition<'s>(out: &mut Vec<TokenKind<'s>>, tree: &Definition<'s>) -> Result
     match tree {
         Definition::Variables(variables, values) => {
             names(out, variables)?;
-            sign(out, Symbol::Equal)?;
-            expressions(out, values)
+            listed(out, Symbol::Equal, values)
         }
         Definition::Vector(variable, greatest) => {
-            name(out, variable)?;
-            sign(out, Symbol::Equal)?;
-            sign(out, Symbol::Vector)?;
-            part(out, greatest)
+            equated(out, variable)?;
+            parted(out, Symbol::Vector, greatest)
         }
         Definition::Function(function, found, value) => {
-            name(out, function)?;
-            parameters(out, found)?;
-            sign(out, Symbol::Equal)?;
-            whole(out, value)
+            heading(out, function, found)?;
+            worded(out, Symbol::Equal, value)
         }
         Definition::Routine(routine, found, body) => {
-            name(out, routine)?;
-            parameters(out, found)?;
-            sign(out, Symbol::Be)?;
-            block(out, body)
+            heading(out, routine, found)?;
+            bodied(out, Symbol::Be, body)
         }
     }
 }
@@ -328,10 +344,7 @@ fn label<'s>(out: &mut Vec<TokenKind<'s>>, tree: &Label<'s>) -> Result<(), Memor
     ensures { Adds result out.old out.new (label_spelling (label_view tree.now)) }
 {
     match tree {
-        Label::Case(constant) => {
-            sign(out, Symbol::Case)?;
-            part(out, constant)?;
-        }
+        Label::Case(constant) => parted(out, Symbol::Case, constant)?,
         Label::Default => sign(out, Symbol::Default)?,
         Label::Name(text) => name(out, text)?,
     }
@@ -347,12 +360,30 @@ fn worded<'s>(out: &mut Vec<TokenKind<'s>>, word: Symbol, tree: &Exp<'s>) -> Res
     whole(out, tree)
 }
 
-/// The body of a test or a loop.
+/// A word or a sign, and the part of an expression behind it.
 #[cycle(spelling)]
-fn done<'s>(out: &mut Vec<TokenKind<'s>>, body: &Block<'s>) -> Result<(), Memory>
-    ensures { Adds result out.old out.new (A sign.Do ∷ block_spelling (block_view body.now)) }
+fn parted<'s>(out: &mut Vec<TokenKind<'s>>, word: Symbol, tree: &Exp<'s>) -> Result<(), Memory>
+    ensures { Adds result out.old out.new (A word ∷ part_of (exp_view tree.now) (whole (exp_view tree.now))) }
 {
-    sign(out, Symbol::Do)?;
+    sign(out, word)?;
+    part(out, tree)
+}
+
+/// A word or a sign, and the expressions behind it.
+#[cycle(spelling)]
+fn listed<'s>(out: &mut Vec<TokenKind<'s>>, word: Symbol, list: &[Exp<'s>]) -> Result<(), Memory>
+    ensures { Adds result out.old out.new (A word ∷ behind_first (after_commas (exps_view list.now))) }
+{
+    sign(out, word)?;
+    expressions(out, list)
+}
+
+/// A word, and the block behind it.
+#[cycle(spelling)]
+fn bodied<'s>(out: &mut Vec<TokenKind<'s>>, word: Symbol, body: &Block<'s>) -> Result<(), Memory>
+    ensures { Adds result out.old out.new (A word ∷ block_spelling (block_view body.now)) }
+{
+    sign(out, word)?;
     block(out, body)
 }
 
@@ -362,8 +393,7 @@ fn cases<'s>(out: &mut Vec<TokenKind<'s>>, list: &[Item<'s>]) -> Result<(), Memo
     ensures { Adds result out.old out.new (A sign.Into ∷ A sign.OpenSection ∷ (behind_first (items_spelling (items_view list.now)) ++ A sign.CloseSection
         ∷ [])) }
 {
-    sign(out, Symbol::Into)?;
-    sign(out, Symbol::OpenSection)?;
+    opened(out, Symbol::Into)?;
     items(out, list, true)?;
     sign(out, Symbol::CloseSection)
 }
@@ -375,8 +405,7 @@ fn command<'s>(out: &mut Vec<TokenKind<'s>>, tree: &Command<'s>) -> Result<(), M
     match tree {
         Command::Assign(places, values) => {
             expressions(out, places)?;
-            sign(out, Symbol::Assign)?;
-            expressions(out, values)
+            listed(out, Symbol::Assign, values)
         }
         Command::Call(called, values) => {
             routine(out, called)?;
@@ -389,10 +418,7 @@ fn command<'s>(out: &mut Vec<TokenKind<'s>>, tree: &Command<'s>) -> Result<(), M
         Command::Return => sign(out, Symbol::Return),
         Command::Finish => sign(out, Symbol::Finish),
         Command::ResultIs(value) => worded(out, Symbol::ResultIs, value),
-        Command::Goto(label) => {
-            sign(out, Symbol::Goto)?;
-            name(out, label)
-        }
+        Command::Goto(label) => worded_name(out, Symbol::Goto, label),
         Command::Repeat(repeated) => {
             command(out, repeated)?;
             sign(out, Symbol::Repeat)
@@ -407,25 +433,24 @@ fn command<'s>(out: &mut Vec<TokenKind<'s>>, tree: &Command<'s>) -> Result<(), M
         }
         Command::If(test, body) => {
             worded(out, Symbol::If, test)?;
-            done(out, body)
+            bodied(out, Symbol::Do, body)
         }
         Command::Unless(test, body) => {
             worded(out, Symbol::Unless, test)?;
-            done(out, body)
+            bodied(out, Symbol::Do, body)
         }
         Command::While(test, body) => {
             worded(out, Symbol::While, test)?;
-            done(out, body)
+            bodied(out, Symbol::Do, body)
         }
         Command::Until(test, body) => {
             worded(out, Symbol::Until, test)?;
-            done(out, body)
+            bodied(out, Symbol::Do, body)
         }
         Command::Test { test, this, that } => {
             worded(out, Symbol::Test, test)?;
-            done(out, this)?;
-            sign(out, Symbol::Else)?;
-            block(out, that)
+            bodied(out, Symbol::Do, this)?;
+            bodied(out, Symbol::Else, that)
         }
         Command::For {
             variable,
@@ -434,15 +459,13 @@ fn command<'s>(out: &mut Vec<TokenKind<'s>>, tree: &Command<'s>) -> Result<(), M
             step,
             body,
         } => {
-            sign(out, Symbol::For)?;
-            name(out, variable)?;
+            worded_name(out, Symbol::For, variable)?;
             worded(out, Symbol::Equal, start)?;
             worded(out, Symbol::To, limit)?;
             if let Some(by) = step {
-                sign(out, Symbol::By)?;
-                part(out, by)?;
+                parted(out, Symbol::By, by)?;
             }
-            done(out, body)
+            bodied(out, Symbol::Do, body)
         }
         Command::SwitchOn(value, found) => {
             worded(out, Symbol::SwitchOn, value)?;

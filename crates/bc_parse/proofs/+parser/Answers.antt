@@ -57,26 +57,27 @@ expressions::grow-returns-clause-read t c = λ n h.
     rw (c.spent.ensures, turns_spent (grow_turn (exp_of n) a.room.nest a.room.round a.begin a.level) (length (seen a.first.rest) + 1) c.loop.counter _ _ (c.loop.invariant.read n h) (omega arith)) refl
 
 pub expressions::exps-returns-in_err-list-clause-read : goal.expressions::exps-returns-in_err-list-clause-read
-unfolding exps_read
+unfolding exps_read exps_turn
 expressions::exps-returns-in_err-list-clause-read t c = λ n h.
     let a = c.args in
     let p = err_from_is_err_and c.from_residual.result c.from_residual.ensures.1 in
-    rw (p.1, p.2) (turns_fails (exps_turn (exp_of n) a.room.nest a.room.round a.level a.limit) (length (seen a.rest) + 1) c.loop.counter _ _ (c.loop.invariant.read n h) c.in_err-list.field-0.0 (omega arith) (c.in_err-list.ensures.read n h))
+    rw (p.1, p.2) (turns_fails (exps_turn (exp_of n) a.room.nest a.room.round a.level a.limit) (length (seen a.rest) + 1) c.loop.counter _ _ (c.loop.invariant.read n h) c.in_err-list.field-0.0 (omega arith) (c.in_err-list.ensures.read _ (c.exp.ensures.read n h)))
 
 pub expressions::exps-returns-in-Last-clause-read : goal.expressions::exps-returns-in-Last-clause-read
-unfolding exps_read
+unfolding exps_read exps_turn
 expressions::exps-returns-in-Last-clause-read t c = λ n h.
     let a = c.args in
-    let whole = turns_last (exps_turn (exp_of n) a.room.nest a.room.round a.level a.limit) (length (seen a.rest) + 1) c.loop.counter _ _ (c.loop.invariant.read n h) (list_view exps_view) _ _ (omega arith) (c.in_ok-list.ensures.read n h) c.in-Last.is in
+    let whole = turns_last (exps_turn (exp_of n) a.room.nest a.room.round a.level a.limit) (length (seen a.rest) + 1) c.loop.counter _ _ (c.loop.invariant.read n h) (list_view exps_view) _ _ (omega arith) (c.in_ok-list.ensures.read _ (c.exp.ensures.read n h)) c.in-Last.is in
     whole
 
 pub expressions::exps-loop-preserved : goal.expressions::exps-loop-preserved
+unfolding exps_turn
 expressions::exps-loop-preserved t c =
     let a = c.args in
     record {
       total = c.loop.invariant.total;
       low = more_low _ _ _ c.in-More.is c.in_ok-list.ensures.low;
-      read = λ n h. turns_more (exps_turn (exp_of n) a.room.nest a.room.round a.level a.limit) (length (seen a.rest) + 1) c.loop.counter _ _ (c.loop.invariant.read n h) (list_view exps_view) _ _ (omega arith) (c.in_ok-list.ensures.read n h) c.in-More.is;
+      read = λ n h. turns_more (exps_turn (exp_of n) a.room.nest a.room.round a.level a.limit) (length (seen a.rest) + 1) c.loop.counter _ _ (c.loop.invariant.read n h) (list_view exps_view) _ _ (omega arith) (c.in_ok-list.ensures.read _ (c.exp.ensures.read n h)) c.in-More.is;
     }
 
 pub expressions::exps-returns-clause-read : goal.expressions::exps-returns-clause-read
@@ -173,26 +174,27 @@ declarations::entries-returns-clause-read t c = λ n h.
     rw c.spent.ensures (turns_spent (entry_turn (exp_of n) a.room.nest a.room.round) (length (seen a.rest) + 1) c.loop.counter _ _ (c.loop.invariant.read n h) (omega arith))
 
 pub declarations::definitions-returns-in_err-list-clause-read : goal.declarations::definitions-returns-in_err-list-clause-read
-unfolding definitions_read
+unfolding definitions_read definition_turn
 declarations::definitions-returns-in_err-list-clause-read t c = λ n h.
     let a = c.args in
     let p = err_from_is_err_and c.from_residual.result c.from_residual.ensures.1 in
-    rw (p.1, p.2) (turns_fails (definition_turn (exp_of n) (command_of n) (definition_of n) a.room.nest a.room.round) (length (seen a.rest) + 1) c.loop.counter _ _ (c.loop.invariant.read n h) c.in_err-list.field-0.0 (omega arith) (c.in_err-list.ensures.read n h))
+    rw (p.1, p.2) (turns_fails (definition_turn (exp_of n) (command_of n) (definition_of n) a.room.nest a.room.round) (length (seen a.rest) + 1) c.loop.counter _ _ (c.loop.invariant.read n h) c.in_err-list.field-0.0 (omega arith) (c.in_err-list.ensures.read _ (c.definition.ensures.read n h)))
 
 pub declarations::definitions-returns-in-Last-clause-read : goal.declarations::definitions-returns-in-Last-clause-read
-unfolding definitions_read
+unfolding definitions_read definition_turn
 declarations::definitions-returns-in-Last-clause-read t c = λ n h.
     let a = c.args in
-    let whole = turns_last (definition_turn (exp_of n) (command_of n) (definition_of n) a.room.nest a.room.round) (length (seen a.rest) + 1) c.loop.counter _ _ (c.loop.invariant.read n h) (list_view definitions_view) _ _ (omega arith) (c.in_ok-list.ensures.read n h) c.in-Last.is in
+    let whole = turns_last (definition_turn (exp_of n) (command_of n) (definition_of n) a.room.nest a.room.round) (length (seen a.rest) + 1) c.loop.counter _ _ (c.loop.invariant.read n h) (list_view definitions_view) _ _ (omega arith) (c.in_ok-list.ensures.read _ (c.definition.ensures.read n h)) c.in-Last.is in
     whole
 
 pub declarations::definitions-loop-preserved : goal.declarations::definitions-loop-preserved
+unfolding definition_turn
 declarations::definitions-loop-preserved t c =
     let a = c.args in
     record {
       total = c.loop.invariant.total;
       low = more_low _ _ _ c.in-More.is c.in_ok-list.ensures.low;
-      read = λ n h. turns_more (definition_turn (exp_of n) (command_of n) (definition_of n) a.room.nest a.room.round) (length (seen a.rest) + 1) c.loop.counter _ _ (c.loop.invariant.read n h) (list_view definitions_view) _ _ (omega arith) (c.in_ok-list.ensures.read n h) c.in-More.is;
+      read = λ n h. turns_more (definition_turn (exp_of n) (command_of n) (definition_of n) a.room.nest a.room.round) (length (seen a.rest) + 1) c.loop.counter _ _ (c.loop.invariant.read n h) (list_view definitions_view) _ _ (omega arith) (c.in_ok-list.ensures.read _ (c.definition.ensures.read n h)) c.in-More.is;
     }
 
 pub declarations::definitions-returns-clause-read : goal.declarations::definitions-returns-clause-read
@@ -233,15 +235,6 @@ blocks::places-returns-clause-read t c = λ n h.
 pub commands::repeats-returns-in-None-clause-read : goal.commands::repeats-returns-in-None-clause-read
 commands::repeats-returns-in-None-clause-read t c = λ n h. let a = c.args in repeats_none (exp_of n) a.room.nest a.room.round (read_view command_view a.first) c.in-None.ensures
 
-pub expressions::suffix-returns-in-Operator-clause-read : goal.expressions::suffix-returns-in-Operator-clause-read
-expressions::suffix-returns-in-Operator-clause-read t c = λ n h. rw c.in-Operator.is (c.operated.ensures.read n h c.args.begin)
-
-pub expressions::suffix-returns-in-Arguments-clause-read : goal.expressions::suffix-returns-in-Arguments-clause-read
-expressions::suffix-returns-in-Arguments-clause-read t c = λ n h. rw c.in-Arguments.is (c.called.ensures.read n h c.args.begin)
-
-pub expressions::suffix-returns-in-Choice-clause-read : goal.expressions::suffix-returns-in-Choice-clause-read
-expressions::suffix-returns-in-Choice-clause-read t c = λ n h. rw c.in-Choice.is (c.chosen.ensures.read n h (length (seen c.args.left.rest)))
-
 pub expressions::chosen-returns-clause-read : goal.expressions::chosen-returns-clause-read
 expressions::chosen-returns-clause-read t c = λ n h place.
     let a = c.args in
@@ -272,3 +265,6 @@ blocks::place_step-returns-clause-low t c = c.ended.ensures.low c.args.room.nest
 pub declarations::routine-returns-in-None-clause-read : goal.declarations::routine-returns-in-None-clause-read
 unfolding routine_read
 declarations::routine-returns-in-None-clause-read t c = λ n h. rw (lt-ltb 0 c.args.room.round (omega arith), c.in_ok-found.ensures, ← c.in-None.ensures) (c.procedure.ensures.read n h)
+
+pub commands::repeat_by-returns-in-Repeat-clause-read : goal.commands::repeat_by-returns-in-Repeat-clause-read
+commands::repeat_by-returns-in-Repeat-clause-read t c = λ n h. rw c.in-Repeat.is (c.repeat_always.ensures.read n)

@@ -20,23 +20,11 @@ decreases-expressions::started l = 64 * (l.room.nest + l.room.round) + 18
 abbrev pub decreases-expressions::bracket : goal.decreases-expressions::bracket
 decreases-expressions::bracket l = 64 * (l.room.nest + l.room.round) + 17
 
-abbrev pub decreases-expressions::table : goal.decreases-expressions::table
-decreases-expressions::table l = 64 * (l.room.nest + l.room.round) + 17
-
-abbrev pub decreases-expressions::valof : goal.decreases-expressions::valof
-decreases-expressions::valof l = 64 * (l.room.nest + l.room.round) + 17
-
-abbrev pub decreases-expressions::monadic : goal.decreases-expressions::monadic
-decreases-expressions::monadic l = 64 * (l.room.nest + l.room.round) + 17
-
 abbrev pub decreases-expressions::grow : goal.decreases-expressions::grow
 decreases-expressions::grow l = 64 * (l.room.nest + l.room.round) + 19
 
 abbrev pub decreases-expressions::grow_step : goal.decreases-expressions::grow_step
 decreases-expressions::grow_step l = 64 * (l.room.nest + l.room.round) + 18
-
-abbrev pub decreases-expressions::suffix : goal.decreases-expressions::suffix
-decreases-expressions::suffix l = 64 * (l.room.nest + l.room.round) + 17
 
 abbrev pub decreases-expressions::operated : goal.decreases-expressions::operated
 decreases-expressions::operated l = 64 * (l.room.nest + l.room.round) + 16
@@ -49,9 +37,6 @@ decreases-expressions::chosen l = 64 * (l.room.nest + l.room.round) + 16
 
 abbrev pub decreases-expressions::exps : goal.decreases-expressions::exps
 decreases-expressions::exps l = 64 * (l.room.nest + l.room.round) + 22
-
-abbrev pub decreases-expressions::exps_step : goal.decreases-expressions::exps_step
-decreases-expressions::exps_step l = 64 * (l.room.nest + l.room.round) + 21
 
 abbrev pub decreases-expressions::arguments : goal.decreases-expressions::arguments
 decreases-expressions::arguments l = 64 * (l.room.nest + l.room.round) + 23
@@ -95,15 +80,6 @@ decreases-commands::repeats_apart l = 64 * (l.room.nest + l.room.round) + 28
 abbrev pub decreases-commands::step : goal.decreases-commands::step
 decreases-commands::step l = 64 * (l.room.nest + l.room.round) + 22
 
-abbrev pub decreases-commands::compound_command : goal.decreases-commands::compound_command
-decreases-commands::compound_command l = 64 * (l.room.nest + l.room.round) + 27
-
-abbrev pub decreases-commands::result_is : goal.decreases-commands::result_is
-decreases-commands::result_is l = 64 * (l.room.nest + l.room.round) + 27
-
-abbrev pub decreases-commands::assignment : goal.decreases-commands::assignment
-decreases-commands::assignment l = 64 * (l.room.nest + l.room.round) + 27
-
 abbrev pub decreases-commands::repeats_from : goal.decreases-commands::repeats_from
 decreases-commands::repeats_from l = 64 * (l.room.nest + l.room.round) + 27
 
@@ -113,20 +89,11 @@ decreases-commands::repeat_step l = 64 * (l.room.nest + l.room.round) + 26
 abbrev pub decreases-commands::repeat_by : goal.decreases-commands::repeat_by
 decreases-commands::repeat_by l = 64 * (l.room.nest + l.room.round) + 25
 
-abbrev pub decreases-commands::repeat_while : goal.decreases-commands::repeat_while
-decreases-commands::repeat_while l = 64 * (l.room.nest + l.room.round) + 24
-
-abbrev pub decreases-commands::repeat_until : goal.decreases-commands::repeat_until
-decreases-commands::repeat_until l = 64 * (l.room.nest + l.room.round) + 24
-
 abbrev pub decreases-blocks::labels : goal.decreases-blocks::labels
 decreases-blocks::labels l = 64 * (l.room.nest + l.room.round) + 25
 
 abbrev pub decreases-blocks::label_step : goal.decreases-blocks::label_step
 decreases-blocks::label_step l = 64 * (l.room.nest + l.room.round) + 24
-
-abbrev pub decreases-blocks::case_label : goal.decreases-blocks::case_label
-decreases-blocks::case_label l = 64 * (l.room.nest + l.room.round) + 23
 
 abbrev pub decreases-declarations::entries : goal.decreases-declarations::entries
 decreases-declarations::entries l = 64 * (l.room.nest + l.room.round) + 24
@@ -146,26 +113,14 @@ decreases-declarations::defined l = 64 * (l.room.nest + l.room.round) + 30
 abbrev pub decreases-declarations::variables : goal.decreases-declarations::variables
 decreases-declarations::variables l = 64 * (l.room.nest + l.room.round) + 28
 
-abbrev pub decreases-declarations::vector : goal.decreases-declarations::vector
-decreases-declarations::vector l = 64 * (l.room.nest + l.room.round) + 28
-
 abbrev pub decreases-declarations::routine : goal.decreases-declarations::routine
 decreases-declarations::routine l = 64 * (l.room.nest + l.room.round) + 28
-
-abbrev pub decreases-declarations::function : goal.decreases-declarations::function
-decreases-declarations::function l = 64 * (l.room.nest + l.room.round) + 27
 
 abbrev pub decreases-declarations::procedure : goal.decreases-declarations::procedure
 decreases-declarations::procedure l = 64 * (l.room.nest + l.room.round) + 27
 
 abbrev pub decreases-declarations::definitions : goal.decreases-declarations::definitions
 decreases-declarations::definitions l = 64 * (l.room.nest + l.room.round) + 33
-
-abbrev pub decreases-declarations::definition_step : goal.decreases-declarations::definition_step
-decreases-declarations::definition_step l = 64 * (l.room.nest + l.room.round) + 32
-
-abbrev pub decreases-declarations::let_declaration : goal.decreases-declarations::let_declaration
-decreases-declarations::let_declaration l = 64 * (l.room.nest + l.room.round) + 34
 
 abbrev pub decreases-declarations::constants : goal.decreases-declarations::constants
 decreases-declarations::constants l = 64 * (l.room.nest + l.room.round) + 34
@@ -175,9 +130,6 @@ decreases-declarations::declaration l = 64 * (l.room.nest + l.room.round) + 35
 
 abbrev pub decreases-blocks::item_part : goal.decreases-blocks::item_part
 decreases-blocks::item_part l = 64 * (l.room.nest + l.room.round) + 35
-
-abbrev pub decreases-blocks::declaration_part : goal.decreases-blocks::declaration_part
-decreases-blocks::declaration_part l = 64 * (l.room.nest + l.room.round) + 36
 
 abbrev pub decreases-blocks::part_of : goal.decreases-blocks::part_of
 decreases-blocks::part_of l = 64 * (l.room.nest + l.room.round) + 37
@@ -203,12 +155,6 @@ decreases-blocks::do_body l = 64 * (l.room.nest + l.room.round) + 43
 abbrev pub decreases-commands::unrepeated : goal.decreases-commands::unrepeated
 decreases-commands::unrepeated l = 64 * (l.room.nest + l.room.round) + 29
 
-abbrev pub decreases-blocks::command_body : goal.decreases-blocks::command_body
-decreases-blocks::command_body l = 64 * (l.room.nest + l.room.round) + 41
-
-abbrev pub decreases-declarations::named : goal.decreases-declarations::named
-decreases-declarations::named l = 64 * (l.room.nest + l.room.round) + 21
-
 abbrev pub decreases-expressions::otherwise : goal.decreases-expressions::otherwise
 decreases-expressions::otherwise l = 64 * (l.room.nest + l.room.round) + 15
 
@@ -223,12 +169,6 @@ decreases-commands::for_by l = 64 * (l.room.nest + l.room.round) + 26
 
 abbrev pub decreases-commands::switch_cases : goal.decreases-commands::switch_cases
 decreases-commands::switch_cases l = 64 * (l.room.nest + l.room.round) + 27
-
-abbrev pub decreases-blocks::command_part : goal.decreases-blocks::command_part
-decreases-blocks::command_part l = 64 * (l.room.nest + l.room.round) + 34
-
-abbrev pub decreases-declarations::values : goal.decreases-declarations::values
-decreases-declarations::values l = 64 * (l.room.nest + l.room.round) + 27
 
 abbrev pub invariant-expressions::exps-loop : goal.invariant-expressions::exps-loop
 invariant-expressions::exps-loop l = record {
