@@ -1,5 +1,5 @@
 -- What is worked out along the tree.
-use Rattle.std.proofs.Common.{◌≡◌, ◌||◌, ℕ, Bool, true, false, Some, ap, ◌∙◌}
+use Rattle.std.proofs.Common.{◌≡◌, ◌||◌, ℕ, Bool, true, false, Some, refl, ap, ◌∙◌}
 use Rattle.bc_word.specs.declared.operator.Op.{Op}
 use Rattle.bc_word.specs.Words.{value_of}
 use Rattle.bc_interpret_defs.specs.Quiet.{Worth, Is, chained, paired, combined, quotient}
@@ -7,6 +7,14 @@ use Rattle.bc_interpret_defs.specs.Quiet.{Worth, Is, chained, paired, combined, 
 pub neither : (a b : Bool) → a ≡ false → b ≡ false → (a || b) ≡ false
 neither true b e f = e
 neither false b e f = f
+
+pub first : (a b : Bool) → a ≡ true → (a || b) ≡ true
+first true b e = refl
+first false b e = cc
+
+pub second : (a b : Bool) → b ≡ true → (a || b) ≡ true
+second true b e = refl
+second false b e = e
 
 pub worked_out : {A B : Type 0} (w : Worth A) (x : A) (f : A → Worth B) (y : B) → w ≡ Is x → f x ≡ Is y → chained w f ≡ Is y
 worked_out w x f y e h = ap (λ z. chained z f) e ∙ h
