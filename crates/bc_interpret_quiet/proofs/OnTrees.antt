@@ -21,3 +21,6 @@ worked_out w x f y e h = ap (λ z. chained z f) e ∙ h
 
 pub both_worked_out : (op : Op) (a b : Worth ℕ) (x y w : ℕ) → a ≡ Is x → b ≡ Is y → value_of op x y ≡ Some w → paired a b (combined op) ≡ Is w
 both_worked_out op a b x y w e h v = ap (λ z. paired z b (combined op)) e ∙ (ap (λ z. chained z (combined op x)) h ∙ ap quotient v)
+
+pub behind : (op : Op) (a b : Worth ℕ) (x w : ℕ) → a ≡ Is x → chained b (combined op x) ≡ Is w → paired a b (combined op) ≡ Is w
+behind op a b x w e h = ap (λ z. paired z b (combined op)) e ∙ h

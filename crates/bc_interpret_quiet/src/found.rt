@@ -6,7 +6,7 @@ ghost use Rattle.bc_interpret_quiet.specs.Views.{sight_of, IsWorth, IsTruth};
 
 use crate::calls::has_call;
 use crate::forms::Rest;
-use crate::quick::{DEPTH, QuickTruth, QuickValue, quick_truth, quick_value};
+use crate::quick::{DEPTH, Quick, quick_truth, quick_value};
 use crate::sight::Sight;
 use crate::worth::{Truth, Worth, decided, value_of};
 use bc_core::CoreExp;
@@ -32,9 +32,9 @@ pub fn worth_of<'c>(
     ensures { IfOk result (λ found. IsWorth (sight_of sight.now) (exp e.now) found) }
 {
     match quick_value(sight, e, DEPTH) {
-        QuickValue::Is(v) => Ok(Some(Worth::Is(v))),
-        QuickValue::Calls => Ok(None),
-        QuickValue::Unknown => Ok(slow_worth(sight, e, room)?),
+        Quick::Is(v) => Ok(Some(Worth::Is(v))),
+        Quick::Calls => Ok(None),
+        Quick::Unknown => Ok(slow_worth(sight, e, room)?),
     }
 }
 
@@ -66,9 +66,9 @@ pub fn truth_of<'c>(
     ensures { IfOk result (λ found. IsTruth (sight_of sight.now) (exp e.now) found) }
 {
     match quick_truth(sight, e, DEPTH) {
-        QuickTruth::Is(t) => Ok(Some(Truth::Is(t))),
-        QuickTruth::Calls => Ok(None),
-        QuickTruth::Unknown => Ok(slow_truth(sight, e, room)?),
+        Quick::Is(v) => Ok(Some(Truth::Is(v != 0))),
+        Quick::Calls => Ok(None),
+        Quick::Unknown => Ok(slow_truth(sight, e, room)?),
     }
 }
 

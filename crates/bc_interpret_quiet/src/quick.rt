@@ -1,10 +1,14 @@
 // The number or the truth of an expression without call and VALOF, worked out along the tree, or that one stands in it. Of one that is deeper
 // than a bound, or that is worth none, nothing may be told.
+//
+// What is met most, numbers and variables of the frame, is told with no call; and what only chooses among forms ends in calls alone, so that
+// it saves no registers.
 
-ghost use Rattle.std.specs.Prelude.{◌≡◌, IfSome};
+ghost use Rattle.std.specs.Prelude.{◌≡◌, ◌||◌, false, IfSome, IsTrue};
+ghost use Rattle.bc_core.specs.Tree.{Load, Neg, Not, Bin, Cond};
 ghost use Rattle.bc_core.specs.Value.{has_call};
 ghost use Rattle.bc_core.specs.View.{exp};
-ghost use Rattle.bc_interpret_quiet.specs.Quick.{IsQuickValue, IsQuickTruth, IsWordAt, IsMadeOf, IsDecidedBeside};
+ghost use Rattle.bc_interpret_quiet.specs.Quick.{IsQuickValue, IsQuickTruth, IsQuickLeaf, IsWordAt, IsMadeOf, IsSecond};
 ghost use Rattle.bc_interpret_quiet.specs.Views.{sight_of};
 
 use crate::sight::{Sight, cell_in};
@@ -15,31 +19,61 @@ use bc_word::{Op, Word, apply};
 /// How deep an expression may be.
 pub(crate) const DEPTH: usize = 16;
 
-/// What is told of an expression whose value is wanted.
+/// What is told of an expression.
 #[derive(Clone, Copy)]
-pub(crate) enum QuickValue {
-    /// No call and no VALOF stands in it, and it is worth this number.
+pub(crate) enum Quick {
+    /// No call and no VALOF stands in it, and it is worth this number; or its truth is that of this number.
     Is(u16),
-    /// A call or a VALOF stands in it.
-    Calls,
     /// Nothing.
     Unknown,
+    /// A call or a VALOF stands in it.
+    Calls,
 }
 
-/// What is told of an expression whose truth is wanted.
-#[derive(Clone, Copy)]
-pub(crate) enum QuickTruth {
-    /// No call and no VALOF stands in it, and it has this truth.
-    Is(bool),
-    /// A call or a VALOF stands in it.
-    Calls,
-    /// Nothing.
-    Unknown,
+/// Whether an expression is a number or an address.
+#[inline(always)]
+fn is_plain(e: &CoreExp) -> bool
+    ensures { IsTrue result → has_call (exp e.now) ≡ false }
+{
+    match e {
+        CoreExp::Num(_) | CoreExp::Frame(_) | CoreExp::Glob(_) | CoreExp::Place(_) => true,
+        CoreExp::Load(_)
+        | CoreExp::Neg(_)
+        | CoreExp::Not(_)
+        | CoreExp::Bin(_, _, _)
+        | CoreExp::Cond(_, _, _)
+        | CoreExp::Call(_, _)
+        | CoreExp::Valof(_) => false,
+    }
 }
 
 /// Whether a call or a VALOF stands in an expression. Nothing is told where it is deeper than this.
-#[tactic(auto, using(crate::proofs::OnTrees::neither, crate::proofs::OnTrees::first, crate::proofs::OnTrees::second))]
+#[inline(always)]
+#[cycle(calls)]
 fn quick_calls(e: &CoreExp, depth: usize) -> Option<bool>
+    ensures { IfSome result (λ t. t ≡ has_call (exp e.now)) }
+{
+    match e {
+        CoreExp::Num(_) | CoreExp::Frame(_) | CoreExp::Glob(_) | CoreExp::Place(_) => Some(false),
+        CoreExp::Call(_, _) | CoreExp::Valof(_) => Some(true),
+        CoreExp::Load(address) => {
+            if is_plain(address) {
+                Some(false)
+            } else {
+                calls_below(e, depth)
+            }
+        }
+        CoreExp::Neg(_) | CoreExp::Not(_) | CoreExp::Bin(_, _, _) | CoreExp::Cond(_, _, _) => {
+            calls_below(e, depth)
+        }
+    }
+}
+
+/// The same of its parts.
+#[inline(never)]
+#[cycle(calls)]
+#[tactic(auto, using(crate::proofs::OnTrees::neither, crate::proofs::OnTrees::first, crate::proofs::OnTrees::second))]
+fn calls_below(e: &CoreExp, depth: usize) -> Option<bool>
     ensures { IfSome result (λ t. t ≡ has_call (exp e.now)) }
 {
     if depth == 0 {
@@ -49,137 +83,262 @@ fn quick_calls(e: &CoreExp, depth: usize) -> Option<bool>
     match e {
         CoreExp::Num(_) | CoreExp::Frame(_) | CoreExp::Glob(_) | CoreExp::Place(_) => Some(false),
         CoreExp::Load(part) | CoreExp::Neg(part) | CoreExp::Not(part) => quick_calls(part, below),
-        CoreExp::Bin(_, left, right) => match quick_calls(left, below) {
-            Some(false) => quick_calls(right, below),
-            told => told,
-        },
+        CoreExp::Bin(_, left, right) => either_calls(left, right, below),
         CoreExp::Cond(condition, this, that) => match quick_calls(condition, below) {
-            Some(false) => match quick_calls(this, below) {
-                Some(false) => quick_calls(that, below),
-                told => told,
-            },
+            Some(false) => either_calls(this, that, below),
             told => told,
         },
         CoreExp::Call(_, _) | CoreExp::Valof(_) => Some(true),
     }
 }
 
+/// Whether a call or a VALOF stands in one of two expressions. Nothing is told where one is deeper than this.
+#[inline(always)]
+#[cycle(calls)]
+#[tactic(auto, using(crate::proofs::OnTrees::neither, crate::proofs::OnTrees::first, crate::proofs::OnTrees::second))]
+fn either_calls(this: &CoreExp, that: &CoreExp, depth: usize) -> Option<bool>
+    ensures { IfSome result (λ t. t ≡ (has_call (exp this.now) || has_call (exp that.now))) }
+{
+    match quick_calls(this, depth) {
+        Some(false) => quick_calls(that, depth),
+        told => told,
+    }
+}
+
 /// The word of the cell at this address, if there is one.
 #[inline(always)]
-fn word_at(sight: &Sight<'_>, address: u16) -> QuickValue
+fn word_at(sight: &Sight<'_>, address: u16) -> Quick
     ensures { IsWordAt (sight_of sight.now) address result }
 {
     match sight.store.at(address) {
-        Cell::Set(word) => QuickValue::Is(word),
-        Cell::Dead | Cell::Unset => QuickValue::Unknown,
+        Cell::Set(word) => Quick::Is(word),
+        Cell::Dead | Cell::Unset => Quick::Unknown,
     }
 }
 
 /// The number that an operator makes of two, if it makes one.
 #[inline(always)]
-fn made_of(op: Op, x: u16, y: u16) -> QuickValue
+fn made_of(op: Op, x: u16, y: u16) -> Quick
     ensures { IsMadeOf op x y result }
 {
     match apply(op, Word::new(x), Word::new(y)) {
-        Some(w) => QuickValue::Is(w.get()),
-        None => QuickValue::Unknown,
+        Some(w) => Quick::Is(w.get()),
+        None => Quick::Unknown,
     }
 }
 
-/// A truth that is decided beside a side that is not looked at: it must have no call.
+/// The number that a variable of the frame or a global has, if the address is that of one.
 #[inline(always)]
-fn decided_beside(side: &CoreExp, t: bool, depth: usize) -> QuickTruth
-    ensures { IsDecidedBeside (exp side.now) t result }
+fn variable(sight: &Sight<'_>, address: &CoreExp) -> Quick
+    ensures { IsQuickLeaf (sight_of sight.now) (Load (exp address.now)) result }
 {
-    match quick_calls(side, depth) {
-        Some(false) => QuickTruth::Is(t),
-        Some(true) => QuickTruth::Calls,
-        None => QuickTruth::Unknown,
+    match address {
+        CoreExp::Frame(k) => word_at(sight, cell_in(sight.frame, *k as usize)),
+        CoreExp::Glob(n) => word_at(sight, n.wrapping_add(8)),
+        CoreExp::Num(_)
+        | CoreExp::Place(_)
+        | CoreExp::Load(_)
+        | CoreExp::Neg(_)
+        | CoreExp::Not(_)
+        | CoreExp::Bin(_, _, _)
+        | CoreExp::Cond(_, _, _)
+        | CoreExp::Call(_, _)
+        | CoreExp::Valof(_) => Quick::Unknown,
+    }
+}
+
+/// The number that a number, an address in the frame, a variable of the frame or a global is worth. Of nothing else anything is told.
+#[inline(always)]
+fn leaf(sight: &Sight<'_>, e: &CoreExp) -> Quick
+    ensures { IsQuickLeaf (sight_of sight.now) (exp e.now) result }
+{
+    match e {
+        CoreExp::Num(n) => Quick::Is(n.get()),
+        CoreExp::Frame(k) => Quick::Is(cell_in(sight.frame, *k as usize)),
+        CoreExp::Load(address) => variable(sight, address),
+        CoreExp::Glob(_)
+        | CoreExp::Place(_)
+        | CoreExp::Neg(_)
+        | CoreExp::Not(_)
+        | CoreExp::Bin(_, _, _)
+        | CoreExp::Cond(_, _, _)
+        | CoreExp::Call(_, _)
+        | CoreExp::Valof(_) => Quick::Unknown,
     }
 }
 
 /// The number that an expression without call and VALOF is worth, or that one stands in it. Nothing may be told where it is deeper than this.
+#[inline(always)]
 #[cycle(quick)]
-#[tactic(auto, using(crate::proofs::OnTrees::neither, crate::proofs::OnTrees::first, crate::proofs::OnTrees::second, crate::proofs::OnTrees::worked_out, crate::proofs::OnTrees::both_worked_out))]
-pub(crate) fn quick_value(sight: &Sight<'_>, e: &CoreExp, depth: usize) -> QuickValue
+pub(crate) fn quick_value(sight: &Sight<'_>, e: &CoreExp, depth: usize) -> Quick
     ensures { IsQuickValue (sight_of sight.now) (exp e.now) result }
 {
-    if depth == 0 {
-        return QuickValue::Unknown;
-    }
-    let below = depth - 1;
-    match e {
-        CoreExp::Num(n) => QuickValue::Is(n.get()),
-        CoreExp::Frame(k) => QuickValue::Is(cell_in(sight.frame, *k as usize)),
-        CoreExp::Glob(n) => QuickValue::Is(n.wrapping_add(8)),
-        CoreExp::Place(m) => match sight.addresses.get(*m as usize) {
-            Some(address) => QuickValue::Is(*address),
-            None => QuickValue::Is(0),
-        },
-        CoreExp::Load(part) => match quick_value(sight, part, below) {
-            QuickValue::Is(a) => word_at(sight, a),
-            told => told,
-        },
-        CoreExp::Neg(part) => match quick_value(sight, part, below) {
-            QuickValue::Is(v) => QuickValue::Is(Word::new(v).negated().get()),
-            told => told,
-        },
-        CoreExp::Not(part) => match quick_value(sight, part, below) {
-            QuickValue::Is(v) => QuickValue::Is(Word::new(v).complemented().get()),
-            told => told,
-        },
-        CoreExp::Bin(op, left, right) => match quick_value(sight, left, below) {
-            QuickValue::Is(x) => match quick_value(sight, right, below) {
-                QuickValue::Is(y) => made_of(*op, x, y),
-                told => told,
-            },
-            told => told,
-        },
-        CoreExp::Cond(condition, this, that) => match quick_truth(sight, condition, below) {
-            QuickTruth::Is(true) => match quick_calls(that, below) {
-                Some(false) => quick_value(sight, this, below),
-                Some(true) => QuickValue::Calls,
-                None => QuickValue::Unknown,
-            },
-            QuickTruth::Is(false) => match quick_calls(this, below) {
-                Some(false) => quick_value(sight, that, below),
-                Some(true) => QuickValue::Calls,
-                None => QuickValue::Unknown,
-            },
-            QuickTruth::Calls => QuickValue::Calls,
-            QuickTruth::Unknown => QuickValue::Unknown,
-        },
-        CoreExp::Call(_, _) | CoreExp::Valof(_) => QuickValue::Calls,
+    match leaf(sight, e) {
+        Quick::Is(v) => Quick::Is(v),
+        Quick::Unknown | Quick::Calls => walked(sight, e, depth),
     }
 }
 
-/// The truth of an expression without call and VALOF, or that one stands in it. Nothing may be told where it is deeper than this.
+/// The same of any form.
+#[inline(never)]
 #[cycle(quick)]
-#[tactic(auto, using(crate::proofs::OnTrees::neither, crate::proofs::OnTrees::first, crate::proofs::OnTrees::second, crate::proofs::OnTrees::worked_out))]
-pub(crate) fn quick_truth(sight: &Sight<'_>, e: &CoreExp, depth: usize) -> QuickTruth
-    ensures { IsQuickTruth (sight_of sight.now) (exp e.now) result }
+fn walked(sight: &Sight<'_>, e: &CoreExp, depth: usize) -> Quick
+    ensures { IsQuickValue (sight_of sight.now) (exp e.now) result }
+{
+    match e {
+        CoreExp::Num(n) => Quick::Is(n.get()),
+        CoreExp::Frame(k) => Quick::Is(cell_in(sight.frame, *k as usize)),
+        CoreExp::Glob(n) => Quick::Is(n.wrapping_add(8)),
+        CoreExp::Place(m) => match sight.addresses.get(*m as usize) {
+            Some(address) => Quick::Is(*address),
+            None => Quick::Is(0),
+        },
+        CoreExp::Load(part) => loaded(sight, part, depth),
+        CoreExp::Neg(part) => negated(sight, part, depth),
+        CoreExp::Not(part) => complemented(sight, part, depth),
+        CoreExp::Bin(op, left, right) => operated(sight, *op, left, right, depth),
+        CoreExp::Cond(condition, this, that) => selected(sight, condition, this, that, depth),
+        CoreExp::Call(_, _) | CoreExp::Valof(_) => Quick::Calls,
+    }
+}
+
+/// The same of the content of a cell.
+#[inline(never)]
+#[cycle(quick)]
+#[tactic(auto, using(crate::proofs::OnTrees::worked_out))]
+fn loaded(sight: &Sight<'_>, part: &CoreExp, depth: usize) -> Quick
+    ensures { IsQuickValue (sight_of sight.now) (Load (exp part.now)) result }
 {
     if depth == 0 {
-        return QuickTruth::Unknown;
+        return Quick::Unknown;
+    }
+    match quick_value(sight, part, depth - 1) {
+        Quick::Is(a) => word_at(sight, a),
+        told => told,
+    }
+}
+
+/// The same of a negation.
+#[inline(never)]
+#[cycle(quick)]
+#[tactic(auto, using(crate::proofs::OnTrees::worked_out))]
+fn negated(sight: &Sight<'_>, part: &CoreExp, depth: usize) -> Quick
+    ensures { IsQuickValue (sight_of sight.now) (Neg (exp part.now)) result }
+{
+    if depth == 0 {
+        return Quick::Unknown;
+    }
+    match quick_value(sight, part, depth - 1) {
+        Quick::Is(v) => Quick::Is(Word::new(v).negated().get()),
+        told => told,
+    }
+}
+
+/// The same of a NOT.
+#[inline(never)]
+#[cycle(quick)]
+#[tactic(auto, using(crate::proofs::OnTrees::worked_out))]
+fn complemented(sight: &Sight<'_>, part: &CoreExp, depth: usize) -> Quick
+    ensures { IsQuickValue (sight_of sight.now) (Not (exp part.now)) result }
+{
+    if depth == 0 {
+        return Quick::Unknown;
+    }
+    match quick_value(sight, part, depth - 1) {
+        Quick::Is(v) => Quick::Is(Word::new(v).complemented().get()),
+        told => told,
+    }
+}
+
+/// The same of an operator between two expressions.
+#[inline(always)]
+#[cycle(quick)]
+#[tactic(auto, using(crate::proofs::OnTrees::neither, crate::proofs::OnTrees::both_worked_out, crate::proofs::OnTrees::behind))]
+fn operated(sight: &Sight<'_>, op: Op, left: &CoreExp, right: &CoreExp, depth: usize) -> Quick
+    ensures { IsQuickValue (sight_of sight.now) (Bin op (exp left.now) (exp right.now)) result }
+{
+    match leaf(sight, left) {
+        Quick::Is(x) => match leaf(sight, right) {
+            Quick::Is(y) => made_of(op, x, y),
+            Quick::Unknown | Quick::Calls => second(sight, op, x, right, depth),
+        },
+        Quick::Unknown | Quick::Calls => both(sight, op, left, right, depth),
+    }
+}
+
+/// What an operator makes of a number and an expression.
+#[inline(never)]
+#[cycle(quick)]
+fn second(sight: &Sight<'_>, op: Op, x: u16, right: &CoreExp, depth: usize) -> Quick
+    ensures { IsSecond (sight_of sight.now) op x (exp right.now) result }
+{
+    if depth == 0 {
+        return Quick::Unknown;
+    }
+    match walked(sight, right, depth - 1) {
+        Quick::Is(y) => made_of(op, x, y),
+        told => told,
+    }
+}
+
+/// What an operator makes of two expressions.
+#[inline(never)]
+#[cycle(quick)]
+#[tactic(auto, using(crate::proofs::OnTrees::neither, crate::proofs::OnTrees::first, crate::proofs::OnTrees::second, crate::proofs::OnTrees::both_worked_out))]
+fn both(sight: &Sight<'_>, op: Op, left: &CoreExp, right: &CoreExp, depth: usize) -> Quick
+    ensures { IsQuickValue (sight_of sight.now) (Bin op (exp left.now) (exp right.now)) result }
+{
+    if depth == 0 {
+        return Quick::Unknown;
+    }
+    match walked(sight, left, depth - 1) {
+        Quick::Is(x) => match quick_value(sight, right, depth - 1) {
+            Quick::Is(y) => made_of(op, x, y),
+            told => told,
+        },
+        told => told,
+    }
+}
+
+/// The same of a choice. Whether a call stands in one of the two is asked first, since then the condition needs no value here.
+#[inline(never)]
+#[cycle(quick)]
+#[tactic(auto, using(crate::proofs::OnTrees::neither, crate::proofs::OnTrees::first, crate::proofs::OnTrees::second, crate::proofs::OnTrees::worked_out))]
+fn selected(
+    sight: &Sight<'_>,
+    condition: &CoreExp,
+    this: &CoreExp,
+    that: &CoreExp,
+    depth: usize,
+) -> Quick
+    ensures { IsQuickValue (sight_of sight.now) (Cond (exp condition.now) (exp this.now) (exp that.now)) result }
+{
+    if depth == 0 {
+        return Quick::Unknown;
     }
     let below = depth - 1;
+    match either_calls(this, that, below) {
+        Some(false) => match quick_truth(sight, condition, below) {
+            Quick::Is(0) => quick_value(sight, that, below),
+            Quick::Is(_) => quick_value(sight, this, below),
+            told => told,
+        },
+        Some(true) => Quick::Calls,
+        None => Quick::Unknown,
+    }
+}
+
+/// A number with the truth of an expression without call and VALOF, or that one stands in it. Nothing may be told where it is deeper than this.
+#[cycle(quick)]
+pub(crate) fn quick_truth(sight: &Sight<'_>, e: &CoreExp, depth: usize) -> Quick
+    ensures { IsQuickTruth (sight_of sight.now) (exp e.now) result }
+{
     match e {
-        CoreExp::Not(part) => match quick_truth(sight, part, below) {
-            QuickTruth::Is(t) => QuickTruth::Is(!t),
-            told => told,
-        },
-        CoreExp::Bin(Op::And, left, right) => match quick_truth(sight, left, below) {
-            QuickTruth::Is(true) => quick_truth(sight, right, below),
-            QuickTruth::Is(false) => decided_beside(right, false, below),
-            told => told,
-        },
-        CoreExp::Bin(Op::Or, left, right) => match quick_truth(sight, left, below) {
-            QuickTruth::Is(false) => quick_truth(sight, right, below),
-            QuickTruth::Is(true) => decided_beside(right, true, below),
-            told => told,
-        },
-        CoreExp::Bin(_, _, _)
-        | CoreExp::Num(_)
+        CoreExp::Not(part) => opposed(sight, part, depth),
+        CoreExp::Bin(Op::And, left, right) => conjoined(sight, left, right, depth),
+        CoreExp::Bin(Op::Or, left, right) => disjoined(sight, left, right, depth),
+        CoreExp::Bin(op, left, right) => operated(sight, *op, left, right, depth),
+        CoreExp::Num(_)
         | CoreExp::Frame(_)
         | CoreExp::Glob(_)
         | CoreExp::Place(_)
@@ -187,10 +346,64 @@ pub(crate) fn quick_truth(sight: &Sight<'_>, e: &CoreExp, depth: usize) -> Quick
         | CoreExp::Neg(_)
         | CoreExp::Cond(_, _, _)
         | CoreExp::Call(_, _)
-        | CoreExp::Valof(_) => match quick_value(sight, e, below) {
-            QuickValue::Is(v) => QuickTruth::Is(v != 0),
-            QuickValue::Calls => QuickTruth::Calls,
-            QuickValue::Unknown => QuickTruth::Unknown,
+        | CoreExp::Valof(_) => quick_value(sight, e, depth),
+    }
+}
+
+/// The same of a NOT.
+#[inline(never)]
+#[cycle(quick)]
+#[tactic(auto, using(crate::proofs::OnTrees::worked_out))]
+fn opposed(sight: &Sight<'_>, part: &CoreExp, depth: usize) -> Quick
+    ensures { IsQuickTruth (sight_of sight.now) (Not (exp part.now)) result }
+{
+    if depth == 0 {
+        return Quick::Unknown;
+    }
+    match quick_truth(sight, part, depth - 1) {
+        Quick::Is(v) => Quick::Is(u16::from(v == 0)),
+        told => told,
+    }
+}
+
+/// The same of an `&`, whose second side is looked at only where the first is true.
+#[inline(never)]
+#[cycle(quick)]
+#[tactic(auto, using(crate::proofs::OnTrees::neither, crate::proofs::OnTrees::first, crate::proofs::OnTrees::second, crate::proofs::OnTrees::worked_out))]
+fn conjoined(sight: &Sight<'_>, left: &CoreExp, right: &CoreExp, depth: usize) -> Quick
+    ensures { IsQuickTruth (sight_of sight.now) (Bin Op.And (exp left.now) (exp right.now)) result }
+{
+    if depth == 0 {
+        return Quick::Unknown;
+    }
+    match quick_truth(sight, left, depth - 1) {
+        Quick::Is(0) => match quick_calls(right, depth - 1) {
+            Some(false) => Quick::Is(0),
+            Some(true) => Quick::Calls,
+            None => Quick::Unknown,
         },
+        Quick::Is(_) => quick_truth(sight, right, depth - 1),
+        told => told,
+    }
+}
+
+/// The same of a bar, whose second side is looked at only where the first is false.
+#[inline(never)]
+#[cycle(quick)]
+#[tactic(auto, using(crate::proofs::OnTrees::neither, crate::proofs::OnTrees::first, crate::proofs::OnTrees::second, crate::proofs::OnTrees::worked_out))]
+fn disjoined(sight: &Sight<'_>, left: &CoreExp, right: &CoreExp, depth: usize) -> Quick
+    ensures { IsQuickTruth (sight_of sight.now) (Bin Op.Or (exp left.now) (exp right.now)) result }
+{
+    if depth == 0 {
+        return Quick::Unknown;
+    }
+    match quick_truth(sight, left, depth - 1) {
+        Quick::Is(0) => quick_truth(sight, right, depth - 1),
+        Quick::Is(_) => match quick_calls(right, depth - 1) {
+            Some(false) => Quick::Is(1),
+            Some(true) => Quick::Calls,
+            None => Quick::Unknown,
+        },
+        told => told,
     }
 }
