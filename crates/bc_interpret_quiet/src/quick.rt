@@ -127,15 +127,15 @@ fn made_of(op: Op, x: u16, y: u16) -> Quick
     }
 }
 
-/// The number that a variable of the frame or a global has, if the address is that of one.
+/// The number that a variable of the frame has, if the address is that of one.
 #[inline(always)]
 fn variable(sight: &Sight<'_>, address: &CoreExp) -> Quick
     ensures { IsQuickLeaf (sight_of sight.now) (Load (exp address.now)) result }
 {
     match address {
         CoreExp::Frame(k) => word_at(sight, cell_in(sight.frame, *k as usize)),
-        CoreExp::Glob(n) => word_at(sight, n.wrapping_add(8)),
         CoreExp::Num(_)
+        | CoreExp::Glob(_)
         | CoreExp::Place(_)
         | CoreExp::Load(_)
         | CoreExp::Neg(_)
@@ -147,7 +147,27 @@ fn variable(sight: &Sight<'_>, address: &CoreExp) -> Quick
     }
 }
 
-/// The number that a number, an address in the frame, a variable of the frame or a global is worth. Of nothing else anything is told.
+/// The number that a global has, if the address is that of one.
+#[inline(always)]
+fn global(sight: &Sight<'_>, address: &CoreExp) -> Quick
+    ensures { IsQuickLeaf (sight_of sight.now) (Load (exp address.now)) result }
+{
+    match address {
+        CoreExp::Glob(n) => word_at(sight, n.wrapping_add(8)),
+        CoreExp::Num(_)
+        | CoreExp::Frame(_)
+        | CoreExp::Place(_)
+        | CoreExp::Load(_)
+        | CoreExp::Neg(_)
+        | CoreExp::Not(_)
+        | CoreExp::Bin(_, _, _)
+        | CoreExp::Cond(_, _, _)
+        | CoreExp::Call(_, _)
+        | CoreExp::Valof(_) => Quick::Unknown,
+    }
+}
+
+/// The number that a number, an address in the frame or a variable of the frame is worth. Of nothing else anything is told.
 #[inline(always)]
 fn leaf(sight: &Sight<'_>, e: &CoreExp) -> Quick
     ensures { IsQuickLeaf (sight_of sight.now) (exp e.now) result }
@@ -173,9 +193,21 @@ fn leaf(sight: &Sight<'_>, e: &CoreExp) -> Quick
 pub(crate) fn quick_value(sight: &Sight<'_>, e: &CoreExp, depth: usize) -> Quick
     ensures { IsQuickValue (sight_of sight.now) (exp e.now) result }
 {
-    match leaf(sight, e) {
-        Quick::Is(v) => Quick::Is(v),
-        Quick::Unknown | Quick::Calls => walked(sight, e, depth),
+    match e {
+        CoreExp::Bin(op, left, right) => operated(sight, *op, left, right, depth),
+        CoreExp::Num(_)
+        | CoreExp::Frame(_)
+        | CoreExp::Glob(_)
+        | CoreExp::Place(_)
+        | CoreExp::Load(_)
+        | CoreExp::Neg(_)
+        | CoreExp::Not(_)
+        | CoreExp::Cond(_, _, _)
+        | CoreExp::Call(_, _)
+        | CoreExp::Valof(_) => match leaf(sight, e) {
+            Quick::Is(v) => Quick::Is(v),
+            Quick::Unknown | Quick::Calls => walked(sight, e, depth),
+        },
     }
 }
 
@@ -193,7 +225,10 @@ fn walked(sight: &Sight<'_>, e: &CoreExp, depth: usize) -> Quick
             Some(address) => Quick::Is(*address),
             None => Quick::Is(0),
         },
-        CoreExp::Load(part) => loaded(sight, part, depth),
+        CoreExp::Load(part) => match global(sight, part) {
+            Quick::Is(v) => Quick::Is(v),
+            Quick::Unknown | Quick::Calls => loaded(sight, part, depth),
+        },
         CoreExp::Neg(part) => negated(sight, part, depth),
         CoreExp::Not(part) => complemented(sight, part, depth),
         CoreExp::Bin(op, left, right) => operated(sight, *op, left, right, depth),
@@ -251,7 +286,7 @@ fn complemented(sight: &Sight<'_>, part: &CoreExp, depth: usize) -> Quick
 }
 
 /// The same of an operator between two expressions.
-#[inline(always)]
+#[inline(never)]
 #[cycle(quick)]
 #[tactic(auto, using(crate::proofs::OnTrees::neither, crate::proofs::OnTrees::both_worked_out, crate::proofs::OnTrees::behind))]
 fn operated(sight: &Sight<'_>, op: Op, left: &CoreExp, right: &CoreExp, depth: usize) -> Quick
@@ -275,7 +310,7 @@ fn second(sight: &Sight<'_>, op: Op, x: u16, right: &CoreExp, depth: usize) -> Q
     if depth == 0 {
         return Quick::Unknown;
     }
-    match walked(sight, right, depth - 1) {
+    match quick_value(sight, right, depth - 1) {
         Quick::Is(y) => made_of(op, x, y),
         told => told,
     }
@@ -291,7 +326,7 @@ fn both(sight: &Sight<'_>, op: Op, left: &CoreExp, right: &CoreExp, depth: usize
     if depth == 0 {
         return Quick::Unknown;
     }
-    match walked(sight, left, depth - 1) {
+    match quick_value(sight, left, depth - 1) {
         Quick::Is(x) => match quick_value(sight, right, depth - 1) {
             Quick::Is(y) => made_of(op, x, y),
             told => told,
