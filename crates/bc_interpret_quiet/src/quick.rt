@@ -17,17 +17,35 @@ use bc_interpret_store::Cell;
 use bc_word::{Op, Word, apply};
 
 /// How deep an expression may be.
-pub(crate) const DEPTH: usize = 16;
+const DEPTH: usize = 16;
 
 /// What is told of an expression.
-#[derive(Clone, Copy)]
-pub(crate) enum Quick {
-    /// No call and no VALOF stands in it, and it is worth this number; or its truth is that of this number.
+#[derive(Clone, Copy, Debug)]
+pub enum Quick {
+    /// No call and no VALOF stands in it, and it is worth this number; or, where its truth was asked for, that is the truth of this number.
     Is(u16),
     /// Nothing.
     Unknown,
     /// A call or a VALOF stands in it.
     Calls,
+}
+
+/// What is told of an expression's value over these cells, in a frame of a section, along its tree down to a bound: it takes no memory, and may
+/// tell nothing.
+#[inline(always)]
+pub fn value_at_once(sight: &Sight<'_>, e: &CoreExp) -> Quick
+    ensures { IsQuickValue (sight_of sight.now) (exp e.now) result }
+{
+    quick_value(sight, e, DEPTH)
+}
+
+/// What is told of an expression's truth over these cells, in a frame of a section, along its tree down to a bound: it takes no memory, and may
+/// tell nothing.
+#[inline(always)]
+pub fn truth_at_once(sight: &Sight<'_>, e: &CoreExp) -> Quick
+    ensures { IsQuickTruth (sight_of sight.now) (exp e.now) result }
+{
+    quick_truth(sight, e, DEPTH)
 }
 
 /// Whether an expression is a number or an address.
@@ -190,7 +208,7 @@ fn leaf(sight: &Sight<'_>, e: &CoreExp) -> Quick
 /// The number that an expression without call and VALOF is worth, or that one stands in it. Nothing may be told where it is deeper than this.
 #[inline(always)]
 #[cycle(quick)]
-pub(crate) fn quick_value(sight: &Sight<'_>, e: &CoreExp, depth: usize) -> Quick
+fn quick_value(sight: &Sight<'_>, e: &CoreExp, depth: usize) -> Quick
     ensures { IsQuickValue (sight_of sight.now) (exp e.now) result }
 {
     match e {
@@ -365,7 +383,7 @@ fn selected(
 
 /// A number with the truth of an expression without call and VALOF, or that one stands in it. Nothing may be told where it is deeper than this.
 #[cycle(quick)]
-pub(crate) fn quick_truth(sight: &Sight<'_>, e: &CoreExp, depth: usize) -> Quick
+fn quick_truth(sight: &Sight<'_>, e: &CoreExp, depth: usize) -> Quick
     ensures { IsQuickTruth (sight_of sight.now) (exp e.now) result }
 {
     match e {
