@@ -6,7 +6,7 @@ ghost use Rattle.bc_interpret_defs.specs.Quiet.{evaluates, decides};
 ghost use Rattle.bc_interpret_quiet.specs.Views.{sight_of, stack, Came};
 
 use crate::forms::{Rest, Step, Work, put};
-use crate::sight::{Cause, Sight, cell_of};
+use crate::sight::{Cause, Sight, cell_in};
 use bc_core::CoreExp;
 use bc_word::{Memory, Op};
 
@@ -20,7 +20,7 @@ pub(crate) fn evaluate<'c>(
 {
     match e {
         CoreExp::Num(n) => Ok(Step::On(Work::Number(n.get()))),
-        CoreExp::Frame(k) => Ok(Step::On(Work::Number(cell_of(sight.frame, *k as usize)?))),
+        CoreExp::Frame(k) => Ok(Step::On(Work::Number(cell_in(sight.frame, *k as usize)))),
         CoreExp::Glob(n) => Ok(Step::On(Work::Number(n.wrapping_add(8)))),
         CoreExp::Place(m) => {
             let address = match sight.addresses.get(*m as usize) {

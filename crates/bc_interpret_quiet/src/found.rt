@@ -6,7 +6,7 @@ ghost use Rattle.bc_interpret_quiet.specs.Views.{sight_of, IsWorth, IsTruth};
 
 use crate::calls::has_call;
 use crate::forms::Rest;
-use crate::quick::{DEPTH, quick_truth, quick_value};
+use crate::quick::{Quick, truth_at_once, value_at_once};
 use crate::sight::Sight;
 use crate::worth::{Truth, Worth, decided, value_of};
 use bc_core::CoreExp;
@@ -31,9 +31,10 @@ pub fn worth_of<'c>(
 ) -> Result<Option<Worth>, Memory>
     ensures { IfOk result (λ found. IsWorth (sight_of sight.now) (exp e.now) found) }
 {
-    match quick_value(sight, e, DEPTH) {
-        Some(v) => Ok(Some(Worth::Is(v))),
-        None => Ok(slow_worth(sight, e, room)?),
+    match value_at_once(sight, e) {
+        Quick::Is(v) => Ok(Some(Worth::Is(v))),
+        Quick::Calls => Ok(None),
+        Quick::Unknown => Ok(slow_worth(sight, e, room)?),
     }
 }
 
@@ -64,9 +65,10 @@ pub fn truth_of<'c>(
 ) -> Result<Option<Truth>, Memory>
     ensures { IfOk result (λ found. IsTruth (sight_of sight.now) (exp e.now) found) }
 {
-    match quick_truth(sight, e, DEPTH) {
-        Some(t) => Ok(Some(Truth::Is(t))),
-        None => Ok(slow_truth(sight, e, room)?),
+    match truth_at_once(sight, e) {
+        Quick::Is(v) => Ok(Some(Truth::Is(v != 0))),
+        Quick::Calls => Ok(None),
+        Quick::Unknown => Ok(slow_truth(sight, e, room)?),
     }
 }
 

@@ -13,5 +13,6 @@ mod worth;
 
 pub use forms::Rest;
 pub use found::{Room, truth_of, worth_of};
-pub use sight::{Cause, Sight, cell_of};
+pub use quick::{Quick, truth_at_once, value_at_once};
+pub use sight::{Cause, Sight, cell_in, cell_of};
 pub use worth::{Truth, Worth};

@@ -31,12 +31,19 @@ pub enum Cause {
 }
 
 /// The address of the cell at this offset of the frame at this address.
+#[inline(always)]
+pub fn cell_in(frame: usize, offset: usize) -> u16
+    ensures { result ≡ (frame + offset) % 65536 }
+{
+    ((frame % 65536 + offset % 65536) % 65536) as u16
+}
+
+/// The same as an answer.
 ///
-/// `Memory` comes where no number is so great, which no frame is.
+/// `Memory` never comes.
 #[inline(always)]
 pub fn cell_of(frame: usize, offset: usize) -> Result<u16, Memory>
     ensures { IfOk result (λ a. a ≡ (frame + offset) % 65536) }
 {
-    let address = frame.checked_add(offset).ok_or(Memory)? % 65536;
-    u16::try_from(address).map_err(|_| Memory)
+    Ok(cell_in(frame, offset))
 }
