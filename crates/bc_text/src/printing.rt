@@ -4,7 +4,7 @@ ghost use Rattle.std.specs.Prelude.{◌≡◌, ◌≤◌, ◌+◌, ◌++◌, ◌
 ghost use Rattle.std.specs.Fmt.{decimal};
 ghost use Rattle.std.specs.Io.KnownBytes.{Appends};
 ghost use Rattle.arrayvec.specs.ArrayString.{array_string_len};
-ghost use Rattle.bc_text.specs.Letters.{letter, indirection, base_letter};
+ghost use Rattle.bc_text.specs.Letters.{letter, base_letter};
 ghost use Rattle.bc_text.specs.Printed.{line, printed_segment, AppendsFront};
 
 use crate::text_error::TextError;
@@ -72,9 +72,11 @@ fn line_of(item: &Item) -> Line
             base,
             number,
         } => {
-            text.push_str(letter(function));
-            text.push_str(indirection(indirect));
-            text.push_str(base_letter(base));
+            push_letter(&mut text, function);
+            if indirect {
+                text.push_str("I");
+            }
+            push_base(&mut text, base);
             push_number(&mut text, number.get());
         }
         Item::Global { number, label } => {
@@ -98,37 +100,34 @@ fn push_number(text: &mut Line, number: u16)
     text.push_str(buffer.format(number));
 }
 
-/// The letter of a function.
-fn letter(function: Function) -> &'static str
-    ensures { result.now ≡ letter function ∷ [] }
+/// Adds the letter of a function.
+fn push_letter(text: &mut Line, function: Function)
+    requires { array_string_len text.old ≤ 11 }
+    ensures bytes { text.new.bytes ≡ text.old.bytes ++ letter function ∷ [] }
+    ensures len { array_string_len text.new ≤ array_string_len text.old + 1 }
 {
     match function {
-        Function::Load => "L",
-        Function::Store => "S",
-        Function::Add => "A",
-        Function::Jump => "J",
-        Function::JumpIfTrue => "T",
-        Function::JumpIfFalse => "F",
-        Function::Call => "K",
-        Function::Execute => "X",
+        Function::Load => text.push_str("L"),
+        Function::Store => text.push_str("S"),
+        Function::Add => text.push_str("A"),
+        Function::Jump => text.push_str("J"),
+        Function::JumpIfTrue => text.push_str("T"),
+        Function::JumpIfFalse => text.push_str("F"),
+        Function::Call => text.push_str("K"),
+        Function::Execute => text.push_str("X"),
     }
 }
 
-/// The `I` of an indirect operation, or nothing.
-fn indirection(indirect: bool) -> &'static str
-    ensures { result.now ≡ indirection indirect }
-{
-    if indirect { "I" } else { "" }
-}
-
-/// The letter of a base, or nothing.
-fn base_letter(base: Base) -> &'static str
-    ensures { result.now ≡ base_letter base }
+/// Adds the letter of a base, or nothing.
+fn push_base(text: &mut Line, base: Base)
+    requires { array_string_len text.old ≤ 11 }
+    ensures bytes { text.new.bytes ≡ text.old.bytes ++ base_letter base }
+    ensures len { array_string_len text.new ≤ array_string_len text.old + 1 }
 {
     match base {
-        Base::Number => "",
-        Base::P => "P",
-        Base::G => "G",
-        Base::Label => "L",
+        Base::Number => {}
+        Base::P => text.push_str("P"),
+        Base::G => text.push_str("G"),
+        Base::Label => text.push_str("L"),
     }
 }
