@@ -90,14 +90,29 @@ fn line_of(item: &Item) -> Line
     text
 }
 
-/// Adds a number in decimal digits, of which there are at most five.
+/// Adds a number in decimal digits, of which there are at most five. Almost half of the numbers of a text have one, which is copied as a constant.
+#[tactic(auto, using(std::proofs::lemmas::Fmt::decimal_digit))]
 fn push_number(text: &mut Line, number: u16)
     requires { array_string_len text.old ≤ 11 }
     ensures bytes { text.new.bytes ≡ text.old.bytes ++ decimal number }
     ensures len { array_string_len text.new ≤ array_string_len text.old + 5 }
 {
-    let mut buffer = Buffer::new();
-    text.push_str(buffer.format(number));
+    match number {
+        0 => text.push_str("0"),
+        1 => text.push_str("1"),
+        2 => text.push_str("2"),
+        3 => text.push_str("3"),
+        4 => text.push_str("4"),
+        5 => text.push_str("5"),
+        6 => text.push_str("6"),
+        7 => text.push_str("7"),
+        8 => text.push_str("8"),
+        9 => text.push_str("9"),
+        _ => {
+            let mut buffer = Buffer::new();
+            text.push_str(buffer.format(number));
+        }
+    }
 }
 
 /// Adds the letter of a function.
