@@ -1,6 +1,7 @@
 //! Fields of lines: each adds a blank and then its text.
 
-ghost use Rattle.std.specs.Prelude.{◌≡◌, ◌++◌, ◌∷◌, OnOk, []};
+ghost use Rattle.std.specs.Prelude.{◌≡◌, ◌++◌, ◌∷◌, OnOk};
+ghost use Rattle.std.specs.Fmt.{decimal};
 ghost use Rattle.bc_text.specs.Letters.{letter as letter_of, indirection as indirection_of, base_letter as base_letter_of};
 ghost use Rattle.bc_text.specs.Printed.{printed};
 ghost use Rattle.bc_cert_write.specs.Lines.{rule_name, words_field as words_text};
@@ -37,7 +38,7 @@ pub fn words_field(text: &mut Text, words: Option<u64>) -> Result<(), Memory>
     ensures { OnOk result (text.new.bytes.items ≡ text.old.bytes.items ++ 32 ∷ words_text words) }
 {
     match words {
-        Some(words) => text.lettered(b" ", words),
+        Some(words) => text.marked(b' ', words),
         None => text.push(b" -"),
     }
 }
@@ -47,8 +48,7 @@ pub fn named(text: &mut Text, mark: &[u8], rule: Rule) -> Result<(), Memory>
     ensures { OnOk result (text.new.bytes.items ≡ text.old.bytes.items ++ (mark.now ++ rule_name rule)) }
 {
     text.push(mark)?;
-    text.push(&[rule.letter()])?;
-    text.number(u64::from(rule.number()))
+    text.marked(rule.letter(), u64::from(rule.number()))
 }
 
 /// The names of the rules at a node, or `-`.
@@ -75,7 +75,7 @@ pub fn item_field(text: &mut Text, item: &Item) -> Result<(), Memory>
     ensures { OnOk result (text.new.bytes.items ≡ text.old.bytes.items ++ 32 ∷ printed item.now) }
 {
     match *item {
-        Item::Label(number) => text.lettered(b" ", u64::from(number.get())),
+        Item::Label(number) => text.marked(b' ', u64::from(number.get())),
         Item::Data(number) => text.lettered(b" D", u64::from(number.get())),
         Item::DataLabel(label) => text.lettered(b" DL", u64::from(label.get())),
         Item::Byte(byte) => text.lettered(b" C", u64::from(byte)),
@@ -85,10 +85,8 @@ pub fn item_field(text: &mut Text, item: &Item) -> Result<(), Memory>
             base,
             number,
         } => {
-            text.push(b" ")?;
-            text.push(function_letter(function))?;
-            text.push(indirection(indirect))?;
-            text.lettered(base_letter(base), u64::from(number.get()))
+            letters(text, function, indirect)?;
+            based(text, base, u64::from(number.get()))
         }
         Item::Global { number, label } => {
             text.lettered(b" G", u64::from(number.get()))?;
@@ -97,37 +95,42 @@ pub fn item_field(text: &mut Text, item: &Item) -> Result<(), Memory>
     }
 }
 
-/// The letter of a function.
-fn function_letter(function: Function) -> &'static [u8]
-    ensures { result.now ≡ letter_of function ∷ [] }
+/// A blank, the letter of a function, and the `I` of an indirect operation.
+fn letters(text: &mut Text, function: Function, indirect: bool) -> Result<(), Memory>
+    ensures { OnOk result (text.new.bytes.items ≡ text.old.bytes.items ++ 32 ∷ letter_of function ∷ indirection_of indirect) }
 {
-    match function {
-        Function::Load => b"L",
-        Function::Store => b"S",
-        Function::Add => b"A",
-        Function::Jump => b"J",
-        Function::JumpIfTrue => b"T",
-        Function::JumpIfFalse => b"F",
-        Function::Call => b"K",
-        Function::Execute => b"X",
+    let letter = function_letter(function);
+    if indirect {
+        text.push(&[b' ', letter, b'I'])
+    } else {
+        text.push(&[b' ', letter])
     }
 }
 
-/// The `I` of an indirect operation, or nothing.
-fn indirection(indirect: bool) -> &'static [u8]
-    ensures { result.now ≡ indirection_of indirect }
-{
-    if indirect { b"I" } else { b"" }
-}
-
-/// The letter of a base, or nothing.
-fn base_letter(base: Base) -> &'static [u8]
-    ensures { result.now ≡ base_letter_of base }
+/// The letter of a base, and a number.
+fn based(text: &mut Text, base: Base, number: u64) -> Result<(), Memory>
+    ensures { OnOk result (text.new.bytes.items ≡ text.old.bytes.items ++ (base_letter_of base ++ decimal number)) }
 {
     match base {
-        Base::Number => b"",
-        Base::P => b"P",
-        Base::G => b"G",
-        Base::Label => b"L",
+        Base::Number => text.number(number),
+        Base::P => text.marked(b'P', number),
+        Base::G => text.marked(b'G', number),
+        Base::Label => text.marked(b'L', number),
+    }
+}
+
+/// The letter of a function.
+fn function_letter(function: Function) -> u8
+    ensures { result ≡ letter_of function }
+{
+    match function {
+        Function::Load => b'L',
+        Function::Store => b'S',
+        Function::Add => b'A',
+        Function::Jump => b'J',
+        Function::JumpIfTrue => b'T',
+        Function::JumpIfFalse => b'F',
+        Function::Call => b'K',
+        Function::Execute => b'X',
     }
 }

@@ -36,6 +36,7 @@ impl Text {
     }
 
     /// Adds a number in decimal digits. Most numbers of a certificate have one digit, which is put there at once.
+    #[inline(always)]
     #[tactic(auto, using(std::proofs::lemmas::Fmt::decimal_digit))]
     pub fn number(&mut self, number: u64) -> Result<(), Memory>
         ensures { OnOk result (self.new.bytes.items ≡ self.old.bytes.items ++ decimal number) }
@@ -46,12 +47,38 @@ impl Text {
         self.digits(number)
     }
 
-    /// Adds a number of any size.
+    /// Adds a number of any size. Most of those that come here have two digits, as levels do.
+    #[tactic(auto, using(crate::proofs::Digits::two_digits))]
     fn digits(&mut self, number: u64) -> Result<(), Memory>
+        ensures { OnOk result (self.new.bytes.items ≡ self.old.bytes.items ++ decimal number) }
+    {
+        if number >= 10 && number < 100 {
+            let tens = b'0' + (number / 10) as u8;
+            let ones = b'0' + (number % 10) as u8;
+            return self.push(&[tens, ones]);
+        }
+        self.formatted(number)
+    }
+
+    /// Adds a number as it is formatted.
+    fn formatted(&mut self, number: u64) -> Result<(), Memory>
         ensures { OnOk result (self.new.bytes.items ≡ self.old.bytes.items ++ decimal number) }
     {
         let mut buffer = Buffer::new();
         self.push(buffer.format(number).as_bytes())
+    }
+
+    /// Adds a byte, and a number in decimal digits.
+    #[inline(always)]
+    #[tactic(auto, using(std::proofs::lemmas::Fmt::decimal_digit))]
+    pub fn marked(&mut self, mark: u8, number: u64) -> Result<(), Memory>
+        ensures { OnOk result (self.new.bytes.items ≡ self.old.bytes.items ++ mark ∷ decimal number) }
+    {
+        if number < 10 {
+            return self.push(&[mark, b'0' + number as u8]);
+        }
+        self.push(&[mark])?;
+        self.digits(number)
     }
 
     /// Adds bytes, and a number in decimal digits.

@@ -25,3 +25,6 @@ next_is r x f n h e = h.exact Two (chosen Two r) (sym e)
 pub next_gives : (r : Root) (x : Tree) (f : ℕ) (n : Option ℕ) → IsNextLabel r x f n → x ≡ coding.derivation r → IsNext n (f + coding.labels r)
 next_gives r x f None h e = let k = next_is r x f None h e in omega (arith, k)
 next_gives r x f (Some v) h e = (next_is r x f (Some v) h e).1
+
+pub next_given : (r : Root) (x : Tree) (f m : ℕ) → IsNextLabel r x f (Some m) → x ≡ coding.derivation r → m ≡ f + coding.labels r
+next_given r x f m h e = next_gives r x f (Some m) h e

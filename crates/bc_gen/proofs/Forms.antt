@@ -1,23 +1,26 @@
 -- The code of each form of command, from what the calls write one behind another.
-use Rattle.std.proofs.lemmas.List.{length-map}
-use Rattle.std.proofs.Math.Seq.{drop-append_seam}
-use Rattle.std.proofs.Common.{ℕ, zero, suc, ◌+◌, ◌≤◌, ◌≡◌, drop, length, length-append, Bool, true, false, not, List, [], ◌∷◌, ◌++◌, Result, Ok, Err, refl, ap, sym, ◌∙◌, subst, append_assoc, arith}
+use Rattle.std.proofs.lemmas.List.{length-map, map-append, take-map}
+use Rattle.std.proofs.Math.Seq.{drop-append_seam, take-append_seam}
+use Rattle.std.proofs.Common.{ℕ, zero, suc, ◌+◌, ◌≤◌, ◌≡◌, map, drop, take, insert, length, length-append, Bool, true, false, not, List, [], ◌∷◌, ◌++◌, Result, Ok, Err, refl, ap, sym, ◌∙◌, subst, append_assoc, arith}
 use Rattle.bc_text_items.specs.declared.item.Item.TheVariants.{Label, Data, DataLabel}
-use Rattle.bc_core.specs.Tree.{Exp, Frame, Value, Test, Assign}
+use Rattle.bc_core.specs.Tree.{Exp, Frame, Root, Value, Test, Assign}
 use Rattle.bc_core.specs.Commands as commands
 use Rattle.bc_core.specs.Commands.{Variable, Block, block, Items}
 use Rattle.bc_core.specs.Level.{cells_declared}
 use Rattle.bc_core.specs.Command.{step_of_for}
+use Rattle.bc_rules_defs.specs.declared.piece.Piece.{Piece}
+use Rattle.bc_rules_defs.specs.Rules.{Tree}
 use Rattle.bc_gen_defs.specs.Emit.{Code, Roots, Exits, jump, execute, labelled, labels_in, defaulted, cases_in, entries_in, table_of, zero_item, emit_declarations, end_of_for, emit, emit_block, emit_items}
-use Rattle.bc_gen_defs.specs.Bodies.{body_exits, emit_body}
-use Rattle.bc_gen_defs.specs.Entries.{Marked, Plain}
+use Rattle.bc_gen_defs.specs.Bodies.{body_exits, emit_body, fill, level_of}
+use Rattle.bc_gen_defs.specs.Entries.{Marked, Plain, Begins, count_items}
 use Rattle.bc_gen.specs.declared.around.Numbered.{Numbered}
 use Rattle.bc_gen.specs.declared.around.Around.{Around}
 use Rattle.bc_gen.specs.declared.gen_error.GenError.{GenError}
 use Rattle.bc_gen.specs.declared.writer.Writer.{Writer}
 use Rattle.bc_gen.specs.declared.parts.Part.{Part}
 use Rattle.bc_gen.specs.Parts.{part, parts}
-use Rattle.bc_gen.specs.Surroundings.{label_in, label_pairs, exits_of, roots_in}
+use Rattle.bc_gen.specs.Chosen.{coding}
+use Rattle.bc_gen.specs.Surroundings.{label_in, label_pairs, exits_of, roots_in, valofs_in, bodies_of}
 use Rattle.bc_gen.specs.Writing.{Writes, Puts}
 use Rattle.bc_gen.proofs.Rises.{out_of_memory}
 use Rattle.bc_gen.proofs.Labels.{labelled_is}
@@ -158,6 +161,26 @@ pub written_is : (w w1 : Writer) (ps : List Marked) → there w1 ≡ there w ++ 
 written_is w w1 ps h =
     drop_parts w1.parts.items (length w.parts.items) ∙ ap (λ (xs : List Marked). drop (length w.parts.items) xs) h
     ∙ ap (λ (n : ℕ). drop n (there w ++ ps)) (sym (length-map w.parts.items part)) ∙ drop-append_seam (there w) ps
+
+-- what is put in front of what was written
+pub marked_in : (w w1 : Writer) (p : Part) (at : ℕ) (ps : List Marked) → there w1 ≡ there w ++ ps → at ≡ length w.parts.items → parts (insert w1.parts.items at p) ≡ there w ++ part p ∷ ps
+marked_in w w1 p at ps h e =
+    let is = w1.parts.items in
+    let n = length w.parts.items in
+    let front : parts (take n is) ≡ there w = sym (take-map part n is) ∙ ap (λ (xs : List Marked). take n xs) h ∙ ap (λ (k : ℕ). take k (there w ++ ps)) (sym (length-map w.parts.items part)) ∙ take-append_seam (there w) ps in
+    ap (λ (k : ℕ). parts (insert is k p)) e ∙ map-append part (take n is) (p ∷ drop n is)
+    ∙ ap (λ (xs : List Marked). xs ++ part p ∷ parts (drop n is)) front ∙ ap (λ (ys : List Marked). there w ++ part p ∷ ys) (written_is w w1 ps h)
+
+-- a root's code, with the mark in front of it
+pub root_marked : (a : Around) (r : Root) (t : ℕ) (d : Tree) (ps : List Piece) (bs : List ℕ) (w0 w1 w2 : Writer) (ws : List Part) (p : Part) (at : ℕ)
+    → d ≡ coding.derivation r → ps ≡ coding.pieces r t w0.next → w1.next ≡ w0.next + coding.labels r → w1.parts ≡ w0.parts
+    → (let x = fill Plain (level_of (valofs_in a.valofs.now)) (bodies_of (valofs_in a.valofs.now) a.least) ps w1.next in Wrote w1 w2 (x.0, x.1) × (bs ≡ map count_items x.2))
+    → part p ≡ Begins (record { target = t; first = w0.next; root = r; derivation = d; bodies = bs }) → at ≡ length w1.parts.items → ws ≡ insert w2.parts.items at p
+    → (parts ws ≡ there w0 ++ (roots_in a r t w0.next).0) × (w2.next ≡ (roots_in a r t w0.next).1)
+root_marked a r t d ps bs w0 w1 w2 ws p at ed ep en es filled eb ea ei =
+    let x = fill Plain (level_of (valofs_in a.valofs.now)) (bodies_of (valofs_in a.valofs.now) a.least) ps w1.next in
+    let put : parts ws ≡ there w1 ++ part p ∷ x.0 = ap parts ei ∙ marked_in w1 w2 p at x.0 filled.0.0 ea in
+    rw (put, filled.0.1, eb, filled.1, ed, ep, en, es) (refl, refl)
 
 pub does_writes : {X : Type 0} (r : Result X GenError) (roots : Roots Marked) (E : Exits) (body : commands.Body) (b : Block) (s s1 : ℕ) (w0 w1 w2 : Writer)
     → body ≡ commands.Does b → E ≡ body_exits 0 → s1 ≡ s → Wrote w0 w1 (emit_block Plain roots b s1 E w0.next)

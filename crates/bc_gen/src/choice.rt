@@ -10,8 +10,8 @@ ghost use Rattle.bc_gen.specs.Chosen.{coding};
 ghost use Rattle.bc_gen.specs.Writing.{IsNext};
 
 use bc_core::Root;
-use bc_rules::{code_of, next_label};
-use bc_rules_defs::{Derivation, Piece};
+use bc_rules::{Coded, code_with_labels, next_label};
+use bc_rules_defs::Derivation;
 use bc_select::{Row, is_selectable, select};
 use bc_word::Memory;
 use std::alloc::Global;
@@ -50,18 +50,19 @@ pub(crate) fn label_behind(root: &Root, derivation: &Derivation, first: u16) -> 
     next_label(root, derivation, first)
 }
 
-/// The code of a root by this derivation, with its labels from `first` on.
-#[tactic(auto, using(crate::proofs::Choosing::code_is))]
+/// The code of a root by this derivation, with its labels from `first` on, and the label behind them.
+#[tactic(auto, using(crate::proofs::Choosing::code_is, crate::proofs::Choosing::next_given))]
 pub(crate) fn pieces_of(
     alloc: Global,
     root: &Root,
     derivation: &Derivation,
     target: u16,
     first: u16,
-) -> Result<Vec<Piece>, Memory>
+) -> Result<Coded, Memory>
     requires { derivation_view derivation.now ≡ coding.derivation (root_view root.now) }
-    ensures chosen { IfOk result (λ pieces. pieces.items ≡ coding.pieces (root_view root.now) target first) }
-    ensures code { IfOk result (λ pieces. IsCodeOf (root_view root.now) (derivation_view derivation.now) target first pieces.items) }
+    ensures chosen { IfOk result (λ c. c.pieces.items ≡ coding.pieces (root_view root.now) target first) }
+    ensures code { IfOk result (λ c. IsCodeOf (root_view root.now) (derivation_view derivation.now) target first c.pieces.items) }
+    ensures next { IfOk result (λ c. c.next ≡ first + coding.labels (root_view root.now)) }
 {
-    code_of(alloc, root, derivation, target, first)
+    code_with_labels(alloc, root, derivation, target, first)
 }

@@ -1,12 +1,15 @@
 //! The code of roots, with the bodies of their VALOFs.
-ghost use Rattle.std.specs.Prelude.{◌≡◌, ◌++◌, ◌≤◌, IfOk, map, drop, length};
+ghost use Rattle.std.specs.Prelude.{◌≡◌, ◌+◌, ◌++◌, ◌≤◌, IfOk, IfErr, map, drop, length};
 ghost use Rattle.bc_core.specs.Tree as tree;
 ghost use Rattle.bc_core.specs.View.{exp, root as root_view};
+ghost use Rattle.bc_rules_defs.specs.View.{derivation as derivation_view};
+ghost use Rattle.bc_rules.specs.Code.{IsCodeOf};
 ghost use Rattle.bc_gen_defs.specs.Bodies.{fill as fill_of, level_of, label_ahead as label_ahead_of};
 ghost use Rattle.bc_gen_defs.specs.Entries.{Plain, count_items as count_of};
+ghost use Rattle.bc_gen.specs.Chosen.{coding};
 ghost use Rattle.bc_gen.specs.Parts.{parts as parts_view};
 ghost use Rattle.bc_gen.specs.Surroundings.{one_piece, roots_in, bodies_of, valofs_in};
-ghost use Rattle.bc_gen.specs.Writing.{Writes};
+ghost use Rattle.bc_gen.specs.Writing.{RunsOut, Writes};
 
 use crate::around::Around;
 use crate::choice::{Choice, chosen, label_behind, pieces_of};
@@ -16,7 +19,7 @@ use crate::parts::{Part, count_items};
 use crate::writer::Writer;
 use bc_cert_write::Workings;
 use bc_core::{CoreExp, Root, copy_expression};
-use bc_rules_defs::Piece;
+use bc_rules_defs::{Derivation, Piece};
 use bc_text_items::Item;
 
 /// The label of a VALOF, which stands right behind its body.
@@ -73,8 +76,7 @@ impl Writer {
         self.root(around, root, target)
     }
 
-    /// A root's code. The bodies of its VALOFs are written apart, since their numbers of items stand in the mark before
-    /// the code.
+    /// A root's code. Its mark is put in front of the code when that is there, since it has the numbers of items of the VALOFs' bodies.
     #[cycle(commands)]
     pub(crate) fn root(
         &mut self,
@@ -86,14 +88,9 @@ impl Writer {
     {
         let Choice { derivation, rows } = chosen(self.alloc, &root)?;
         let first = self.next;
-        self.take_to(label_behind(&root, &derivation, first))?;
-        let code = pieces_of(self.alloc, &root, &derivation, target, first)?;
-        let mut filled = Writer {
-            alloc: self.alloc,
-            parts: Vec::with_capacity(self.alloc, code.len())?,
-            next: self.next,
-        };
-        let bodies = filled.fill(around, &code)?;
+        let code = self.coded(&root, &derivation, target)?;
+        let at = self.parts.len();
+        let bodies = self.fill(around, &code)?;
         let mark = Mark {
             target,
             first,
@@ -102,9 +99,35 @@ impl Writer {
             bodies,
             workings: Workings { rows, code },
         };
-        self.parts.push(Part::Begins(Box::new(self.alloc, mark)?))?;
-        self.next = filled.next;
-        Ok(self.parts.append(&mut filled.parts)?)
+        let begins = Part::Begins(Box::new(self.alloc, mark)?);
+        Ok(self.parts.insert(at, begins)?)
+    }
+
+    /// The code of a root by this derivation, whose labels are taken. Where there is no code, it is told first whether labels ran out.
+    fn coded(
+        &mut self,
+        root: &Root,
+        derivation: &Derivation,
+        target: u16,
+    ) -> Result<Vec<Piece>, GenError>
+        requires { derivation_view derivation.now ≡ coding.derivation (root_view root.now) }
+        ensures chosen { IfOk result (λ pieces. pieces.items ≡ coding.pieces (root_view root.now) target self.old.next) }
+        ensures code { IfOk result (λ pieces. IsCodeOf (root_view root.now) (derivation_view derivation.now) target self.old.next pieces.items) }
+        ensures next { IfOk result (λ _. self.new.next ≡ self.old.next + coding.labels (root_view root.now)) }
+        ensures out { IfErr result (λ e. RunsOut e (self.old.next + coding.labels (root_view root.now))) }
+        ensures parts { self.new.parts ≡ self.old.parts }
+    {
+        let first = self.next;
+        match pieces_of(self.alloc, root, derivation, target, first) {
+            Ok(coded) => {
+                self.take_to(Some(coded.next))?;
+                Ok(coded.pieces)
+            }
+            Err(_) => {
+                self.take_to(label_behind(root, derivation, first))?;
+                Err(GenError::Memory)
+            }
+        }
     }
 
     /// The pieces of a root with the bodies of its VALOFs filled in; the result is how many items each body has.

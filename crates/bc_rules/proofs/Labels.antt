@@ -1,11 +1,14 @@
 -- The next label.
-use Rattle.std.proofs.Common.{◌≡◌, ℕ, ◌+◌, ◌≤◌, ◌<◌, min, Some, None, ap, ◌∙◌, arith}
+use Rattle.std.proofs.Common.{◌≡◌, ℕ, List, ◌+◌, ◌≤◌, ◌<◌, min, Some, None, ap, ◌∙◌, arith}
 use Rattle.bc_core.specs.Tree.{Root}
 use Rattle.bc_rules_defs.specs.declared.rule.Table.{Table}
 use Rattle.bc_rules_defs.specs.Rules.{RootDerives, root_shape, Tree}
 use Rattle.bc_rules_defs.specs.Code.{root_labels}
 use Rattle.bc_rules_defs.specs.ByShape.{root_labels_by}
 use Rattle.bc_rules_defs.proofs.ByShape.{root_labels_same}
+use Rattle.bc_rules_defs.specs.declared.piece.Piece.{Piece}
+use Rattle.bc_rules.specs.declared.writer.Writer.{Writer}
+use Rattle.bc_rules.specs.Adds.{Writes}
 use Rattle.bc_rules.specs.Code.{IsNextLabel}
 
 pub labels_by_shape : (r : Root) (x : Tree) (T : Table) (d : RootDerives T r) → root_shape d ≡ x → root_labels d ≡ root_labels_by r x
@@ -16,3 +19,7 @@ next_some r x first n h k = record { exact = λ T d e. let l = labels_by_shape r
 
 pub next_none : (r : Root) (x : Tree) (first n : ℕ) → n ≡ min (root_labels_by r x) 65537 → 65536 < first + n → IsNextLabel r x first None
 next_none r x first n h k = record { exact = λ T d e. λ small. let l = labels_by_shape r x T d e in absurd (omega arith) }
+
+-- that of a writer behind the root's code
+pub next_is_written : (r : Root) (x : Tree) (f : ℕ) (ps : List Piece) (u w : Writer) → u.next ≡ f → Writes u w ps (root_labels_by r x) → w.next ≤ 65536 → IsNextLabel r x f (Some w.next)
+next_is_written r x f ps u w k i b = record { exact = λ T d e. let l = labels_by_shape r x T d e in let n = i.next in (omega arith, omega arith) }

@@ -1,4 +1,4 @@
-ghost use Rattle.std.specs.Prelude.{IfOk, OnOk};
+ghost use Rattle.std.specs.Prelude.{IfOk, OnOk, Some};
 ghost use Rattle.bc_core.specs.Tree.{Assign};
 ghost use Rattle.bc_core.specs.View.{exp, root as root_of};
 ghost use Rattle.bc_rules_defs.specs.View.{derivation as tree, derivations};
@@ -39,7 +39,6 @@ pub fn next_label(root: &Root, derivation: &Derivation, first: u16) -> Option<u3
 ///
 /// `Memory` comes where an allocation was refused, or where a label or an offset of the frame would be
 /// over 65,535.
-#[tactic(auto, using(crate::proofs::Written::code_is_written))]
 pub fn code_of(
     alloc: Global,
     root: &Root,
@@ -49,9 +48,41 @@ pub fn code_of(
 ) -> Result<Vec<Piece>, Memory>
     ensures { IfOk result (λ pieces. IsCodeOf (root_of root.now) (tree derivation.now) target first pieces.items) }
 {
+    let coded = code_with_labels(alloc, root, derivation, target, first)?;
+    Ok(coded.pieces)
+}
+
+/// The code of a derivation, and the label behind its own.
+#[derive(Debug, Drop)]
+pub struct Coded {
+    /// The code, as `code_of` gives it.
+    pub pieces: Vec<Piece>,
+    /// The label behind those of the derivation, as `next_label` gives it.
+    pub next: u32,
+}
+
+/// What `code_of` and `next_label` give, by one walk over the derivation.
+///
+/// `Memory` comes where `code_of` answers it.
+pub fn code_with_labels(
+    alloc: Global,
+    root: &Root,
+    derivation: &Derivation,
+    target: u16,
+    first: u16,
+) -> Result<Coded, Memory>
+    ensures code { IfOk result (λ c. IsCodeOf (root_of root.now) (tree derivation.now) target first c.pieces.items) }
+    ensures next { IfOk result (λ c. IsNextLabel (root_of root.now) (tree derivation.now) first (Some c.next)) }
+{
     let mut w = Writer::new(alloc, first);
     write_root(&mut w, root, derivation, target)?;
-    Ok(w.pieces)
+    if w.next > 65_536 {
+        return Err(Memory);
+    }
+    Ok(Coded {
+        pieces: w.pieces,
+        next: w.next,
+    })
 }
 
 /// Writes the code of a root's derivation.

@@ -16,7 +16,7 @@ mod writing;
 
 pub use bc_core::{Base, Operand, constant, operand};
 pub use bc_rules_defs::{Aim, Derivation, Entry, Mode, Piece, Rule, Table};
-pub use code::{code_of, next_label};
+pub use code::{Coded, code_of, code_with_labels, next_label};
 pub use derivation::{is_derivation, is_derivation_by};
 pub use exchange::free;
 pub use levels::offsets_are_words;

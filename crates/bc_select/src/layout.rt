@@ -93,12 +93,15 @@ fn take_next<'a>(last: Option<AtLevel<'a>>, waiting: &mut Vec<AtLevel<'a>>) -> O
     }
 }
 
+/// How many expressions there is room for from the start: as many as most roots have.
+pub const ROOM: usize = 16;
+
 /// What waits with all that stands below it, wholes before parts and the last first.
 fn ordered<'a>(alloc: Global, mut waiting: Vec<AtLevel<'a>>) -> Result<Vec<AtLevel<'a>>, Memory>
     requires { AllFit waiting.items }
     ensures { IfOk result (λ order. from_the_end order.items ≡ in_order_of waiting.entry.items) }
 {
-    let mut order = Vec::new(alloc);
+    let mut order = Vec::with_capacity(alloc, ROOM)?;
     let mut next = take_next(None, &mut waiting);
     while let Some(whole) = next {
         order.push(whole)?;

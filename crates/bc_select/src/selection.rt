@@ -17,7 +17,7 @@ ghost use Rattle.bc_select.specs.Vector.{vector};
 ghost use Rattle.bc_select_defs.specs.Readings.{tree_for, readings};
 ghost use Rattle.bc_select_defs.specs.Choices.{choice_for as choice_of, choices};
 
-use crate::layout::{AtLevel, at_level, lay_out};
+use crate::layout::{AtLevel, ROOM, at_level, lay_out};
 use crate::mark::read;
 use crate::pair::assign_choice;
 use crate::part::own_operand;
@@ -56,7 +56,7 @@ fn expressions(alloc: Global, root: &Root) -> Result<Vec<AtLevel<'_>>, Memory>
     requires { root_nodes (root_of root.now) ≤ 2 ^ 32 }
     ensures { IfOk result (λ found. AreOf found.items (root_of root.now)) }
 {
-    let mut found = Vec::new(alloc);
+    let mut found = Vec::with_capacity(alloc, ROOM)?;
     match root {
         Root::Value {
             level,

@@ -4,7 +4,7 @@ ghost use Rattle.std.specs.Prelude.{◌≡◌, ◌≤◌, ◌+◌, ◌++◌, ◌
 ghost use Rattle.std.specs.Fmt.{decimal};
 ghost use Rattle.std.specs.Io.KnownBytes.{Appends};
 ghost use Rattle.arrayvec.specs.ArrayString.{array_string_len};
-ghost use Rattle.bc_text.specs.Letters.{letter, indirection, base_letter};
+ghost use Rattle.bc_text.specs.Letters.{letter, base_letter};
 ghost use Rattle.bc_text.specs.Printed.{line, printed_segment, AppendsFront};
 
 use crate::text_error::TextError;
@@ -72,9 +72,11 @@ fn line_of(item: &Item) -> Line
             base,
             number,
         } => {
-            text.push_str(letter(function));
-            text.push_str(indirection(indirect));
-            text.push_str(base_letter(base));
+            push_letter(&mut text, function);
+            if indirect {
+                text.push_str("I");
+            }
+            push_base(&mut text, base);
             push_number(&mut text, number.get());
         }
         Item::Global { number, label } => {
@@ -88,47 +90,59 @@ fn line_of(item: &Item) -> Line
     text
 }
 
-/// Adds a number in decimal digits, of which there are at most five.
+/// Adds a number in decimal digits, of which there are at most five. Almost half of the numbers of a text have one, which is copied as a constant.
+#[tactic(auto, using(std::proofs::lemmas::Fmt::decimal_digit))]
 fn push_number(text: &mut Line, number: u16)
     requires { array_string_len text.old ≤ 11 }
     ensures bytes { text.new.bytes ≡ text.old.bytes ++ decimal number }
     ensures len { array_string_len text.new ≤ array_string_len text.old + 5 }
 {
-    let mut buffer = Buffer::new();
-    text.push_str(buffer.format(number));
-}
-
-/// The letter of a function.
-fn letter(function: Function) -> &'static str
-    ensures { result.now ≡ letter function ∷ [] }
-{
-    match function {
-        Function::Load => "L",
-        Function::Store => "S",
-        Function::Add => "A",
-        Function::Jump => "J",
-        Function::JumpIfTrue => "T",
-        Function::JumpIfFalse => "F",
-        Function::Call => "K",
-        Function::Execute => "X",
+    match number {
+        0 => text.push_str("0"),
+        1 => text.push_str("1"),
+        2 => text.push_str("2"),
+        3 => text.push_str("3"),
+        4 => text.push_str("4"),
+        5 => text.push_str("5"),
+        6 => text.push_str("6"),
+        7 => text.push_str("7"),
+        8 => text.push_str("8"),
+        9 => text.push_str("9"),
+        _ => {
+            let mut buffer = Buffer::new();
+            text.push_str(buffer.format(number));
+        }
     }
 }
 
-/// The `I` of an indirect operation, or nothing.
-fn indirection(indirect: bool) -> &'static str
-    ensures { result.now ≡ indirection indirect }
+/// Adds the letter of a function.
+fn push_letter(text: &mut Line, function: Function)
+    requires { array_string_len text.old ≤ 11 }
+    ensures bytes { text.new.bytes ≡ text.old.bytes ++ letter function ∷ [] }
+    ensures len { array_string_len text.new ≤ array_string_len text.old + 1 }
 {
-    if indirect { "I" } else { "" }
+    match function {
+        Function::Load => text.push_str("L"),
+        Function::Store => text.push_str("S"),
+        Function::Add => text.push_str("A"),
+        Function::Jump => text.push_str("J"),
+        Function::JumpIfTrue => text.push_str("T"),
+        Function::JumpIfFalse => text.push_str("F"),
+        Function::Call => text.push_str("K"),
+        Function::Execute => text.push_str("X"),
+    }
 }
 
-/// The letter of a base, or nothing.
-fn base_letter(base: Base) -> &'static str
-    ensures { result.now ≡ base_letter base }
+/// Adds the letter of a base, or nothing.
+fn push_base(text: &mut Line, base: Base)
+    requires { array_string_len text.old ≤ 11 }
+    ensures bytes { text.new.bytes ≡ text.old.bytes ++ base_letter base }
+    ensures len { array_string_len text.new ≤ array_string_len text.old + 1 }
 {
     match base {
-        Base::Number => "",
-        Base::P => "P",
-        Base::G => "G",
-        Base::Label => "L",
+        Base::Number => {}
+        Base::P => text.push_str("P"),
+        Base::G => text.push_str("G"),
+        Base::Label => text.push_str("L"),
     }
 }

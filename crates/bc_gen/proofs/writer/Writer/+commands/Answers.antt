@@ -8,13 +8,16 @@ use Rattle.bc_core.specs.View.{exp, command, items, items_before, block_of, decl
 use Rattle.bc_core.proofs.Rows.{if_view, test_view, while_view, repeat_view, repeat_while_view, for_view, switchon_view, nested_view}
 use Rattle.bc_gen_defs.specs.Emit.{cases_in, emit_items, emit_declarations, emit_variables, emit, emit_block, labels_in, entries_in}
 use Rattle.bc_gen_defs.specs.Bodies.{fill, level_of, label_ahead}
-use Rattle.bc_gen_defs.specs.Entries.{Plain, count_items, marked_over}
+use Rattle.bc_rules_defs.specs.View.{derivation}
+use Rattle.bc_gen_defs.specs.Entries.{Plain, Begins, count_items, marked_over}
 use Rattle.bc_gen.specs.Chosen.{coding}
+use Rattle.bc_gen.specs.declared.mark.Mark.{Mark}
 use Rattle.bc_gen.specs.declared.parts.Part.{Part}
-use Rattle.bc_gen.specs.Parts.{parts}
+use Rattle.bc_gen.specs.declared.parts.Part.TheVariants as variants
+use Rattle.bc_gen.specs.Parts.{parts, mark}
 use Rattle.bc_gen.specs.Surroundings.{roots_in, exits_of, valofs_in, bodies_of, label_in, one_piece}
 use Rattle.bc_gen.proofs.Weights.{weight, weight_of_items, weight_of_block, weight_of_valofs, weight_if, weight_test, weight_while, weight_repeat, weight_repeat_while, weight_for, weight_switchon, weight_nested, weight_of_one, weight_of_valof}
-use Rattle.bc_gen.proofs.Forms.{if_writes, test_writes, while_writes, repeat_writes, repeat_while_writes, for_writes, switchon_writes, block_writes, command_writes, writes_nothing, written_is, two_taken, three_taken}
+use Rattle.bc_gen.proofs.Forms.{if_writes, test_writes, while_writes, repeat_writes, repeat_while_writes, for_writes, switchon_writes, block_writes, command_writes, writes_nothing, written_is, grown, root_marked, two_taken, three_taken}
 use Rattle.bc_gen.proofs.Turns.{list_turn, declarations_turn, declarations_end, variables_turn, fill_turn}
 use Rattle.bc_gen.proofs.Bodies.{none_before, none_behind, outside, valof_writes}
 use Rattle.bc_gen.proofs.Outs.{block_declared, block_labelled, bodies_grow, declarations_out, ended, fails, fill_out, for_ended, for_limited, for_started, for_stepped, for_taken, for_tested, grown_on, if_taken, if_tested, less_one, less_two, limited, list_out, repeat_done, repeat_taken, repeat_while_done, repeat_while_half, repeat_while_taken, rising, root_taken, second, second_of_three, started, switchon_done, switchon_taken, switchon_valued, test_done, test_half, test_taken, test_tested, tested, third, valof_out, variables_out, while_done, while_taken, while_tested}
@@ -510,11 +513,24 @@ fill-returns-in_err-piece-clause-written t c =
     (fill_out (level_of (valofs_in c.args.around.now.valofs.now)) (bodies_of (valofs_in c.args.around.now.valofs.now) c.args.around.now.least) (bodies_grow (valofs_in c.args.around.now.valofs.now) c.args.around.now.least) c.args.pieces.now c.loop-i.i c.index-pieces-i.result c.label_ahead-label.result c.loop-i.self.next _
     c.loop-i-test.true c.index-pieces-i.is ahead c.loop-i.invariant.1)
 
-pub root-returns-in_err-take_to : goal.root-returns-in_err-take_to
-root-returns-in_err-take_to t c =
+pub root-returns-in_err-code : goal.root-returns-in_err-code
+root-returns-in_err-code t c =
     let r = root c.args.root in
-    fails c.from_residual-in_err-take_to.result c.in_err-take_to.field-0.0 c.args.self.now c.take_to.new.self (c.args.self.now.next + coding.labels r) (roots_in c.args.around.now r c.args.target c.args.self.now.next)
-    c.from_residual-in_err-take_to.ensures.1 (c.in_err-take_to.ensures.out _ c.label_behind.ensures) (root_taken c.args.around.now r c.args.target c.args.self.now.next)
+    fails c.from_residual-in_err-code.result c.in_err-code.field-0.0 c.args.self.now c.coded.new.self (c.args.self.now.next + coding.labels r) (roots_in c.args.around.now r c.args.target c.args.self.now.next)
+    c.from_residual-in_err-code.ensures.1 c.in_err-code.ensures.out (root_taken c.args.around.now r c.args.target c.args.self.now.next)
+
+pub root-insert-requires : goal.root-insert-requires
+root-insert-requires t c =
+    let g = grown c.coded.new.self c.fill.new.self _ c.in_ok-bodies.ensures.written.0 in
+    omega (arith, g, c.len-at.ensures, c.coded.new.self.parts.ok.0, c.fill.new.self.parts.ok.0)
+
+pub root-returns : goal.root-returns
+root-returns t c =
+    root_marked c.args.around.now (root c.args.root) c.args.target (derivation c.in_ok-derivation.field-0.derivation) c.deref.result.now c.in_ok-bodies.bodies.items c.args.self.now c.coded.new.self c.fill.new.self
+    c.insert.new.self.items (variants.Begins c.in_ok-new.field-0) c.len-at.result
+    c.in_ok-derivation.ensures.derivation (c.deref.ensures.value ∙ c.in_ok-code.ensures.chosen) c.in_ok-code.ensures.next c.in_ok-code.ensures.parts
+    (c.in_ok-bodies.ensures.written, c.in_ok-bodies.ensures.counts) (ap (λ (m : Mark). Begins (mark m)) c.in_ok-new.ensures.ok) (omega (arith, c.len-at.ensures, c.coded.new.self.parts.ok.0))
+    c.in_ok-insert.ensures.items
 
 pub valof-returns-in_err-block-in-Some : goal.valof-returns-in_err-block-in-Some
 valof-returns-in_err-block-in-Some t c =
