@@ -13,7 +13,7 @@ use Rattle.bc_rules_defs.specs.declared.rule.Rule.TheVariants.{V0, V1, V2, V3, V
 use Rattle.bc_rules_defs.specs.Piece.{w}
 use Rattle.bc_select_defs.specs.declared.choice.Choices.{Choices}
 use Rattle.bc_select_defs.specs.declared.choice.Candidate.{Candidate}
-use Rattle.bc_select_defs.specs.declared.choice.Node.{Node}
+use Rattle.bc_select_defs.specs.declared.choice.Asked.{Asked}
 use Rattle.bc_select_defs.specs.Options.{plus, sum, operand_cost, words_of, candidate, least_from}
 use Rattle.bc_select_defs.specs.Choices.{by_value, number_tests, not_tests, mixed, worked, pair_tests, choices, words_of_all, node_of}
 use Rattle.bc_word.specs.declared.operator.Op.{Op}
@@ -51,7 +51,7 @@ line o own_pushes own_values tests =
 abbrev pub unary : Rule → Option Operand → Choices → (Option ℕ → Bool → List Candidate) → Lists
 unary r o c tests = line o (candidate r (plus (words_of c.push) 1) ∷ []) (candidate r (plus (words_of c.any) 1) ∷ []) tests
 
-abbrev pub pair : Table → Op → Option Operand → Node → Node → ℕ → Lists
+abbrev pub pair : Table → Op → Option Operand → Asked → Asked → ℕ → Lists
 pair T op o a b s =
     line o (mixed op a b (words_of a.choices.push) (words_of b.choices.push))
     (mixed op a b (words_of a.choices.any) (words_of b.choices.any) ++ worked op a b s) (pair_tests T op a b)

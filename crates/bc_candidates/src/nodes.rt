@@ -22,7 +22,7 @@ use crate::pair::{mixed, worked};
 use bc_core::{CoreExp, Operand, constant, operand};
 use bc_rules_defs::{Rule, number_words};
 use bc_select::{Pair, any_words};
-use bc_select_defs::{Choices, Node};
+use bc_select_defs::{Asked, Choices};
 use bc_word::{Memory, Op};
 use std::alloc::Global;
 
@@ -82,7 +82,7 @@ fn leaf(lists: Lists, calls: bool) -> Below
 }
 
 /// An operand of a binary operator.
-fn operand_node(e: &CoreExp, part: &Part) -> Node
+fn operand_node(e: &CoreExp, part: &Part) -> Asked
     ensures { result ≡ record {
       choices = part.now.choices;
       operand = operand_of (exp e.now);
@@ -91,7 +91,7 @@ fn operand_node(e: &CoreExp, part: &Part) -> Node
       nodes = part.now.nodes;
     } }
 {
-    Node {
+    Asked {
         choices: part.choices,
         operand: operand(e),
         number: constant(e),

@@ -9,7 +9,7 @@ use Rattle.bc_cert_defs.specs.declared.head.Head.{Head}
 use Rattle.bc_cert_lines.specs.declared.lines.NodeLine.{NodeLine}
 use Rattle.bc_cert_lines.specs.declared.lines.RootLine.{RootLine}
 use Rattle.bc_cert_lines.specs.Lines.{header, entry_line, end_line, node_line, root_line}
-use Rattle.bc_cert_trees.specs.declared.place.Place.{Place}
+use Rattle.bc_cert_trees.specs.declared.position.Position.{Position}
 use Rattle.bc_cert_trees.specs.Stacks.{◌>>=◌, Stack, no_trees, Rooted, node_step, root_step}
 use Rattle.bc_cert_trees.specs.View.{Fails}
 use Rattle.bc_cert_laws.specs.Judging.{Stage, the_header, between, nodes, code, the_end, State, code_judged, begun, ended, entered, noded, rooted, step_at, place_of, counted, line_step, byte_step, feed_from}
@@ -32,15 +32,15 @@ begun_both : (p q : List Judged) (st : State) (o : Option Table) → Both p q (l
 begun_both p q st None = refl
 begun_both p q st (Some T) = (record st { table = T; stage = between }, refl, refl, one_more (length st.entries))
 
-last_both : (p q : List Judged) (at : Place) (st : State) (t : Bool) → Both p q (length st.entries + 1) (cond t (Ok (record (behind p st) { stage = the_end })) (Err (faults.Line at.line))) (cond t (Ok (record (behind q st) { stage = the_end })) (Err (faults.Line at.line)))
+last_both : (p q : List Judged) (at : Position) (st : State) (t : Bool) → Both p q (length st.entries + 1) (cond t (Ok (record (behind p st) { stage = the_end })) (Err (faults.Line at.line))) (cond t (Ok (record (behind q st) { stage = the_end })) (Err (faults.Line at.line)))
 last_both p q at st true = (record st { stage = the_end }, refl, refl, one_more (length st.entries))
 last_both p q at st false = refl
 
-ended_both : (p q : List Judged) (at : Place) (st : State) (o : Option ℕ) → Both p q (length st.entries + 1) (ended at (behind p st) o) (ended at (behind q st) o)
+ended_both : (p q : List Judged) (at : Position) (st : State) (o : Option ℕ) → Both p q (length st.entries + 1) (ended at (behind p st) o) (ended at (behind q st) o)
 ended_both p q at st None = refl
 ended_both p q at st (Some n) = last_both p q at st (n == at.entry)
 
-entered_both : (p q : List Judged) (line : List ℕ) (at : Place) (st : State) (o : Option Head) → Both p q (length st.entries + 1) (entered line at (behind p st) o) (entered line at (behind q st) o)
+entered_both : (p q : List Judged) (line : List ℕ) (at : Position) (st : State) (o : Option Head) → Both p q (length st.entries + 1) (entered line at (behind p st) o) (entered line at (behind q st) o)
 entered_both p q line at st (Some h) = (record st { stage = nodes h; trees = no_trees; nodes = 0 }, refl, refl, one_more (length st.entries))
 entered_both p q line at st None = ended_both p q at st (end_line line)
 
@@ -48,7 +48,7 @@ root_both : (p q : List Judged) (h : Head) (st : State) (r : Result Rooted Check
 root_both p q h st (Ok x) = (record st { stage = code h x; trees = no_trees }, refl, refl, one_more (length st.entries))
 root_both p q h st (Err f) = refl
 
-rooted_both : (p q : List Judged) (h : Head) (at : Place) (st : State) (o : Option RootLine) → Both p q (length st.entries + 1) (rooted h at (behind p st) o) (rooted h at (behind q st) o)
+rooted_both : (p q : List Judged) (h : Head) (at : Position) (st : State) (o : Option RootLine) → Both p q (length st.entries + 1) (rooted h at (behind p st) o) (rooted h at (behind q st) o)
 rooted_both p q h at st None = refl
 rooted_both p q h at st (Some r) = root_both p q h st (root_step r at st.trees)
 
@@ -56,7 +56,7 @@ node_both : (p q : List Judged) (h : Head) (st : State) (r : Result Stack CheckF
 node_both p q h st (Ok ts) = (record st { stage = nodes h; trees = ts; nodes = st.nodes + 1 }, refl, refl, one_more (length st.entries))
 node_both p q h st (Err f) = refl
 
-noded_both : (p q : List Judged) (h : Head) (line : List ℕ) (at : Place) (st : State) (o : Option NodeLine) → Both p q (length st.entries + 1) (noded h line at (behind p st) o) (noded h line at (behind q st) o)
+noded_both : (p q : List Judged) (h : Head) (line : List ℕ) (at : Position) (st : State) (o : Option NodeLine) → Both p q (length st.entries + 1) (noded h line at (behind p st) o) (noded h line at (behind q st) o)
 noded_both p q h line at st (Some n) = node_both p q h st (node_step st.table n at st.trees)
 noded_both p q h line at st None = rooted_both p q h at st (root_line line)
 
@@ -70,7 +70,7 @@ code_both p q st (Ok j) =
     )
 code_both p q st (Err f) = refl
 
-step_both : (p q : List Judged) (g : Stage) (line : List ℕ) (at : Place) (st : State) → Both p q (length st.entries + 1) (step_at g line at (behind p st)) (step_at g line at (behind q st))
+step_both : (p q : List Judged) (g : Stage) (line : List ℕ) (at : Position) (st : State) → Both p q (length st.entries + 1) (step_at g line at (behind p st)) (step_at g line at (behind q st))
 step_both p q the_header line at st = begun_both p q st (header line)
 step_both p q between line at st = entered_both p q line at st (entry_line line)
 step_both p q (nodes h) line at st = noded_both p q h line at st (node_line line)

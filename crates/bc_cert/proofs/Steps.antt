@@ -6,7 +6,7 @@ use Rattle.std.proofs.lemmas.List.{take-append-drop, take-take}
 use Rattle.bc_cert_defs.specs.declared.check_fault.CheckFault.{CheckFault}
 use Rattle.bc_cert_defs.specs.declared.check_fault.CheckFault.TheVariants as faults
 use Rattle.bc_cert_defs.specs.Verdict.{Verdict}
-use Rattle.bc_cert_trees.specs.declared.place.Place.{Place}
+use Rattle.bc_cert_trees.specs.declared.position.Position.{Position}
 use Rattle.bc_cert_lines.specs.Fields.{Cut, cut, longer}
 use Rattle.bc_cert_trees.specs.Stacks.{◌>>=◌}
 use Rattle.bc_cert_defs.specs.declared.verdict.Verdict as code
@@ -17,7 +17,7 @@ use Rattle.bc_cert_laws.proofs.Whole.{judged_says, judged_lacks}
 use Rattle.bc_cert.specs.View.{whole_line}
 use Rattle.bc_cert.specs.Answer.{IsSaid, IsLacking, IsFault, IsAnswer}
 
-pub between_line : (line : List ℕ) (st : State) (p : Place) → st.stage ≡ between → p ≡ place_of (counted st) → between_step line p (counted st) ≡ line_step line st
+pub between_line : (line : List ℕ) (st : State) (p : Position) → st.stage ≡ between → p ≡ place_of (counted st) → between_step line p (counted st) ≡ line_step line st
 between_line line st p h e = ap (λ q. between_step line q (counted st)) e ∙ ap (λ s. step_at s line (place_of (counted st)) (counted st)) (sym h)
 
 bind_grouped : {A B C : Type 0} (r : Result A CheckFault) (f : A → Result B CheckFault) (g : B → Result C CheckFault) → (r >>= f) >>= g ≡ r >>= (λ x. f x >>= g)

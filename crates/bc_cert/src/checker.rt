@@ -13,7 +13,7 @@ use crate::stage::Stage;
 use crate::sums::Sums;
 use bc_cert_defs::{CheckFault, Head, Judged, Verdict};
 use bc_cert_lines::{end_line, entry_line, header, node_line, root_line};
-use bc_cert_trees::{Place, Rooted, Stack};
+use bc_cert_trees::{Position, Rooted, Stack};
 use bc_rules_defs::Table;
 use bc_word::Memory;
 use std::alloc::Global;
@@ -179,10 +179,10 @@ impl Checker {
 
     /// Where the line at work stands, which was counted.
     #[tactic(auto, using(crate::proofs::Lengths::counted_length))]
-    fn place(&self) -> Place
+    fn place(&self) -> Position
         ensures { result ≡ place_of (state self.now) }
     {
-        Place {
+        Position {
             line: self.lines,
             entry: u64::from(self.passed) + self.entries.as_slice().len() as u64,
             node: self.nodes,
@@ -229,7 +229,7 @@ impl Checker {
     }
 
     /// An `E` line or the `Z` line.
-    fn between(&mut self, line: &[u8], place: Place) -> Result<(), CheckFault>
+    fn between(&mut self, line: &[u8], place: Position) -> Result<(), CheckFault>
         ensures exact { Steps (state self.new) result (between_step line.now place (state self.old)) }
         ensures line { OnOk result (self.new.line.items ≡ self.old.line.items) }
         ensures parallel { AreParallel (state self.old).trees → OnOk result (AreParallel (state self.new).trees) }
@@ -261,7 +261,7 @@ impl Checker {
     }
 
     /// A node line or a root line.
-    fn within(&mut self, head: Head, line: &[u8], place: Place) -> Result<(), CheckFault>
+    fn within(&mut self, head: Head, line: &[u8], place: Position) -> Result<(), CheckFault>
         requires parallel { AreParallel (state self.old).trees }
         requires few { self.old.nodes < 2 ^ 62 }
         ensures exact { Steps (state self.new) result (within_step head line.now place (state self.old)) }
@@ -297,7 +297,7 @@ impl Checker {
         head: Head,
         rooted: Box<Rooted>,
         line: &[u8],
-        place: Place,
+        place: Position,
     ) -> Result<(), CheckFault>
         ensures exact { Steps (state self.new) result (code_step head (rooted_of rooted.value) line.now place (state self.old)) }
         ensures kept { OnOk result (Kept self.old self.new) }

@@ -14,7 +14,7 @@ ghost use Rattle.bc_cert.specs.View.{IsDerived};
 
 use bc_cert_defs::{CheckFault, Head, Judged};
 use bc_cert_lines::code_line;
-use bc_cert_trees::{Place, Rooted};
+use bc_cert_trees::{Position, Rooted};
 use bc_core::Root;
 use bc_rules::{code_of, is_derivation_by, next_label, words};
 use bc_rules_defs::{Derivation, Piece, Table};
@@ -93,7 +93,7 @@ fn compared(
     least: u128,
     code: &[Piece],
     right: &[Piece],
-    place: Place,
+    place: Position,
 ) -> Result<(), CheckFault>
     ensures { Gives (λ _. tt) result (code_against head least code.now place right.now) }
 {
@@ -115,7 +115,7 @@ fn fits(
     head: Head,
     rooted: &Rooted,
     code: &[Piece],
-    place: Place,
+    place: Position,
 ) -> Result<(), CheckFault>
     ensures { Gives (λ _. tt) result (code_fits table head (rooted_of rooted.now) place code.now) }
 {
@@ -130,7 +130,7 @@ fn fits(
 }
 
 /// The code of an entry's code line.
-fn read_code(alloc: Global, line: &[u8], place: Place) -> Result<Vec<Piece>, CheckFault>
+fn read_code(alloc: Global, line: &[u8], place: Position) -> Result<Vec<Piece>, CheckFault>
     ensures { Gives (λ v. v.items) result (with_whole place (code_of_line line.now)) }
 {
     match code_line(alloc, line)? {
@@ -146,7 +146,7 @@ fn judged_line(
     head: Head,
     rooted: &Rooted,
     line: &[u8],
-    place: Place,
+    place: Position,
 ) -> Result<Vec<Piece>, CheckFault>
     ensures { Gives (λ v. v.items) result (pieces_judged table head (rooted_of rooted.now) line.now place) }
 {
@@ -178,7 +178,7 @@ pub fn judge_code(
     head: Head,
     rooted: Box<Rooted>,
     line: &[u8],
-    place: Place,
+    place: Position,
 ) -> Result<Judged, CheckFault>
     ensures { Gives judged_of result (code_judged table head (rooted_of rooted.value) line.now place) }
 {

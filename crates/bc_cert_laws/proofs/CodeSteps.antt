@@ -29,7 +29,7 @@ use Rattle.bc_rules.specs.Fits.{root_fits}
 use Rattle.bc_rules.proofs.Bridge.{root_shape_fits}
 use Rattle.bc_cert_defs.specs.declared.head.Head.{Head}
 use Rattle.bc_cert_lines.specs.Lines.{code_of_line}
-use Rattle.bc_cert_trees.specs.declared.place.Place.{Place}
+use Rattle.bc_cert_trees.specs.declared.position.Position.{Position}
 use Rattle.bc_cert_trees.specs.Stacks.{◌>>=◌, with_whole, Rooted}
 use Rattle.bc_cert_laws.specs.Entries.{PieceHasRoom, pieces_line, SamePiece}
 use Rattle.bc_cert_laws.specs.Faults.{code, judged, IsCode, LineFault, no_pieces, wrong_code, wrong_words}
@@ -106,7 +106,7 @@ pieces_true (p ∷ ps) (q ∷ qs) h = true_if (same_piece p q) (same_code ps qs)
 abbrev next_of : Head → {T : Table} {r : Root} → RootDerives T r → State → List Piece → State
 next_of h {r = r} d st ps = record st { entries = st.entries ++ judged h r ps ∷ []; stage = between }
 
-abbrev decided : (labels same sums : Bool) → Place → State → Result State CheckFault
+abbrev decided : (labels same sums : Bool) → Position → State → Result State CheckFault
 decided true true true p next = Ok next
 decided true true false p next = Err (faults.WrongWords p.entry)
 decided true false sums p next = Err (faults.WrongCode p.entry)
@@ -121,19 +121,19 @@ has_code h d ps = same_code ps (root_code d h.target h.first)
 abbrev has_words : Head → {T : Table} {r : Root} → RootDerives T r → Bool
 has_words h d = root_cost d == h.words
 
-abbrev kept : Head → Rooted → Place → State → List Piece → Result (Unit {0}) CheckFault → Result State CheckFault
+abbrev kept : Head → Rooted → Position → State → List Piece → Result (Unit {0}) CheckFault → Result State CheckFault
 kept h r p st ps x = ((x >>= (λ y. Ok ps)) >>= (λ qs. Ok (judged_with h r qs))) >>= (λ j. Ok (record st { entries = st.entries ++ j ∷ []; stage = between }))
 
-fits_so : (T : Table) (h : Head) (r : Rooted) (p : Place) (ps : List Piece) → root_fits T r.root r.derivation ≡ true → code_fits T h r p ps ≡ against_right h r p ps (right_of h r)
+fits_so : (T : Table) (h : Head) (r : Rooted) (p : Position) (ps : List Piece) → root_fits T r.root r.derivation ≡ true → code_fits T h r p ps ≡ against_right h r p ps (right_of h r)
 fits_so T h r p ps k = ap (λ b. cond b (against_right h r p ps (right_of h r)) (Err (faults.WrongRule p.entry p.node))) k
 
-against_so : {T : Table} {r : Root} (d : RootDerives T r) (h : Head) (p : Place) (ps : List Piece)
+against_so : {T : Table} {r : Root} (d : RootDerives T r) (h : Head) (p : Position) (ps : List Piece)
     → against_right h (rooted_by d) p ps (right_of h (rooted_by d)) ≡ against_right h (rooted_by d) p ps (cond (has_labels h d) (Some (root_code d h.target h.first)) None)
 against_so {r = r} d h p ps =
     ap (λ n. against_right h (rooted_by d) p ps (cond (nat_le (h.first + n) 65536) (Some (root_code_by r (root_shape d) h.target h.first)) None)) (sym (root_labels_same d))
     ∙ ap (λ c. against_right h (rooted_by d) p ps (cond (has_labels h d) (Some c) None)) (sym (root_code_same d h.target h.first))
 
-decided_so : {T : Table} {r : Root} (d : RootDerives T r) (h : Head) (p : Place) (st : State) (ps : List Piece) (labels same sums : Bool) → same_code ps (root_code d h.target h.first) ≡ same → (root_cost d == h.words) ≡ sums
+decided_so : {T : Table} {r : Root} (d : RootDerives T r) (h : Head) (p : Position) (st : State) (ps : List Piece) (labels same sums : Bool) → same_code ps (root_code d h.target h.first) ≡ same → (root_cost d == h.words) ≡ sums
     → kept h (rooted_by d) p st ps (against_right h (rooted_by d) p ps (cond labels (Some (root_code d h.target h.first)) None)) ≡ decided labels same sums p (next_of h d st ps)
 decided_so d h p st ps false same sums i k = refl
 decided_so d h p st ps true same sums i k =
@@ -146,10 +146,10 @@ decided_so d h p st ps true same sums i k =
       at true false = refl
       at false sums = refl
 
-abbrev from_read : Table → Head → Rooted → Place → State → Option (List Piece) → Result State CheckFault
+abbrev from_read : Table → Head → Rooted → Position → State → Option (List Piece) → Result State CheckFault
 from_read T h r p st o = ((with_whole p o >>= (λ ps. code_fits T h r p ps >>= (λ x. Ok ps))) >>= (λ ps. Ok (judged_with h r ps))) >>= (λ j. Ok (record st { entries = st.entries ++ j ∷ []; stage = between }))
 
-step_so : {r : Root} (st : State) (d : RootDerives st.table r) (h : Head) (l : List ℕ) (p : Place) (ps : List Piece) → code_of_line l ≡ Some ps
+step_so : {r : Root} (st : State) (d : RootDerives st.table r) (h : Head) (l : List ℕ) (p : Position) (ps : List Piece) → code_of_line l ≡ Some ps
     → code_step h (rooted_by d) l p st ≡ decided (has_labels h d) (has_code h d ps) (has_words h d) p (next_of h d st ps)
 step_so {r = r} st d h l p ps k =
     ap (λ o. from_read st.table h (rooted_by d) p st o) k
@@ -161,11 +161,11 @@ in_table : {T : Table} {r : Root} (st : State) (d : RootDerives T r) (P : (T : T
 in_table {r = r} st d P h k = subst (λ T. (e : RootDerives T r) → P T e) h k d
 
 -- what a code line comes to where it was read
-pub code_step_is : {T : Table} {r : Root} (st : State) (d : RootDerives T r) (h : Head) (l : List ℕ) (p : Place) (ps : List Piece) → st.table ≡ T → code_of_line l ≡ Some ps
+pub code_step_is : {T : Table} {r : Root} (st : State) (d : RootDerives T r) (h : Head) (l : List ℕ) (p : Position) (ps : List Piece) → st.table ≡ T → code_of_line l ≡ Some ps
     → code_step h (rooted_by d) l p st ≡ decided (has_labels h d) (has_code h d ps) (has_words h d) p (next_of h d st ps)
 code_step_is st d h l p ps t k = in_table st d (λ T d. code_step h (rooted_by d) l p st ≡ decided (has_labels h d) (has_code h d ps) (has_words h d) p (next_of h d st ps)) t (λ d. step_so st d h l p ps k)
 
-unread : {T : Table} {r : Root} (st : State) (d : RootDerives T r) (h : Head) (l : List ℕ) (p : Place) → code_of_line l ≡ None → code_step h (rooted_by d) l p st ≡ Err (faults.Line p.line)
+unread : {T : Table} {r : Root} (st : State) (d : RootDerives T r) (h : Head) (l : List ℕ) (p : Position) → code_of_line l ≡ None → code_step h (rooted_by d) l p st ≡ Err (faults.Line p.line)
 unread st d h l p k = ap (λ o. from_read st.table h (rooted_by d) p st o) k
 
 -- a code line that was taken
@@ -177,7 +177,7 @@ pub record CodeTaken {T : Table} {r : Root} (d : RootDerives T r) (h : Head) (l 
   pub text : l ++ 10 ∷ [] ≡ pieces_line pieces
   pub next : after ≡ next_of h d st pieces
 
-taken_so : {T : Table} {r : Root} (st next : State) (d : RootDerives T r) (h : Head) (l : List ℕ) (p : Place) (ps : List Piece) (labels same sums : Bool) → AllByRecursion PieceHasRoom ps → l ++ 10 ∷ [] ≡ pieces_line ps
+taken_so : {T : Table} {r : Root} (st next : State) (d : RootDerives T r) (h : Head) (l : List ℕ) (p : Position) (ps : List Piece) (labels same sums : Bool) → AllByRecursion PieceHasRoom ps → l ++ 10 ∷ [] ≡ pieces_line ps
     → has_labels h d ≡ labels → has_code h d ps ≡ same → has_words h d ≡ sums → decided labels same sums p (next_of h d st ps) ≡ Ok next → CodeTaken d h l st next
 taken_so st next d h l p ps true true true room text i j k g =
     record {
@@ -192,14 +192,14 @@ taken_so st next d h l p ps true true false room text i j k g = cc
 taken_so st next d h l p ps true false sums room text i j k g = cc
 taken_so st next d h l p ps false same sums room text i j k g = cc
 
-pub code_taken : {T : Table} {r : Root} (st next : State) (d : RootDerives T r) (h : Head) (l : List ℕ) (p : Place) → st.table ≡ T → code_step h (rooted_by d) l p st ≡ Ok next → CodeTaken d h l st next
+pub code_taken : {T : Table} {r : Root} (st next : State) (d : RootDerives T r) (h : Head) (l : List ℕ) (p : Position) → st.table ≡ T → code_step h (rooted_by d) l p st ≡ Ok next → CodeTaken d h l st next
 code_taken st next d h l p t g = at (code_of_line l) refl where
   at : (o : Option (List Piece)) → code_of_line l ≡ o → CodeTaken d h l st next
   at None k = let bad : ◌≡◌ {A = Result State CheckFault} (Err (faults.Line p.line)) (Ok next) = sym (unread st d h l p k) ∙ g in cc
   at (Some ps) k = let read = code_read l ps k in taken_so st next d h l p ps _ _ _ read.1 read.0 refl refl refl (sym (code_step_is st d h l p ps t k) ∙ g)
 
 -- and where it was not
-fault_so : {T : Table} {r : Root} (text : List ℕ) (js : List Judged) (st : State) (d : RootDerives T r) (h : Head) (l : List ℕ) (p : Place) (f : CheckFault) (ps : List Piece) (labels same sums : Bool) → p.entry ≡ length js → AllByRecursion PieceHasRoom ps
+fault_so : {T : Table} {r : Root} (text : List ℕ) (js : List Judged) (st : State) (d : RootDerives T r) (h : Head) (l : List ℕ) (p : Position) (f : CheckFault) (ps : List Piece) (labels same sums : Bool) → p.entry ≡ length js → AllByRecursion PieceHasRoom ps
     → has_labels h d ≡ labels → has_code h d ps ≡ same → has_words h d ≡ sums → decided labels same sums p (next_of h d st ps) ≡ Err f → LineFault text (code T js h r d) (pieces_line ps) f
 fault_so text js st d h l p f ps true true true e room i j k g = cc
 fault_so {T = T} {r = r} text js st d h l p f ps true true false e room i j k g =
@@ -212,7 +212,7 @@ fault_so {T = T} {r = r} text js st d h l p f ps false same sums e room i j k g 
     subst (LineFault text (code T js h r d) (pieces_line ps)) (ap faults.WrongCode (sym e) ∙ err_same g)
     (wrong_code room (λ c. not_at_most _ _ i c.labels))
 
-pub code_fault : {T : Table} {r : Root} (text : List ℕ) (js : List Judged) (n : ℕ) (st : State) (d : RootDerives T r) (h : Head) (l : List ℕ) (p : Place) (f : CheckFault) → StandsBehind text js n p → st.table ≡ T
+pub code_fault : {T : Table} {r : Root} (text : List ℕ) (js : List Judged) (n : ℕ) (st : State) (d : RootDerives T r) (h : Head) (l : List ℕ) (p : Position) (f : CheckFault) → StandsBehind text js n p → st.table ≡ T
     → code_step h (rooted_by d) l p st ≡ Err f → LineFault text (code T js h r d) (l ++ 10 ∷ []) f
 code_fault {T = T} {r = r} text js n st d h l p f stands t g = at (code_of_line l) refl where
   at : (o : Option (List Piece)) → code_of_line l ≡ o → LineFault text (code T js h r d) (l ++ 10 ∷ []) f
@@ -224,7 +224,7 @@ code_fault {T = T} {r = r} text js n st d h l p f stands t g = at (code_of_line 
       subst (λ m. LineFault text (code T js h r d) m f) (sym read.0) (fault_so text js st d h l p f ps _ _ _ stands.entry read.1 refl refl refl (sym (code_step_is st d h l p ps t k) ∙ g))
 
 -- a code line is taken where it is right
-pub code_made : {T : Table} {r : Root} (st : State) (d : RootDerives T r) (h : Head) (l : List ℕ) (p : Place) (ps : List Piece) → st.table ≡ T → AllByRecursion PieceHasRoom ps → IsCode d h ps → root_cost d ≡ h.words
+pub code_made : {T : Table} {r : Root} (st : State) (d : RootDerives T r) (h : Head) (l : List ℕ) (p : Position) (ps : List Piece) → st.table ≡ T → AllByRecursion PieceHasRoom ps → IsCode d h ps → root_cost d ≡ h.words
     → l ++ 10 ∷ [] ≡ pieces_line ps → code_step h (rooted_by d) l p st ≡ Ok (next_of h d st ps)
 code_made st d h l p ps t room c w text =
     code_step_is st d h l p ps t (code_back l ps room text)
@@ -236,19 +236,19 @@ code_made st d h l p ps t room c w text =
       all_true false y z i j k = cc
 
 -- and a fault of it is the step's
-no_code_so : {T : Table} {r : Root} (d : RootDerives T r) (h : Head) (p : Place) (st : State) (ps : List Piece) (labels same sums : Bool) → has_labels h d ≡ labels → has_code h d ps ≡ same → ¬ IsCode d h ps
+no_code_so : {T : Table} {r : Root} (d : RootDerives T r) (h : Head) (p : Position) (st : State) (ps : List Piece) (labels same sums : Bool) → has_labels h d ≡ labels → has_code h d ps ≡ same → ¬ IsCode d h ps
     → decided labels same sums p (next_of h d st ps) ≡ Err (faults.WrongCode p.entry)
 no_code_so d h p st ps true true sums i j not_code = absurd (not_code (record { same = pieces_same ps (root_code d h.target h.first) j; labels = at_most _ _ i }))
 no_code_so d h p st ps true false sums i j not_code = refl
 no_code_so d h p st ps false same sums i j not_code = refl
 
-no_words_so : (labels same sums : Bool) (p : Place) (st : State) → labels ≡ true → same ≡ true → sums ≡ false → decided labels same sums p st ≡ Err (faults.WrongWords p.entry)
+no_words_so : (labels same sums : Bool) (p : Position) (st : State) → labels ≡ true → same ≡ true → sums ≡ false → decided labels same sums p st ≡ Err (faults.WrongWords p.entry)
 no_words_so true true false p st i j k = refl
 no_words_so true true true p st i j k = cc
 no_words_so true false sums p st i j k = cc
 no_words_so false same sums p st i j k = cc
 
-pub code_fails : {T : Table} {r : Root} (text : List ℕ) (js : List Judged) (n : ℕ) (st : State) (d : RootDerives T r) (h : Head) (l m : List ℕ) (p : Place) (f : CheckFault) → StandsBehind text js n p → st.table ≡ T
+pub code_fails : {T : Table} {r : Root} (text : List ℕ) (js : List Judged) (n : ℕ) (st : State) (d : RootDerives T r) (h : Head) (l m : List ℕ) (p : Position) (f : CheckFault) → StandsBehind text js n p → st.table ≡ T
     → m ≡ l ++ 10 ∷ [] → LineFault text (code T js h r d) m f → code_step h (rooted_by d) l p st ≡ Err f
 code_fails text js n st d h l m p f stands t e (no_pieces none) =
     unread st d h l p (at (code_of_line l) refl) ∙ ap (λ k. Err (faults.Line k)) stands.line where

@@ -16,7 +16,7 @@ use Rattle.bc_cert_defs.specs.Verdict.{Judged}
 use Rattle.bc_cert_write.specs.Lines.{node_line as line_of_node}
 use Rattle.bc_cert_defs.specs.declared.head.Head.{Head}
 use Rattle.bc_cert_lines.specs.Lines.{header as read_header, entry_line as read_entry, end_line as read_end}
-use Rattle.bc_cert_trees.specs.declared.place.Place.{Place}
+use Rattle.bc_cert_trees.specs.declared.position.Position.{Position}
 use Rattle.bc_cert_trees.specs.Stacks.{no_trees}
 use Rattle.bc_cert_laws.specs.Entries.{IsNumber, NodeHasRoom, PieceHasRoom, pieces_line}
 use Rattle.bc_cert_laws.specs.Faults.{HeadHasRoom, head_line, Grown, all_shown, Ends, StandsBy, node, grown, IsCode, judged, RootOver, RootStands, Stage, the_header, between, nodes, code, the_end, Reaches, header, entry, node_line, root_line, code_line, last_line, lines, LineFault, no_header, no_entry, behind}
@@ -245,7 +245,7 @@ header_fails text st l m f is (no_header none) = at (read_header l) refl where
 entry_fails : (text : List ℕ) (T : Table) (js : List Judged) (st : State) (l m : List ℕ) (f : CheckFault) → Related text (between T js) st → m ≡ l ++ 10 ∷ [] → LineFault text (between T js) m f
     → entered l (place_of (counted st)) (counted st) (read_entry l) ≡ Err f
 entry_fails text T js st l m f h is (no_entry no_head no_end) = at (read_entry l) refl where
-  p : Place
+  p : Position
   p = place_of (counted st)
 
   place : ◌≡◌ {A = Result State CheckFault} (Err (Line (st.lines + 1))) (Err (Line (lines text + 1)))

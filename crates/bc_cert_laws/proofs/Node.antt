@@ -24,7 +24,7 @@ use Rattle.bc_cert_lines.specs.declared.lines.NodeLine.{NodeLine}
 use Rattle.bc_rules_defs.specs.Names.{rule_named}
 use Rattle.bc_cert_trees.specs.declared.mark.Mark.{Mark}
 use Rattle.bc_cert_trees.specs.declared.mark.Shown as marks
-use Rattle.bc_cert_trees.specs.declared.place.Place.{Place}
+use Rattle.bc_cert_trees.specs.declared.position.Position.{Position}
 use Rattle.bc_cert_trees.specs.Marks.{has_aim, is_some, levels_fit, depth_over, all_bare}
 use Rattle.bc_cert_trees.specs.Derived.{derived}
 use Rattle.bc_cert_trees.specs.Showing.{shown_by, nothing_shown, where_some, shown_with, shown_for}
@@ -96,13 +96,13 @@ nothing_has (Jumps false) h = never h
 nothing_has (Jumps true) h = never h
 
 -- what is shown is some
-some_shown : (s sh : marks.Shown) (p : Place) → where_some s p ≡ Ok sh → (s ≡ sh) × (is_some s ≡ true)
+some_shown : (s sh : marks.Shown) (p : Position) → where_some s p ≡ Ok sh → (s ≡ sh) × (is_some s ≡ true)
 some_shown s sh p h = by_cases (is_some s) refl h where
   by_cases : (b : Bool) → is_some s ≡ b → ◌≡◌ {A = Result marks.Shown CheckFault} (cond b (Ok s) (Err (WrongRule p.entry p.node))) (Ok sh) → (s ≡ sh) × (is_some s ≡ true)
   by_cases true i h = (cc, i)
   by_cases false i h = cc
 
-none_shown : (s : marks.Shown) (f : CheckFault) (p : Place) → where_some s p ≡ Err f → (f ≡ WrongRule p.entry p.node) × (is_some s ≡ false)
+none_shown : (s : marks.Shown) (f : CheckFault) (p : Position) → where_some s p ≡ Err f → (f ≡ WrongRule p.entry p.node) × (is_some s ≡ false)
 none_shown s f p h = by_cases (is_some s) refl h where
   by_cases : (b : Bool) → is_some s ≡ b → ◌≡◌ {A = Result marks.Shown CheckFault} (cond b (Ok s) (Err (WrongRule p.entry p.node))) (Err f) → (f ≡ WrongRule p.entry p.node) × (is_some s ≡ false)
   by_cases true i h = cc
@@ -124,13 +124,13 @@ module _ {T : Table} {s : ℕ} {form : Form} {ns : List Shown} {ms : List Mark} 
       let l = last_is ns (below d s) (node e s rules) (node e s (rules_at d)) k in
       ap (λ (x : Shown). x.rules) l.1 ∙ sym (rules_of_chain d)
 
-  shows : (rs : Rules) (rules : List Rule) → ShowsRules rs rules → (p : Place) (sh : marks.Shown) → shown_with (node_at T s form e ps) ms c rs p ≡ Ok sh → (aim : Aim) → has_aim sh aim ≡ true → Shows T (tree_at e s ns rules) aim
+  shows : (rs : Rules) (rules : List Rule) → ShowsRules rs rules → (p : Position) (sh : marks.Shown) → shown_with (node_at T s form e ps) ms c rs p ≡ Ok sh → (aim : Aim) → has_aim sh aim ≡ true → Shows T (tree_at e s ns rules) aim
   shows rs rules no_rule p sh g aim k = let same : nothing_shown ≡ sh = cc in absurd (nothing_has aim (ap (λ x. has_aim x aim) same ∙ k))
   shows rs rules (by_chain {c = ch} i) p sh g aim k =
       let f = some_shown (shown_by (node_at T s form e ps) ms c ch) sh p g in
       shows_to o c h ch i aim (ap (λ x. has_aim x aim) f.0 ∙ k)
 
-  found : (rs : Rules) (rules : List Rule) → ShowsRules rs rules → (p : Place) (sh : marks.Shown) → shown_with (node_at T s form e ps) ms c rs p ≡ Ok sh → (aim : Aim) (d : Derives T e aim) → ns ++ node e s rules ∷ [] ≡ shown d s → IsFewest d s
+  found : (rs : Rules) (rules : List Rule) → ShowsRules rs rules → (p : Position) (sh : marks.Shown) → shown_with (node_at T s form e ps) ms c rs p ≡ Ok sh → (aim : Aim) (d : Derives T e aim) → ns ++ node e s rules ∷ [] ≡ shown d s → IsFewest d s
       → (has_aim sh aim ≡ true) × (shape d ≡ derived rs (second_zero ps) xs)
   found rs rules no_rule p sh g aim d k f = absurd (some_rule (chain_of d) (sym (shown_rules [] aim d k)))
   found rs rules (by_chain {c = ch} i) p sh g aim d k f =
@@ -147,7 +147,7 @@ module _ {T : Table} {s : ℕ} {form : Form} {ns : List Shown} {ms : List Mark} 
   tree_bare rs rules no_rule g = and_from _ _ refl (bare_from o (last_is ns (below_bare e s) (node e s []) (node e s []) g).0)
   tree_bare rs rules (by_chain {c = ch} i) g = absurd (some_rule ch (ap (λ (x : Shown). x.rules) (last_is ns (below_bare e s) (node e s (chain_rules ch)) (node e s []) g).1))
 
-  stands_by : (rs : Rules) (rules : List Rule) → ShowsRules rs rules → (p : Place) (sh : marks.Shown) → shown_with (node_at T s form e ps) ms c rs p ≡ Ok sh → StandsBy T e s rules (ns ++ node e s rules ∷ [])
+  stands_by : (rs : Rules) (rules : List Rule) → ShowsRules rs rules → (p : Position) (sh : marks.Shown) → shown_with (node_at T s form e ps) ms c rs p ≡ Ok sh → StandsBy T e s rules (ns ++ node e s rules ∷ [])
   stands_by rs rules no_rule p sh g = tt
   stands_by rs rules (by_chain {c = ch} i) p sh g =
       let a = some_aim (shown_by (node_at T s form e ps) ms c ch) (some_shown (shown_by (node_at T s form e ps) ms c ch) sh p g).1 in
@@ -168,7 +168,7 @@ module _ {T : Table} {s : ℕ} {form : Form} {ns : List Shown} {ms : List Mark} 
       let same = sym (same_rules (chain_rules ch) rules k) in
       chain_found ch (where_stands (chain_rules ch) (some_rule ch) (subst (λ rs. StandsBy T e s rs (ns ++ node e s rs ∷ [])) same w))
 
-  refused : (rs : Rules) (names : List Name) → AreNamed names rs → (p : Place) (f : CheckFault) → shown_with (node_at T s form e ps) ms c rs p ≡ Err f
+  refused : (rs : Rules) (names : List Name) → AreNamed names rs → (p : Position) (f : CheckFault) → shown_with (node_at T s form e ps) ms c rs p ≡ Err f
       → (f ≡ WrongRule p.entry p.node) × ((rules : List Rule) → names ≡ map name rules → ¬ StandsBy T e s rules (ns ++ node e s rules ∷ []))
   refused rs names no_name p f g = cc
   refused rs names (named {c = ch} i) p f g =
@@ -176,7 +176,7 @@ module _ {T : Table} {s : ℕ} {form : Form} {ns : List Shown} {ms : List Mark} 
       (n.0, λ rules k w. never (sym n.1 ∙ named_stand ch rules k w))
   refused rs names (wrong n none) p f g = (cc, no_wrong names n none)
 
-  accepted : (rs : Rules) (names : List Name) (rules : List Rule) → names ≡ map name rules → AreNamed names rs → StandsBy T e s rules (ns ++ node e s rules ∷ []) → (p : Place)
+  accepted : (rs : Rules) (names : List Name) (rules : List Rule) → names ≡ map name rules → AreNamed names rs → StandsBy T e s rules (ns ++ node e s rules ∷ []) → (p : Position)
       → ShowsRules rs rules × ((sh : marks.Shown) × (shown_with (node_at T s form e ps) ms c rs p ≡ Ok sh))
   accepted rs names rules k no_name w p =
       let none : [] ≡ rules = same_rules [] rules k in
@@ -193,7 +193,7 @@ pub depth_is : (T : Table) (n : NodeLine) (ts : List Grown) (ms : List Mark) (fs
 depth_is T n ts ms fs es xs e h l k = depth_of (over_levelled T n.level n.form ts ms fs es xs e h l k)
 
 -- where the checker found no fault the tree of the node stands, and so do its rules
-pub new_stands : (T : Table) (n : NodeLine) (ts : List Grown) (ms : List Mark) (fs : List Facts) (es : List Exp) (xs : List Tree) (e : Exp) → IsOver T n ts ms fs es xs e → (rules : List Rule) → ShowsRules n.rules rules → (p : Place) (sh : marks.Shown)
+pub new_stands : (T : Table) (n : NodeLine) (ts : List Grown) (ms : List Mark) (fs : List Facts) (es : List Exp) (xs : List Tree) (e : Exp) → IsOver T n ts ms fs es xs e → (rules : List Rule) → ShowsRules n.rules rules → (p : Position) (sh : marks.Shown)
     → shown_for (line_node T n e fs) ms n p ≡ Ok sh
     → Stands T (grown e n.level rules ts) (new_mark n (depth_over ms) sh ms) (new_facts n e fs) e (derived n.rules (second_zero fs) xs) × StandsBy T e n.level rules (all_shown ts ++ node e n.level rules ∷ [])
 new_stands T n ts ms fs es xs e i rules r p sh g =
@@ -213,11 +213,11 @@ new_stands T n ts ms fs es xs e i rules r p sh g =
     )
 
 -- a fault is that no derivation of least words shows the rules
-pub no_rules : (T : Table) (n : NodeLine) (ts : List Grown) (ms : List Mark) (fs : List Facts) (es : List Exp) (xs : List Tree) (e : Exp) → IsOver T n ts ms fs es xs e → (names : List Name) → AreNamed names n.rules → (p : Place) (f : CheckFault)
+pub no_rules : (T : Table) (n : NodeLine) (ts : List Grown) (ms : List Mark) (fs : List Facts) (es : List Exp) (xs : List Tree) (e : Exp) → IsOver T n ts ms fs es xs e → (names : List Name) → AreNamed names n.rules → (p : Position) (f : CheckFault)
     → shown_for (line_node T n e fs) ms n p ≡ Err f → (f ≡ WrongRule p.entry p.node) × ((rules : List Rule) → names ≡ map name rules → ¬ StandsBy T e n.level rules (all_shown ts ++ node e n.level rules ∷ []))
 no_rules T n ts ms fs es xs e i names a p f g = refused (over_is i) n.costs i.costs n.rules names a p f g
 
 -- where one shows them there is none
 pub right_rules : (T : Table) (n : NodeLine) (ts : List Grown) (ms : List Mark) (fs : List Facts) (es : List Exp) (xs : List Tree) (e : Exp) → IsOver T n ts ms fs es xs e → (names : List Name) (rules : List Rule) → names ≡ map name rules → AreNamed names n.rules
-    → StandsBy T e n.level rules (all_shown ts ++ node e n.level rules ∷ []) → (p : Place) → ShowsRules n.rules rules × ((sh : marks.Shown) × (shown_for (line_node T n e fs) ms n p ≡ Ok sh))
+    → StandsBy T e n.level rules (all_shown ts ++ node e n.level rules ∷ []) → (p : Position) → ShowsRules n.rules rules × ((sh : marks.Shown) × (shown_for (line_node T n e fs) ms n p ≡ Ok sh))
 right_rules T n ts ms fs es xs e i names rules k a w p = accepted (over_is i) n.costs i.costs n.rules names rules k a w p

@@ -17,7 +17,7 @@ use Rattle.bc_cert_lines.specs.declared.lines.NodeLine.{NodeLine}
 use Rattle.bc_cert_lines.specs.declared.chain.Rules.{Rules}
 use Rattle.bc_cert_trees.specs.declared.mark.Mark.{Mark}
 use Rattle.bc_cert_trees.specs.declared.mark.Shown.{Shown}
-use Rattle.bc_cert_trees.specs.declared.place.Place.{Place}
+use Rattle.bc_cert_trees.specs.declared.position.Position.{Position}
 use Rattle.bc_cert_trees.specs.Marks.{levels_fit, depth_over}
 use Rattle.bc_cert_trees.specs.Showing.{shown_for, shown_with}
 use Rattle.bc_cert_trees.specs.Stacks.{◌>>=◌, Stack, line_node, with_whole, without_expressions, put_over, node_judged_over, node_whole, node_from, node_step}
@@ -96,11 +96,11 @@ found_ends {T = T} n ts x h enough levels = let made = whole_made n.form (drop (
       }
 
 -- a node line fits the last trees, or no expression has its form over them
-pub data NodeDecision (T : Table) (n : NodeLine) (ts : List Grown) (x : Stack) (p : Place) : Type 0 where
+pub data NodeDecision (T : Table) (n : NodeLine) (ts : List Grown) (x : Stack) (p : Position) : Type 0 where
   fits : {e : Exp} (ends : Ends e n.level ts) → n.form ≡ own_form e → NodeDecision T n ts x p
   misfit : node_step T n p x ≡ Err (faults.Line p.line) → ((e : Exp) → n.form ≡ own_form e → ¬ Ends e n.level ts) → NodeDecision T n ts x p
 
-pub node_decided : {T : Table} (n : NodeLine) (ts : List Grown) (x : Stack) (p : Place) → Kept T ts x.marks x.facts x.expressions x.derivations → NodeDecision T n ts x p
+pub node_decided : {T : Table} (n : NodeLine) (ts : List Grown) (x : Stack) (p : Position) → Kept T ts x.marks x.facts x.expressions x.derivations → NodeDecision T n ts x p
 node_decided {T = T} n ts x p h = at (nat_lt (length x.facts) (parts_of n.form)) refl (levels_fit n.level n.form (drop (place_of n x) x.marks)) refl where
   at : (b : Bool) → nat_lt (length x.facts) (parts_of n.form) ≡ b → (c : Bool) → levels_fit n.level n.form (drop (place_of n x) x.marks) ≡ c → NodeDecision T n ts x p
   at true i c j =
@@ -116,17 +116,17 @@ node_decided {T = T} n ts x p h = at (nat_lt (length x.facts) (parts_of n.form))
 abbrev new_stack : NodeLine → Stack → Exp → Shown → Stack
 new_stack n x e shown = put_over n (without_expressions (place_of n x) x) (place_of n x) (depth_over (drop (place_of n x) x.marks)) e shown
 
-abbrev shown_over : Table → NodeLine → Place → Stack → Exp → Result Shown CheckFault
+abbrev shown_over : Table → NodeLine → Position → Stack → Exp → Result Shown CheckFault
 shown_over T n p x e = shown_for (line_node T n e (drop (place_of n x) x.facts)) (drop (place_of n x) x.marks) n p
 
 abbrev are_least : Table → NodeLine → Stack → Exp → Bool
 are_least T n x e = are_costs (least_words_of (line_node T n e (drop (place_of n x) x.facts))) n.costs
 
-abbrev decided : Table → NodeLine → Place → Stack → Exp → (deep least : Bool) → Result Stack CheckFault
+abbrev decided : Table → NodeLine → Position → Stack → Exp → (deep least : Bool) → Result Stack CheckFault
 decided T n p x e deep least =
     cond deep (cond least (shown_over T n p x e) (Err (faults.WrongCost p.entry p.node)) >>= (λ shown. Ok (new_stack n x e shown))) (Err (faults.TooDeep p.line))
 
-node_result : {T : Table} {e : Exp} {n : NodeLine} {ts : List Grown} {x : Stack} {ends : Ends e n.level ts} (p : Place) → NodeFits T n ts x e ends → node_step T n p x ≡ decided T n p x e (nat_le (depth_over (drop (place_of n x) x.marks)) 400) (are_least T n x e)
+node_result : {T : Table} {e : Exp} {n : NodeLine} {ts : List Grown} {x : Stack} {ends : Ends e n.level ts} (p : Position) → NodeFits T n ts x e ends → node_step T n p x ≡ decided T n p x e (nat_le (depth_over (drop (place_of n x) x.marks)) 400) (are_least T n x e)
 node_result {T = T} {e = e} {n = n} {x = x} p fit =
     let at = place_of n x in
     let depth = depth_over (drop at x.marks) in
@@ -153,7 +153,7 @@ record NamesShow (names : List Name) (rs : Rules) : Type 0 where
   names_are : names ≡ map name rules
   shows : ShowsRules rs rules
 
-names_show : (T : Table) {names : List Name} {rs : Rules} (n : NodeLine) (e : Exp) (fs : List Facts) (ms : List Mark) (p : Place) (shown : Shown) → n.rules ≡ rs → AreNamed names rs → shown_for (line_node T n e fs) ms n p ≡ Ok shown → NamesShow names rs
+names_show : (T : Table) {names : List Name} {rs : Rules} (n : NodeLine) (e : Exp) (fs : List Facts) (ms : List Mark) (p : Position) (shown : Shown) → n.rules ≡ rs → AreNamed names rs → shown_for (line_node T n e fs) ms n p ≡ Ok shown → NamesShow names rs
 names_show T n e fs ms p shown h no_name k = record { rules = []; names_are = refl; shows = no_rule }
 names_show T n e fs ms p shown h (named {c = c} is) k = record { rules = chain_rules c; names_are = refl; shows = by_chain is }
 names_show T n e fs ms p shown h (wrong some none) k =
@@ -170,18 +170,18 @@ pub record NodeRight (T : Table) (n : NodeLine) (ts : List Grown) (names : List 
   pub trees : StackStands T (ends.before ++ grown e n.level rules ends.own ∷ []) y
 
 -- the fault of a node line whose form fits
-pub data NodeWrong (T : Table) (n : NodeLine) (ts : List Grown) (names : List Name) (e : Exp) (ends : Ends e n.level ts) (p : Place) : CheckFault → Type 0 where
+pub data NodeWrong (T : Table) (n : NodeLine) (ts : List Grown) (names : List Name) (e : Exp) (ends : Ends e n.level ts) (p : Position) : CheckFault → Type 0 where
   is_deep : 400 < nested e → NodeWrong T n ts names e ends p (faults.TooDeep p.line)
   is_cost : nested e ≤ 400 → ¬ AreLeast T e n.level n.costs → NodeWrong T n ts names e ends p (faults.WrongCost p.entry p.node)
   is_rule : nested e ≤ 400 → AreLeast T e n.level n.costs → ((rules : List Rule) → names ≡ map name rules → ¬ StandsBy T e n.level rules (all_shown ends.own ++ node e n.level rules ∷ [])) → NodeWrong T n ts names e ends p (faults.WrongRule p.entry p.node)
 
-stack_more : {T : Table} {e : Exp} {n : NodeLine} {ts : List Grown} {x : Stack} {ends : Ends e n.level ts} (p : Place) (rules : List Rule) (shown : Shown) → NodeFits T n ts x e ends → AreLeast T e n.level n.costs → ShowsRules n.rules rules → shown_over T n p x e ≡ Ok shown
+stack_more : {T : Table} {e : Exp} {n : NodeLine} {ts : List Grown} {x : Stack} {ends : Ends e n.level ts} (p : Position) (rules : List Rule) (shown : Shown) → NodeFits T n ts x e ends → AreLeast T e n.level n.costs → ShowsRules n.rules rules → shown_over T n p x e ≡ Ok shown
     → StackStands T (ends.before ++ grown e n.level rules ends.own ∷ []) (new_stack n x e shown) × StandsBy T e n.level rules (all_shown ends.own ++ node e n.level rules ∷ [])
 stack_more {T = T} {e = e} {n = n} {x = x} {ends = ends} p rules shown fit least shows k =
     let new = new_stands T n ends.own (drop (place_of n x) x.marks) (drop (place_of n x) x.facts) (drop (place_of n x) x.expressions) (drop (place_of n x) x.derivations) e (is_over fit least) rules shows p shown k in
     (all_stand (kept_more fit.before new.0), new.1)
 
-pub node_right : {T : Table} {e : Exp} {n : NodeLine} {ts : List Grown} {x : Stack} {ends : Ends e n.level ts} (p : Place) (names : List Name) (y : Stack) → NodeFits T n ts x e ends → AreNamed names n.rules → node_step T n p x ≡ Ok y → NodeRight T n ts names e ends y
+pub node_right : {T : Table} {e : Exp} {n : NodeLine} {ts : List Grown} {x : Stack} {ends : Ends e n.level ts} (p : Position) (names : List Name) (y : Stack) → NodeFits T n ts x e ends → AreNamed names n.rules → node_step T n p x ≡ Ok y → NodeRight T n ts names e ends y
 node_right {T = T} {e = e} {n = n} {ts = ts} {x = x} {ends = ends} p names y fit are k = at (nat_le (depth_over (drop (place_of n x) x.marks)) 400) refl (are_least T n x e) refl (shown_over T n p x e) refl (sym (node_result p fit) ∙ k) where
   at : (deep : Bool) → nat_le (depth_over (drop (place_of n x) x.marks)) 400 ≡ deep → (least : Bool) → are_least T n x e ≡ least → (r : Result Shown CheckFault) → shown_over T n p x e ≡ r
       → cond deep (cond least r (Err (faults.WrongCost p.entry p.node)) >>= (λ shown. Ok (new_stack n x e shown))) (Err (faults.TooDeep p.line)) ≡ Ok y → NodeRight T n ts names e ends y
@@ -203,7 +203,7 @@ node_right {T = T} {e = e} {n = n} {ts = ts} {x = x} {ends = ends} p names y fit
   at true i false j r m k = cc
   at false i least j r m k = cc
 
-pub node_wrong : {T : Table} {e : Exp} {n : NodeLine} {ts : List Grown} {x : Stack} {ends : Ends e n.level ts} (p : Place) (names : List Name) (f : CheckFault) → NodeFits T n ts x e ends → AreNamed names n.rules → node_step T n p x ≡ Err f → NodeWrong T n ts names e ends p f
+pub node_wrong : {T : Table} {e : Exp} {n : NodeLine} {ts : List Grown} {x : Stack} {ends : Ends e n.level ts} (p : Position) (names : List Name) (f : CheckFault) → NodeFits T n ts x e ends → AreNamed names n.rules → node_step T n p x ≡ Err f → NodeWrong T n ts names e ends p f
 node_wrong {T = T} {e = e} {n = n} {ts = ts} {x = x} {ends = ends} p names f fit are k = at (nat_le (depth_over (drop (place_of n x) x.marks)) 400) refl (are_least T n x e) refl (shown_over T n p x e) refl (sym (node_result p fit) ∙ k) where
   not_deep : nat_le (depth_over (drop (place_of n x) x.marks)) 400 ≡ true → nested e ≤ 400
   not_deep i = let depth = at_most _ _ i in let same = depth_over_is fit in omega (arith, depth, same)
@@ -223,12 +223,12 @@ node_wrong {T = T} {e = e} {n = n} {ts = ts} {x = x} {ends = ends} p names f fit
     deep_so same h = grind (arith, same, h)
 
 -- a line whose rules stand is taken, with just these
-pub record NodeMade (T : Table) (n : NodeLine) (p : Place) (x : Stack) (trees : List Grown) : Type 0 where
+pub record NodeMade (T : Table) (n : NodeLine) (p : Position) (x : Stack) (trees : List Grown) : Type 0 where
   pub stack : Stack
   pub is : node_step T n p x ≡ Ok stack
   pub stands : StackStands T trees stack
 
-pub node_made : {T : Table} {e : Exp} {n : NodeLine} {ts : List Grown} {x : Stack} {ends : Ends e n.level ts} (p : Place) (names : List Name) (rules : List Rule) → NodeFits T n ts x e ends → AreNamed names n.rules → names ≡ map name rules → nested e ≤ 400 → AreLeast T e n.level n.costs
+pub node_made : {T : Table} {e : Exp} {n : NodeLine} {ts : List Grown} {x : Stack} {ends : Ends e n.level ts} (p : Position) (names : List Name) (rules : List Rule) → NodeFits T n ts x e ends → AreNamed names n.rules → names ≡ map name rules → nested e ≤ 400 → AreLeast T e n.level n.costs
     → StandsBy T e n.level rules (all_shown ends.own ++ node e n.level rules ∷ []) → NodeMade T n p x (ends.before ++ grown e n.level rules ends.own ∷ [])
 node_made {T = T} {e = e} {n = n} {ts = ts} {x = x} {ends = ends} p names rules fit are names_are depth least stands =
     let right = right_rules T n ends.own (drop (place_of n x) x.marks) (drop (place_of n x) x.facts) (drop (place_of n x) x.expressions) (drop (place_of n x) x.derivations) e (is_over fit least) names rules names_are are stands p in

@@ -3,12 +3,12 @@ use Rattle.std.proofs.Common.{◌≡◌, ℕ, ◌==◌, ◌≤◌, Bool, true, f
 use Rattle.std.specs.Prelude.{◌+◌, ◌&&◌, nat_le}
 use Rattle.bc_cert_defs.specs.declared.check_fault.CheckFault.{CheckFault}
 use Rattle.bc_cert_defs.specs.Verdict.{Judged}
-use Rattle.bc_cert_trees.specs.declared.place.Place.{Place}
+use Rattle.bc_cert_trees.specs.declared.position.Position.{Position}
 use Rattle.bc_cert_trees.specs.Stacks.{◌>>=◌}
 use Rattle.bc_cert_laws.specs.Faults.{lines}
 
 -- the place of the next line, behind these lines, these entries and so many nodes
-pub record StandsBehind (text : List ℕ) (js : List Judged) (nodes : ℕ) (p : Place) : Type 0 where
+pub record StandsBehind (text : List ℕ) (js : List Judged) (nodes : ℕ) (p : Position) : Type 0 where
   pub line : p.line ≡ lines text + 1
   pub entry : p.entry ≡ length js
   pub node : p.node ≡ nodes

@@ -31,7 +31,7 @@ use Rattle.bc_cert_write.specs.Lines.{line}
 use Rattle.bc_cert_lines.specs.declared.lines.RootLine.{RootLine}
 use Rattle.bc_cert_lines.specs.declared.lines.RootLine.TheVariants as lines
 use Rattle.bc_cert_trees.specs.declared.mark.Mark.{Mark}
-use Rattle.bc_cert_trees.specs.declared.place.Place.{Place}
+use Rattle.bc_cert_trees.specs.declared.position.Position.{Position}
 use Rattle.bc_cert_trees.specs.Marks.{has_aim}
 use Rattle.bc_cert_trees.specs.Sides.{words_at, words_by, least_of, same}
 use Rattle.bc_cert_trees.specs.Stacks.{◌>>=◌, Stack, with_whole, One, one_among, one_tree, two_among, two_trees, Rooted, wrong_rule, value_root, test_root, words_on, side, sides_show, assigned, with_least, assign_root, root_step}
@@ -87,7 +87,7 @@ pub record RootRight (T : Table) (rl : RootLine) (ts : List Grown) : Type 0 wher
   pub stands : RootStands T root (all_shown ts) (root_text rl) derivation
 
 -- the fault of a root line
-pub data RootWrong (rl : RootLine) (ts : List Grown) (p : Place) : CheckFault → Type 0 where
+pub data RootWrong (rl : RootLine) (ts : List Grown) (p : Position) : CheckFault → Type 0 where
   no_derivation : {r : Root} → IsRootOf rl ts r → RootWrong rl ts p (faults.WrongRule p.entry p.node)
   no_root : ((r : Root) → ¬ IsRootOf rl ts r) → RootWrong rl ts p (faults.Line p.line)
 
@@ -121,13 +121,13 @@ refused_so true x e f h = cc
 refused_so false x e f h = err_same h
 
 -- a value
-value_made : {T : Table} (t : Grown) (o : One) (p : Place) → OneStands T t o → (d : Derives T t.expression (Gets Any)) → t.shown ≡ shown d t.level → IsFewest d t.level → value_root p o ≡ Ok (rooted_by (value {s = t.level} d))
+value_made : {T : Table} (t : Grown) (o : One) (p : Position) → OneStands T t o → (d : Derives T t.expression (Gets Any)) → t.shown ≡ shown d t.level → IsFewest d t.level → value_root p o ≡ Ok (rooted_by (value {s = t.level} d))
 value_made t o p h d i k =
     let has = h.has (Gets Any) d i k in
     ap (λ b. cond b (Ok (record { root = Value o.mark.level o.expression; derivation = o.derivation; words = o.facts.costs.any })) (wrong_rule p)) has.0
     ∙ rooted_same (value_same h.level h.expression) (sym has.1) (sym (least_cost t.level o.facts.costs.any o.facts.costs d h.part.costs refl k))
 
-value_right : {T : Table} (t : Grown) (o : One) (p : Place) (y : Rooted) → OneStands T t o → (b : Bool) → has_aim o.mark.shown (Gets Any) ≡ b → cond b (Ok (record { root = Value o.mark.level o.expression; derivation = o.derivation; words = o.facts.costs.any })) (wrong_rule p) ≡ Ok y
+value_right : {T : Table} (t : Grown) (o : One) (p : Position) (y : Rooted) → OneStands T t o → (b : Bool) → has_aim o.mark.shown (Gets Any) ≡ b → cond b (Ok (record { root = Value o.mark.level o.expression; derivation = o.derivation; words = o.facts.costs.any })) (wrong_rule p) ≡ Ok y
     → RootRight T lines.Value (t ∷ [])
 value_right t o p y h true i k =
     let s = h.shows (Gets Any) i in
@@ -140,13 +140,13 @@ value_right t o p y h true i k =
 value_right t o p y h false i k = cc
 
 -- a test
-test_made : {T : Table} (sense : Bool) (t : Grown) (o : One) (p : Place) → OneStands T t o → (d : Derives T t.expression (Jumps sense)) → t.shown ≡ shown d t.level → IsFewest d t.level → test_root sense p o ≡ Ok (rooted_by (test {s = t.level} d))
+test_made : {T : Table} (sense : Bool) (t : Grown) (o : One) (p : Position) → OneStands T t o → (d : Derives T t.expression (Jumps sense)) → t.shown ≡ shown d t.level → IsFewest d t.level → test_root sense p o ≡ Ok (rooted_by (test {s = t.level} d))
 test_made sense t o p h d i k =
     let has = h.has (Jumps sense) d i k in
     ap (λ b. cond b (Ok (record { root = Test o.mark.level sense o.expression; derivation = o.derivation; words = words_on sense o.facts })) (wrong_rule p)) has.0
     ∙ rooted_same (test_same sense h.level h.expression) (sym has.1) (sym (least_cost t.level (words_on sense o.facts) o.facts.costs d h.part.costs (words_on_is sense o.facts) k))
 
-test_right : {T : Table} (sense : Bool) (t : Grown) (o : One) (p : Place) (y : Rooted) → OneStands T t o → (b : Bool) → has_aim o.mark.shown (Jumps sense) ≡ b → cond b (Ok (record { root = Test o.mark.level sense o.expression; derivation = o.derivation; words = words_on sense o.facts })) (wrong_rule p) ≡ Ok y
+test_right : {T : Table} (sense : Bool) (t : Grown) (o : One) (p : Position) (y : Rooted) → OneStands T t o → (b : Bool) → has_aim o.mark.shown (Jumps sense) ≡ b → cond b (Ok (record { root = Test o.mark.level sense o.expression; derivation = o.derivation; words = words_on sense o.facts })) (wrong_rule p) ≡ Ok y
     → RootRight T (lines.Test sense) (t ∷ [])
 test_right sense t o p y h true i k =
     let s = h.shows (Jumps sense) i in
@@ -200,7 +200,7 @@ abbrev assigned_so : Rule → ℕ → One × One → ℕ → Rooted
 assigned_so r s q n = record { root = Assign s q.0.expression q.1.expression; derivation = assigned r q.0.derivation q.1.derivation; words = n }
 
 -- a derivation of least words, with the words of the rule, is that of the step
-assign_made : {T : Table} (r : Rule) (s : ℕ) (v a : Grown) (q : One × One) (p : Place) → SidesStand T s v a q → (d : RootDerives T (Assign s v.expression a.expression)) → ((other : RootDerives T (Assign s v.expression a.expression)) → root_cost d ≤ root_cost other)
+assign_made : {T : Table} (r : Rule) (s : ℕ) (v a : Grown) (q : One × One) (p : Position) → SidesStand T s v a q → (d : RootDerives T (Assign s v.expression a.expression)) → ((other : RootDerives T (Assign s v.expression a.expression)) → root_cost d ≤ root_cost other)
     → words_by s q.0.facts q.1.facts r ≡ Some (root_cost d) → sides_show r q.0.mark q.1.mark ≡ true → assigned r q.0.derivation q.1.derivation ≡ root_shape d → assign_root r s p q ≡ Ok (rooted_by d)
 assign_made {T = T} r s v a q p h d fewest by_rule shows shape_is =
     let vp = subst (λ l. IsPart T v.expression l q.0.facts) h.value_level h.value.part in
@@ -249,7 +249,7 @@ third_words {f = f} {g = g} s m n h i j value_words address_words =
     ∙ ap (λ x. Some (x + g.costs.any + (2 * w s + 2 * w (s + 1)))) value_words ∙ ap (λ x. Some (m + x + (2 * w s + 2 * w (s + 1)))) address_words
 
 -- each rule, from its derivation
-first_made : {T : Table} (s : ℕ) (v a : Grown) (q : One × One) (p : Place) (o : Operand) (h : operand_of a.expression ≡ Some o) (x : Derives T v.expression (Gets Any)) → SidesStand T s v a q → all_shown (v ∷ a ∷ []) ≡ shown x s ++ bare a.expression s
+first_made : {T : Table} (s : ℕ) (v a : Grown) (q : One × One) (p : Position) (o : Operand) (h : operand_of a.expression ≡ Some o) (x : Derives T v.expression (Gets Any)) → SidesStand T s v a q → all_shown (v ∷ a ∷ []) ≡ shown x s ++ bare a.expression s
     → ((other : RootDerives T (Assign s v.expression a.expression)) → root_cost (a1 {s = s} {a = a.expression} h x) ≤ root_cost other) → assign_root A1 s p q ≡ Ok (rooted_by (a1 {s = s} {a = a.expression} h x))
 first_made {T = T} s v a q p o h x sides nodes fewest =
     let at = level_of_operand a.expression o s h in
@@ -259,7 +259,7 @@ first_made {T = T} s v a q p o h x sides nodes fewest =
     let is_bare : q.1.mark.is_bare ≡ true = sides.address.bare_from (cut.1 ∙ ap (λ l. bare a.expression l) (sym (sides.address_level ∙ at))) in
     assign_made A1 s v a q p sides (a1 {s = s} {a = a.expression} h x) fewest (first_words s (cost x s) o h sides.value.part sides.address.part side.words) (both_true _ _ side.aim is_bare) (ap (λ t. by A1 (one t)) side.shape_is)
 
-second_made : {T : Table} (s : ℕ) (v a : Grown) (q : One × One) (p : Place) (h : operand_of a.expression ≡ None) (is_free : IsTrue (are_free v.expression a.expression)) (y : Derives T a.expression (Gets Any)) (x : Derives T v.expression (Gets Any)) → SidesStand T s v a q
+second_made : {T : Table} (s : ℕ) (v a : Grown) (q : One × One) (p : Position) (h : operand_of a.expression ≡ None) (is_free : IsTrue (are_free v.expression a.expression)) (y : Derives T a.expression (Gets Any)) (x : Derives T v.expression (Gets Any)) → SidesStand T s v a q
     → all_shown (v ∷ a ∷ []) ≡ shown x (s + 1) ++ shown y (s + 1) → ((other : RootDerives T (Assign s v.expression a.expression)) → root_cost (a2 {s = s} {a = a.expression} h is_free y x) ≤ root_cost other) → assign_root A2 s p q ≡ Ok (rooted_by (a2 {s = s} {a = a.expression} h is_free y x))
 second_made {T = T} s v a q p h is_free y x sides nodes fewest =
     let at = level_of_none a.expression s h in
@@ -271,7 +271,7 @@ second_made {T = T} s v a q p h is_free y x sides nodes fewest =
     assign_made A2 s v a q p sides (a2 {s = s} {a = a.expression} h is_free y x) fewest (second_words s (cost x (s + 1)) (cost y (s + 1)) h is_free sides.value.part sides.address.part side_x.words side_y.words) (both_true _ _ side_x.aim side_y.aim)
     (ap (λ t. by A2 (two t q.0.derivation)) side_y.shape_is ∙ ap (λ t. by A2 (two (shape y) t)) side_x.shape_is)
 
-third_made : {T : Table} (s : ℕ) (v a : Grown) (q : One × One) (p : Place) (h : operand_of a.expression ≡ None) (x : Derives T v.expression (Gets Any)) (y : Derives T a.expression (Gets Any)) → SidesStand T s v a q
+third_made : {T : Table} (s : ℕ) (v a : Grown) (q : One × One) (p : Position) (h : operand_of a.expression ≡ None) (x : Derives T v.expression (Gets Any)) (y : Derives T a.expression (Gets Any)) → SidesStand T s v a q
     → all_shown (v ∷ a ∷ []) ≡ shown x (s + 1) ++ shown y (s + 1) → ((other : RootDerives T (Assign s v.expression a.expression)) → root_cost (a3 {s = s} {a = a.expression} h x y) ≤ root_cost other) → assign_root A3 s p q ≡ Ok (rooted_by (a3 {s = s} {a = a.expression} h x y))
 third_made {T = T} s v a q p h x y sides nodes fewest =
     let at = level_of_none a.expression s h in
@@ -292,7 +292,7 @@ names_differ m n s i j h k = at (sym (one m i) ∙ k ∙ one n j) where
   at : ¬ (line (82 ∷ []) ((65 ∷ (48 + m) ∷ []) ∷ decimal s ∷ []) ≡ line (82 ∷ []) ((65 ∷ (48 + n) ∷ []) ∷ decimal s ∷ []))
   at e = let k : 48 + m ≡ 48 + n = cc in h (omega (arith, k))
 
-assignment_made : {T : Table} (r : Rule) (s : ℕ) (v a : Grown) (q : One × One) (p : Place) → IsAssignment r → SidesStand T s v a q → (d : RootDerives T (Assign s v.expression a.expression))
+assignment_made : {T : Table} (r : Rule) (s : ℕ) (v a : Grown) (q : One × One) (p : Position) → IsAssignment r → SidesStand T s v a q → (d : RootDerives T (Assign s v.expression a.expression))
     → RootStands T (Assign s v.expression a.expression) (all_shown (v ∷ a ∷ [])) (root_text (lines.Assign r s)) d → assign_root r s p q ≡ Ok (rooted_by d)
 assignment_made _ s v a q p first sides (a1 {o = o} h x) k = first_made s v a q p o h x sides k.shown k.fewest
 assignment_made _ s v a q p first sides (a2 h is_free y x) k = absurd (names_differ 1 2 s (omega arith) (omega arith) (λ e. omega (arith, e)) k.is)
@@ -312,7 +312,7 @@ record AssignmentTaken (T : Table) (r : Rule) (s : ℕ) (v a : Grown) (q : One �
   least : least_of s q.0.facts q.1.facts ≡ Some words
   shows : sides_show r q.0.mark q.1.mark ≡ true
 
-assignment_taken : {T : Table} (r : Rule) (s : ℕ) (v a : Grown) (q : One × One) (p : Place) (y : Rooted) → OneStands T v q.0 → OneStands T a q.1 → assign_root r s p q ≡ Ok y → AssignmentTaken T r s v a q
+assignment_taken : {T : Table} (r : Rule) (s : ℕ) (v a : Grown) (q : One × One) (p : Position) (y : Rooted) → OneStands T v q.0 → OneStands T a q.1 → assign_root r s p q ≡ Ok y → AssignmentTaken T r s v a q
 assignment_taken {T = T} r s v a q p y h i k =
     let levels = passed _ _ _ _ k in at (same (words_by s q.0.facts q.1.facts r) (least_of s q.0.facts q.1.facts)) refl (levels_are s v a q h i levels.0) levels.1 where
       at : (o : Option ℕ) → same (words_by s q.0.facts q.1.facts r) (least_of s q.0.facts q.1.facts) ≡ o → SidesStand T s v a q → with_least r s p q.0 q.1 o ≡ Ok y → AssignmentTaken T r s v a q
@@ -403,11 +403,11 @@ assignment_right {T = T} _ s v a q third room t =
       };
     }
 
-least_refused : (r : Rule) (s : ℕ) (p : Place) (v a : One) (o : Option ℕ) (f : CheckFault) → with_least r s p v a o ≡ Err f → faults.WrongRule p.entry p.node ≡ f
+least_refused : (r : Rule) (s : ℕ) (p : Position) (v a : One) (o : Option ℕ) (f : CheckFault) → with_least r s p v a o ≡ Err f → faults.WrongRule p.entry p.node ≡ f
 least_refused r s p v a None f h = err_same h
 least_refused r s p v a (Some n) f h = refused_so (sides_show r v.mark a.mark) _ _ _ h
 
-assignment_wrong : {T : Table} (r : Rule) (s : ℕ) (v a : Grown) (q : One × One) (p : Place) (f : CheckFault) → IsAssignment r → IsLevel s → OneStands T v q.0 → OneStands T a q.1 → assign_root r s p q ≡ Err f → RootWrong (lines.Assign r s) (v ∷ a ∷ []) p f
+assignment_wrong : {T : Table} (r : Rule) (s : ℕ) (v a : Grown) (q : One × One) (p : Position) (f : CheckFault) → IsAssignment r → IsLevel s → OneStands T v q.0 → OneStands T a q.1 → assign_root r s p q ≡ Err f → RootWrong (lines.Assign r s) (v ∷ a ∷ []) p f
 assignment_wrong {T = T} r s v a q p f is room h i k = at (q.0.mark.level == side q.1.facts.operand s && q.1.mark.level == side q.1.facts.operand s) refl k where
   over_none : (q.0.mark.level == side q.1.facts.operand s && q.1.mark.level == side q.1.facts.operand s) ≡ false → (root : Root) → ¬ IsRootOf (lines.Assign r s) (v ∷ a ∷ []) root
   over_none e root (of_assignment j l m n) = let t = levels_hold s v a q (record { value = h; address = i; value_level = m; address_level = n }) in let bad : true ≡ false = sym t ∙ e in cc
@@ -420,7 +420,7 @@ assignment_wrong {T = T} r s v a q p f is room h i k = at (q.0.mark.level == sid
   at false e k = subst (RootWrong (lines.Assign r s) (v ∷ a ∷ []) p) (err_same k) (no_root (over_none e))
 
 -- what a root line comes to over trees that stand
-pub root_made : {T : Table} (ts : List Grown) (r : Root) (rl : RootLine) (x : Stack) (p : Place) → StackStands T ts x → IsRootOf rl ts r → (d : RootDerives T r) → RootStands T r (all_shown ts) (root_text rl) d → root_step rl p x ≡ Ok (rooted_by d)
+pub root_made : {T : Table} (ts : List Grown) (r : Root) (rl : RootLine) (x : Stack) (p : Position) → StackStands T ts x → IsRootOf rl ts r → (d : RootDerives T r) → RootStands T r (all_shown ts) (root_text rl) d → root_step rl p x ≡ Ok (rooted_by d)
 root_made {T = T} _ _ _ x p h (of_value {t = t}) (value d) k = at (one_tree x) (one_of (kept T (t ∷ []) x.marks x.facts x.expressions x.derivations h)) where
   at : (o : Option One) → OneOf T (t ∷ []) o → (with_whole p o >>= (λ o. value_root p o)) ≡ Ok (rooted_by (value {s = t.level} d))
   at _ (just_one {o = o} i) = value_made t o p i d (sym (append-nil t.shown) ∙ k.shown) (fewest_value t.level d k.fewest)
@@ -434,7 +434,7 @@ root_made {T = T} _ _ _ x p h (of_assignment {v = v} {a = a} {s = s} {r = r} is 
   at _ (just_two {q = q} i j) = assignment_made r s v a q p is (record { value = i; address = j; value_level = value_level; address_level = address_level }) d k
   at _ (not_two j) = absurd (j v a refl)
 
-pub root_right : {T : Table} (ts : List Grown) (rl : RootLine) (x : Stack) (p : Place) (y : Rooted) → StackStands T ts x → RootLineIsSmall rl → root_step rl p x ≡ Ok y → RootRight T rl ts
+pub root_right : {T : Table} (ts : List Grown) (rl : RootLine) (x : Stack) (p : Position) (y : Rooted) → StackStands T ts x → RootLineIsSmall rl → root_step rl p x ≡ Ok y → RootRight T rl ts
 root_right {T = T} ts lines.Value x p y h room k = at (one_tree x) (one_of (kept T ts x.marks x.facts x.expressions x.derivations h)) k where
   at : {ts : List Grown} (o : Option One) → OneOf T ts o → (with_whole p o >>= (λ o. value_root p o)) ≡ Ok y → RootRight T lines.Value ts
   at _ (just_one {t = t} {o = o} i) k = value_right t o p y i _ refl k
@@ -448,7 +448,7 @@ root_right {T = T} ts (lines.Assign r s) x p y h room k = at (two_trees x) (two_
   at _ (just_two {t = v} {u = a} {q = q} i j) k = assignment_right r s v a q room.0 room.1 (assignment_taken r s v a q p y i j k)
   at _ (not_two j) k = cc
 
-pub root_wrong : (T : Table) (ts : List Grown) (rl : RootLine) (x : Stack) (p : Place) (f : CheckFault) → StackStands T ts x → RootLineIsSmall rl → root_step rl p x ≡ Err f → RootWrong rl ts p f
+pub root_wrong : (T : Table) (ts : List Grown) (rl : RootLine) (x : Stack) (p : Position) (f : CheckFault) → StackStands T ts x → RootLineIsSmall rl → root_step rl p x ≡ Err f → RootWrong rl ts p f
 root_wrong T ts lines.Value x p f h room k = at (one_tree x) (one_of (kept T ts x.marks x.facts x.expressions x.derivations h)) k where
   at : {ts : List Grown} (o : Option One) → OneOf T ts o → (with_whole p o >>= (λ o. value_root p o)) ≡ Err f → RootWrong lines.Value ts p f
   at _ (just_one {t = t} {o = o} i) k = subst (RootWrong lines.Value (t ∷ []) p) (refused_so (has_aim o.mark.shown (Gets Any)) _ _ _ k) (no_derivation of_value)

@@ -20,7 +20,7 @@ use Rattle.bc_cert_lines.specs.declared.lines.NodeLine.{NodeLine}
 use Rattle.bc_cert_lines.specs.declared.lines.RootLine.{RootLine}
 use Rattle.bc_cert_lines.specs.declared.lines.RootLine.TheVariants as lines
 use Rattle.bc_cert_lines.specs.Lines.{node_line, root_line}
-use Rattle.bc_cert_trees.specs.declared.place.Place.{Place}
+use Rattle.bc_cert_trees.specs.declared.position.Position.{Position}
 use Rattle.bc_cert_trees.specs.Stacks.{◌>>=◌, Stack, no_trees, Rooted, node_step, root_step}
 use Rattle.bc_cert_laws.specs.Entries.{IsNumber, nested, NodeHasRoom}
 use Rattle.bc_cert_laws.specs.Faults.{Grown, all_shown, Ends, Name, name, names_field, CostsHaveRoom, IsNodeLine, AreLeastCosts, StandsBy, RootOver, value, test, assign, RootStands, node, grown, nodes, LineFault, no_form, too_deep, wrong_cost, wrong_rule, wrong_root}
@@ -65,27 +65,27 @@ one_root of_test of_test = refl
 one_root (of_assignment is room h k) (of_assignment j more m n) = refl
 
 -- the step over a table
-abbrev noded_in : Table → Head → List ℕ → Place → State → Option NodeLine → Result State CheckFault
+abbrev noded_in : Table → Head → List ℕ → Position → State → Option NodeLine → Result State CheckFault
 noded_in T h l p st (Some n) = node_step T n p st.trees >>= (λ ts. Ok (record st { stage = at_nodes h; trees = ts; nodes = st.nodes + 1 }))
 noded_in T h l p st None = rooted h p st (root_line l)
 
-abbrev at_node : Table → Head → Place → State → NodeLine → Result State CheckFault
+abbrev at_node : Table → Head → Position → State → NodeLine → Result State CheckFault
 at_node T h p st n = node_step T n p st.trees >>= (λ ts. Ok (record st { stage = at_nodes h; trees = ts; nodes = st.nodes + 1 }))
 
-abbrev at_root : Head → Place → State → RootLine → Result State CheckFault
+abbrev at_root : Head → Position → State → RootLine → Result State CheckFault
 at_root h p st r = root_step r p st.trees >>= (λ x. Ok (record st { stage = at_code h x; trees = no_trees }))
 
-table_so : {T : Table} (h : Head) (l : List ℕ) (p : Place) (st : State) (o : Option NodeLine) → st.table ≡ T → noded h l p st o ≡ noded_in T h l p st o
+table_so : {T : Table} (h : Head) (l : List ℕ) (p : Position) (st : State) (o : Option NodeLine) → st.table ≡ T → noded h l p st o ≡ noded_in T h l p st o
 table_so h l p st None k = refl
 table_so h l p st (Some n) k = ap (λ T. at_node T h p st n) k
 
-node_so : {T : Table} (h : Head) (l : List ℕ) (p : Place) (st : State) (n : NodeLine) → st.table ≡ T → node_line l ≡ Some n → within_step h l p st ≡ at_node T h p st n
+node_so : {T : Table} (h : Head) (l : List ℕ) (p : Position) (st : State) (n : NodeLine) → st.table ≡ T → node_line l ≡ Some n → within_step h l p st ≡ at_node T h p st n
 node_so {T = T} h l p st n k i = table_so h l p st (node_line l) k ∙ ap (noded_in T h l p st) i
 
-root_so : (h : Head) (l : List ℕ) (p : Place) (st : State) (r : RootLine) → node_line l ≡ None → root_line l ≡ Some r → within_step h l p st ≡ at_root h p st r
+root_so : (h : Head) (l : List ℕ) (p : Position) (st : State) (r : RootLine) → node_line l ≡ None → root_line l ≡ Some r → within_step h l p st ≡ at_root h p st r
 root_so h l p st r i j = ap (noded h l p st) i ∙ ap (rooted h p st) j
 
-no_line_so : (h : Head) (l : List ℕ) (p : Place) (st : State) → node_line l ≡ None → root_line l ≡ None → within_step h l p st ≡ Err (faults.Line p.line)
+no_line_so : (h : Head) (l : List ℕ) (p : Position) (st : State) → node_line l ≡ None → root_line l ≡ None → within_step h l p st ≡ Err (faults.Line p.line)
 no_line_so h l p st i j = ap (noded h l p st) i ∙ ap (rooted h p st) j
 
 -- a step that failed
@@ -141,7 +141,7 @@ node_room {e = e} {n = n} rules form read least depth =
       cost_room (Jumps false) = read.costs.on_false
       cost_room (Jumps true) = read.costs.on_true
 
-node_taken : {T : Table} (ts : List Grown) (st after : State) (h : Head) (l : List ℕ) (p : Place) (n : NodeLine) → StackStands T ts st.trees → node_line l ≡ Some n → at_node T h p st n ≡ Ok after → WithinTaken T ts h l st after
+node_taken : {T : Table} (ts : List Grown) (st after : State) (h : Head) (l : List ℕ) (p : Position) (n : NodeLine) → StackStands T ts st.trees → node_line l ≡ Some n → at_node T h p st n ≡ Ok after → WithinTaken T ts h l st after
 node_taken {T = T} ts st after h l p n stands i k =
     let b = bound (node_step T n p st.trees) (λ ts. Ok (record st { stage = at_nodes h; trees = ts; nodes = st.nodes + 1 })) after k in
     at b.value b.was (sym (ok_same b.is)) (node_decided n ts st.trees p (kept T ts st.trees.marks st.trees.facts st.trees.expressions st.trees.derivations stands)) where
@@ -153,7 +153,7 @@ node_taken {T = T} ts st after h l p n stands i k =
           let right = node_right p read.names y fit read.rules was in
           a_node e n.level right.rules ends (node_room right.rules form read right.least right.depth) right.stands ((is_node_line form read).is ∙ node_text right.rules right.least right.names_are) y right.trees is
 
-root_taken : {T : Table} (ts : List Grown) (st after : State) (h : Head) (l : List ℕ) (p : Place) (r : RootLine) → StackStands T ts st.trees → root_line l ≡ Some r → at_root h p st r ≡ Ok after → WithinTaken T ts h l st after
+root_taken : {T : Table} (ts : List Grown) (st after : State) (h : Head) (l : List ℕ) (p : Position) (r : RootLine) → StackStands T ts st.trees → root_line l ≡ Some r → at_root h p st r ≡ Ok after → WithinTaken T ts h l st after
 root_taken {T = T} ts st after h l p r stands i k =
     let b = bound (root_step r p st.trees) (λ x. Ok (record st { stage = at_code h x; trees = no_trees })) after k in
     let read = root_read l r i in
@@ -163,7 +163,7 @@ root_taken {T = T} ts st after h l p r stands i k =
     a_root right.root right.derivation (subst (RootOver ts right.root) (sym read.0) (root_over right.over)) (subst (λ t. RootStands T right.root (all_shown ts) t right.derivation) (sym read.0) right.stands)
     (sym (ok_same b.is) ∙ ap (λ x. record st { stage = at_code h x; trees = no_trees }) (sym same))
 
-pub within_taken : (T : Table) (ts : List Grown) (st after : State) (h : Head) (l : List ℕ) (p : Place) → st.table ≡ T → StackStands T ts st.trees → within_step h l p st ≡ Ok after → WithinTaken T ts h l st after
+pub within_taken : (T : Table) (ts : List Grown) (st after : State) (h : Head) (l : List ℕ) (p : Position) → st.table ≡ T → StackStands T ts st.trees → within_step h l p st ≡ Ok after → WithinTaken T ts h l st after
 within_taken T ts st after h l p t stands k = at (node_line l) refl (root_line l) refl where
   at : (o : Option NodeLine) → node_line l ≡ o → (r : Option RootLine) → root_line l ≡ r → WithinTaken T ts h l st after
   at (Some n) i r j = node_taken ts st after h l p n stands i (sym (node_so h l p st n t i) ∙ k)
@@ -194,7 +194,7 @@ other_root l {ts = ts} {said = said} {r = r} h k =
     let over = line_over k in subst (λ q. IsRootOf q ts r) (some_same (sym (root_back l over.said over.small over.is) ∙ h)) over.over
 
 -- the fault of a line
-node_fault : (text : List ℕ) {T : Table} (js : List Judged) (ts : List Grown) (st : State) (h : Head) (l : List ℕ) (p : Place) (f : CheckFault) (n : NodeLine) → StandsBehind text js (length (all_shown ts)) p → StackStands T ts st.trees → node_line l ≡ Some n
+node_fault : (text : List ℕ) {T : Table} (js : List Judged) (ts : List Grown) (st : State) (h : Head) (l : List ℕ) (p : Position) (f : CheckFault) (n : NodeLine) → StandsBehind text js (length (all_shown ts)) p → StackStands T ts st.trees → node_line l ≡ Some n
     → node_step T n p st.trees ≡ Err f → LineFault text (nodes T js h ts) (l ++ 10 ∷ []) f
 node_fault text {T = T} js ts st h l p f n place stands i k = at (node_decided n ts st.trees p (kept T ts st.trees.marks st.trees.facts st.trees.expressions st.trees.derivations stands)) where
   found : {e : Exp} (ends : Ends e n.level ts) (form : n.form ≡ own_form e) (read : NodeRead n l) (g : CheckFault) → NodeWrong T n ts read.names e ends p g → LineFault text (nodes T js h ts) (l ++ 10 ∷ []) g
@@ -214,7 +214,7 @@ node_fault text {T = T} js ts st h l p f n place stands i k = at (node_decided n
       let fit = fits_of_ends n ts st.trees ends (kept T ts st.trees.marks st.trees.facts st.trees.expressions st.trees.derivations stands) form in
       found ends form read f (node_wrong p read.names f fit read.rules k)
 
-root_fault : (text : List ℕ) {T : Table} (js : List Judged) (ts : List Grown) (st : State) (h : Head) (l : List ℕ) (p : Place) (f : CheckFault) (said : RootLine) → StandsBehind text js (length (all_shown ts)) p → StackStands T ts st.trees → node_line l ≡ None
+root_fault : (text : List ℕ) {T : Table} (js : List Judged) (ts : List Grown) (st : State) (h : Head) (l : List ℕ) (p : Position) (f : CheckFault) (said : RootLine) → StandsBehind text js (length (all_shown ts)) p → StackStands T ts st.trees → node_line l ≡ None
     → root_line l ≡ Some said → root_step said p st.trees ≡ Err f → LineFault text (nodes T js h ts) (l ++ 10 ∷ []) f
 root_fault text {T = T} js ts st h l p f said place stands i j k = let read = root_read l said j in at read f k (root_wrong T ts said st.trees p f stands read.1 k) where
   at : (l ++ 10 ∷ [] ≡ root_text said) × RootLineIsSmall said → (g : CheckFault) → root_step said p st.trees ≡ Err g → RootWrong said ts p g → LineFault text (nodes T js h ts) (l ++ 10 ∷ []) g
@@ -225,7 +225,7 @@ root_fault text {T = T} js ts st h l p f said place stands i j k = let read = ro
         made m = cc
   at read _ k (no_root none) = subst (LineFault text (nodes T js h ts) (l ++ 10 ∷ [])) (ap faults.Line (sym place.line)) (no_form (λ e s c names ends. unread_node l i) (λ r over. none r (other_root l j over)))
 
-pub within_fault : (text : List ℕ) (T : Table) (js : List Judged) (ts : List Grown) (st : State) (h : Head) (l : List ℕ) (p : Place) (f : CheckFault) → StandsBehind text js (length (all_shown ts)) p → st.table ≡ T → StackStands T ts st.trees
+pub within_fault : (text : List ℕ) (T : Table) (js : List Judged) (ts : List Grown) (st : State) (h : Head) (l : List ℕ) (p : Position) (f : CheckFault) → StandsBehind text js (length (all_shown ts)) p → st.table ≡ T → StackStands T ts st.trees
     → within_step h l p st ≡ Err f → LineFault text (nodes T js h ts) (l ++ 10 ∷ []) f
 within_fault text T js ts st h l p f place t stands k = at (node_line l) refl (root_line l) refl where
   at : (o : Option NodeLine) → node_line l ≡ o → (r : Option RootLine) → root_line l ≡ r → LineFault text (nodes T js h ts) (l ++ 10 ∷ []) f
@@ -235,12 +235,12 @@ within_fault text T js ts st h l p f place t stands k = at (node_line l) refl (r
       subst (LineFault text (nodes T js h ts) (l ++ 10 ∷ [])) (ap faults.Line (sym place.line) ∙ err_same (sym (no_line_so h l p st i j) ∙ k)) (no_form (λ e s c names ends. unread_node l i) (λ r. unread_root l j))
 
 -- a node line is taken where it is right
-record NodeTaken (T : Table) (ts : List Grown) (st : State) (h : Head) (l : List ℕ) (p : Place) (trees : List Grown) : Type 0 where
+record NodeTaken (T : Table) (ts : List Grown) (st : State) (h : Head) (l : List ℕ) (p : Position) (trees : List Grown) : Type 0 where
   stack : Stack
   stands : StackStands T trees stack
   is : within_step h l p st ≡ Ok (record st { stage = at_nodes h; trees = stack; nodes = st.nodes + 1 })
 
-node_so_made : {T : Table} {e : Exp} (ts : List Grown) (st : State) (h : Head) (l : List ℕ) (p : Place) (n : NodeLine) (rules : List Rule) → st.table ≡ T → StackStands T ts st.trees → node_line l ≡ Some n → n.form ≡ own_form e → AreNamed (map name rules) n.rules → nested e ≤ 400
+node_so_made : {T : Table} {e : Exp} (ts : List Grown) (st : State) (h : Head) (l : List ℕ) (p : Position) (n : NodeLine) (rules : List Rule) → st.table ≡ T → StackStands T ts st.trees → node_line l ≡ Some n → n.form ≡ own_form e → AreNamed (map name rules) n.rules → nested e ≤ 400
     → (ends : Ends e n.level ts) → AreLeast T e n.level n.costs → StandsBy T e n.level rules (all_shown ends.own ++ node e n.level rules ∷ []) → NodeTaken T ts st h l p (ends.before ++ grown e n.level rules ends.own ∷ [])
 node_so_made {T = T} ts st h l p n rules t stands i form are depth ends least by_rules =
     let fit = fits_of_ends n ts st.trees ends (kept T ts st.trees.marks st.trees.facts st.trees.expressions st.trees.derivations stands) form in
@@ -259,7 +259,7 @@ costs_room least room =
 node_line_of : {T : Table} {e : Exp} {s : ℕ} {c : Costs} (l : List ℕ) (rules : List Rule) → AreLeast T e s c → NodeHasRoom T (node e s rules) → l ++ 10 ∷ [] ≡ line_of_node T (node e s rules) → IsNodeLine e s c (map name rules) (l ++ 10 ∷ [])
 node_line_of l rules least room text = record { level = room.level; number = room.number; costs = costs_room least room; all_names = rules_are_names rules; is = text ∙ sym (node_text rules least refl) }
 
-pub within_node : (T : Table) (ts : List Grown) (st : State) (h : Head) (l : List ℕ) (p : Place) (e : Exp) (s : ℕ) (rules : List Rule) → st.table ≡ T → StackStands T ts st.trees → (ends : Ends e s ts) → NodeHasRoom T (node e s rules)
+pub within_node : (T : Table) (ts : List Grown) (st : State) (h : Head) (l : List ℕ) (p : Position) (e : Exp) (s : ℕ) (rules : List Rule) → st.table ≡ T → StackStands T ts st.trees → (ends : Ends e s ts) → NodeHasRoom T (node e s rules)
     → StandsBy T e s rules (all_shown ends.own ++ node e s rules ∷ []) → l ++ 10 ∷ [] ≡ line_of_node T (node e s rules)
     → (x : Stack) × (StackStands T (ends.before ++ grown e s rules ends.own ∷ []) x × (within_step h l p st ≡ Ok (record st { stage = at_nodes h; trees = x; nodes = st.nodes + 1 })))
 within_node T ts st h l p e s rules t stands ends room by_rules text =
@@ -274,7 +274,7 @@ within_node T ts st h l p e s rules t stands ends room by_rules text =
       at : {d : Costs} → ReadSo l e s d (map name rules) → (ends : Ends e s ts) → AreLeast T e s d → StandsBy T e s rules (all_shown ends.own ++ node e s rules ∷ []) → NodeTaken T ts st h l p (ends.before ++ grown e s rules ends.own ∷ [])
       at so = subst (Goal s) so.costs (subst (λ k. Goal k so.said.costs) so.level (node_so_made ts st h l p so.said rules t stands so.is so.form so.rules room.depth))
 
-pub within_root : (T : Table) (ts : List Grown) (st : State) (h : Head) (l : List ℕ) (p : Place) (r : Root) (d : RootDerives T r) → StackStands T ts st.trees → RootOver ts r (l ++ 10 ∷ []) → RootStands T r (all_shown ts) (l ++ 10 ∷ []) d
+pub within_root : (T : Table) (ts : List Grown) (st : State) (h : Head) (l : List ℕ) (p : Position) (r : Root) (d : RootDerives T r) → StackStands T ts st.trees → RootOver ts r (l ++ 10 ∷ []) → RootStands T r (all_shown ts) (l ++ 10 ∷ []) d
     → within_step h l p st ≡ Ok (record st { stage = at_code h (rooted_by d); trees = no_trees })
 within_root T ts st h l p r d stands over is =
     let said = line_over over in
@@ -286,7 +286,7 @@ either : {A : Type 0} (r : Result A CheckFault) (f : CheckFault) → ((x : A) �
 either (Ok x) f h k = absurd (h x refl)
 either (Err g) f h k = ap (λ z. Err z) (k g refl)
 
-node_fails : {T : Table} {e : Exp} (ts : List Grown) (st : State) (h : Head) (l : List ℕ) (p : Place) (f : CheckFault) (n : NodeLine) (names : List Name) → st.table ≡ T → StackStands T ts st.trees → node_line l ≡ Some n → n.form ≡ own_form e → AreNamed names n.rules
+node_fails : {T : Table} {e : Exp} (ts : List Grown) (st : State) (h : Head) (l : List ℕ) (p : Position) (f : CheckFault) (n : NodeLine) (names : List Name) → st.table ≡ T → StackStands T ts st.trees → node_line l ≡ Some n → n.form ≡ own_form e → AreNamed names n.rules
     → (ends : Ends e n.level ts) → ((y : Stack) → NodeRight T n ts names e ends y → ⊥) → ((g : CheckFault) → NodeWrong T n ts names e ends p g → g ≡ f) → within_step h l p st ≡ Err f
 node_fails {T = T} ts st h l p f n names t stands i form are ends not_right wrong =
     let fit = fits_of_ends n ts st.trees ends (kept T ts st.trees.marks st.trees.facts st.trees.expressions st.trees.derivations stands) form in
@@ -294,35 +294,35 @@ node_fails {T = T} ts st h l p f n names t stands i form are ends not_right wron
     ∙ ap (λ r. r >>= (λ ts. Ok (record st { stage = at_nodes h; trees = ts; nodes = st.nodes + 1 })))
     (either (node_step T n p st.trees) f (λ y k. not_right y (node_right p names y fit are k)) (λ g k. wrong g (node_wrong p names g fit are k)))
 
-deep_fault : {T : Table} {e : Exp} {n : NodeLine} {ts : List Grown} {names : List Name} {ends : Ends e n.level ts} {p : Place} {g : CheckFault} → 400 < nested e → NodeWrong T n ts names e ends p g → g ≡ faults.TooDeep p.line
+deep_fault : {T : Table} {e : Exp} {n : NodeLine} {ts : List Grown} {names : List Name} {ends : Ends e n.level ts} {p : Position} {g : CheckFault} → 400 < nested e → NodeWrong T n ts names e ends p g → g ≡ faults.TooDeep p.line
 deep_fault h (is_deep k) = refl
 deep_fault h (is_cost k not_least) = absurd (omega (arith, h, k))
 deep_fault h (is_rule k least none) = absurd (omega (arith, h, k))
 
-cost_fault : {T : Table} {e : Exp} {n : NodeLine} {ts : List Grown} {names : List Name} {ends : Ends e n.level ts} {p : Place} {g : CheckFault} → nested e ≤ 400 → ¬ AreLeast T e n.level n.costs → NodeWrong T n ts names e ends p g → g ≡ faults.WrongCost p.entry p.node
+cost_fault : {T : Table} {e : Exp} {n : NodeLine} {ts : List Grown} {names : List Name} {ends : Ends e n.level ts} {p : Position} {g : CheckFault} → nested e ≤ 400 → ¬ AreLeast T e n.level n.costs → NodeWrong T n ts names e ends p g → g ≡ faults.WrongCost p.entry p.node
 cost_fault h not_least (is_deep k) = absurd (omega (arith, h, k))
 cost_fault h not_least (is_cost k no_cost) = refl
 cost_fault h not_least (is_rule k least none) = absurd (not_least least)
 
-rule_fault : {T : Table} {e : Exp} {n : NodeLine} {ts : List Grown} {names : List Name} {ends : Ends e n.level ts} {p : Place} {g : CheckFault} → nested e ≤ 400 → AreLeast T e n.level n.costs → NodeWrong T n ts names e ends p g → g ≡ faults.WrongRule p.entry p.node
+rule_fault : {T : Table} {e : Exp} {n : NodeLine} {ts : List Grown} {names : List Name} {ends : Ends e n.level ts} {p : Position} {g : CheckFault} → nested e ≤ 400 → AreLeast T e n.level n.costs → NodeWrong T n ts names e ends p g → g ≡ faults.WrongRule p.entry p.node
 rule_fault h least (is_deep k) = absurd (omega (arith, h, k))
 rule_fault h least (is_cost k not_least) = absurd (not_least least)
 rule_fault h least (is_rule k other none) = refl
 
-too_deep_fails : {T : Table} {e : Exp} {s : ℕ} {c : Costs} {names : List Name} (ts : List Grown) (st : State) (h : Head) (l : List ℕ) (p : Place) → st.table ≡ T → StackStands T ts st.trees → Ends e s ts → IsNodeLine e s c names (l ++ 10 ∷ []) → 400 < nested e
+too_deep_fails : {T : Table} {e : Exp} {s : ℕ} {c : Costs} {names : List Name} (ts : List Grown) (st : State) (h : Head) (l : List ℕ) (p : Position) → st.table ≡ T → StackStands T ts st.trees → Ends e s ts → IsNodeLine e s c names (l ++ 10 ∷ []) → 400 < nested e
     → within_step h l p st ≡ Err (faults.TooDeep p.line)
 too_deep_fails {names = names} ts st h l p t stands ends is deep =
     let so = read_so {l = l} is in
     node_fails ts st h l p (faults.TooDeep p.line) so.said names t stands so.is so.form so.rules (ends_at so.level ends) (λ y right. let k = right.depth in omega (arith, deep, k)) (λ g wrong. deep_fault deep wrong)
 
-wrong_cost_fails : {T : Table} {e : Exp} {s : ℕ} {c : Costs} {names : List Name} (ts : List Grown) (st : State) (h : Head) (l : List ℕ) (p : Place) → st.table ≡ T → StackStands T ts st.trees → Ends e s ts → IsNodeLine e s c names (l ++ 10 ∷ []) → nested e ≤ 400 → ¬ AreLeastCosts T e s c
+wrong_cost_fails : {T : Table} {e : Exp} {s : ℕ} {c : Costs} {names : List Name} (ts : List Grown) (st : State) (h : Head) (l : List ℕ) (p : Position) → st.table ≡ T → StackStands T ts st.trees → Ends e s ts → IsNodeLine e s c names (l ++ 10 ∷ []) → nested e ≤ 400 → ¬ AreLeastCosts T e s c
     → within_step h l p st ≡ Err (faults.WrongCost p.entry p.node)
 wrong_cost_fails {T = T} {e = e} {s = s} {c = c} {names = names} ts st h l p t stands ends is depth not_least =
     let so = read_so {l = l} is in
     let none : ¬ AreLeast T e so.said.level so.said.costs = λ least. not_least (by_derivations T e s c (subst (AreLeast T e s) so.costs (subst (λ k. AreLeast T e k so.said.costs) so.level least))) in
     node_fails ts st h l p (faults.WrongCost p.entry p.node) so.said names t stands so.is so.form so.rules (ends_at so.level ends) (λ y right. none right.least) (λ g wrong. cost_fault depth none wrong)
 
-wrong_rule_fails : {T : Table} {e : Exp} {s : ℕ} {c : Costs} {names : List Name} (ts : List Grown) (st : State) (h : Head) (l : List ℕ) (p : Place) → st.table ≡ T → StackStands T ts st.trees → (ends : Ends e s ts) → IsNodeLine e s c names (l ++ 10 ∷ []) → nested e ≤ 400 → AreLeastCosts T e s c
+wrong_rule_fails : {T : Table} {e : Exp} {s : ℕ} {c : Costs} {names : List Name} (ts : List Grown) (st : State) (h : Head) (l : List ℕ) (p : Position) → st.table ≡ T → StackStands T ts st.trees → (ends : Ends e s ts) → IsNodeLine e s c names (l ++ 10 ∷ []) → nested e ≤ 400 → AreLeastCosts T e s c
     → ((rules : List Rule) → names ≡ map name rules → ¬ StandsBy T e s rules (all_shown ends.own ++ node e s rules ∷ [])) → within_step h l p st ≡ Err (faults.WrongRule p.entry p.node)
 wrong_rule_fails {T = T} {e = e} {s = s} {c = c} {names = names} ts st h l p t stands ends is depth least none = at (read_so {l = l} is) ends (by_choices T e s c least) none where
   Goal : ℕ → Costs → Type 0
@@ -333,7 +333,7 @@ wrong_rule_fails {T = T} {e = e} {s = s} {c = c} {names = names} ts st h l p t s
       subst (Goal s) so.costs (subst (λ k. Goal k so.said.costs) so.level (λ ends least none.
       node_fails ts st h l p (faults.WrongRule p.entry p.node) so.said names t stands so.is so.form so.rules ends (λ y right. none right.rules right.names_are right.stands) (λ g wrong. rule_fault depth least wrong)))
 
-wrong_root_fails : {T : Table} {r : Root} (ts : List Grown) (st : State) (h : Head) (l : List ℕ) (p : Place) → StackStands T ts st.trees → RootOver ts r (l ++ 10 ∷ []) → ((d : RootDerives T r) → ¬ RootStands T r (all_shown ts) (l ++ 10 ∷ []) d)
+wrong_root_fails : {T : Table} {r : Root} (ts : List Grown) (st : State) (h : Head) (l : List ℕ) (p : Position) → StackStands T ts st.trees → RootOver ts r (l ++ 10 ∷ []) → ((d : RootDerives T r) → ¬ RootStands T r (all_shown ts) (l ++ 10 ∷ []) d)
     → within_step h l p st ≡ Err (faults.WrongRule p.entry p.node)
 wrong_root_fails {T = T} {r = r} ts st h l p stands over none =
     let said = line_over over in
@@ -350,7 +350,7 @@ wrong_root_fails {T = T} {r = r} ts st h l p stands over none =
       wrong over (no_derivation other) = refl
       wrong over (no_root none) = absurd (none r over)
 
-no_form_fails : {T : Table} (ts : List Grown) (st : State) (h : Head) (l : List ℕ) (p : Place) → st.table ≡ T → StackStands T ts st.trees → ((e : Exp) (s : ℕ) (c : Costs) (names : List Name) → Ends e s ts → ¬ IsNodeLine e s c names (l ++ 10 ∷ [])) → ((r : Root) → ¬ RootOver ts r (l ++ 10 ∷ []))
+no_form_fails : {T : Table} (ts : List Grown) (st : State) (h : Head) (l : List ℕ) (p : Position) → st.table ≡ T → StackStands T ts st.trees → ((e : Exp) (s : ℕ) (c : Costs) (names : List Name) → Ends e s ts → ¬ IsNodeLine e s c names (l ++ 10 ∷ [])) → ((r : Root) → ¬ RootOver ts r (l ++ 10 ∷ []))
     → within_step h l p st ≡ Err (faults.Line p.line)
 no_form_fails {T = T} ts st h l p t stands no_nodes no_roots = at (node_line l) refl (root_line l) refl where
   decision : (n : NodeLine) → node_line l ≡ Some n → NodeDecision T n ts st.trees p → node_step T n p st.trees ≡ Err (faults.Line p.line)
@@ -374,10 +374,10 @@ no_form_fails {T = T} ts st h l p t stands no_nodes no_roots = at (node_line l) 
       (λ g k. fault said g read.0 (root_wrong T ts said st.trees p g stands read.1 k)))
   at None i None j = no_line_so h l p st i j
 
-wrong_at : {js : List Judged} {text : List ℕ} {p : Place} (ts : List Grown) → StandsBehind text js (length (all_shown ts)) p → faults.WrongRule p.entry p.node ≡ faults.WrongRule (length js) (length (all_shown ts))
+wrong_at : {js : List Judged} {text : List ℕ} {p : Position} (ts : List Grown) → StandsBehind text js (length (all_shown ts)) p → faults.WrongRule p.entry p.node ≡ faults.WrongRule (length js) (length (all_shown ts))
 wrong_at {p = p} ts place = ap (faults.WrongRule p.entry) place.node ∙ ap (λ x. faults.WrongRule x (length (all_shown ts))) place.entry
 
-pub within_fails : (text : List ℕ) (T : Table) (js : List Judged) (ts : List Grown) (st : State) (h : Head) (l m : List ℕ) (p : Place) (f : CheckFault) → StandsBehind text js (length (all_shown ts)) p → st.table ≡ T → StackStands T ts st.trees
+pub within_fails : (text : List ℕ) (T : Table) (js : List Judged) (ts : List Grown) (st : State) (h : Head) (l m : List ℕ) (p : Position) (f : CheckFault) → StandsBehind text js (length (all_shown ts)) p → st.table ≡ T → StackStands T ts st.trees
     → m ≡ l ++ 10 ∷ [] → LineFault text (nodes T js h ts) m f → within_step h l p st ≡ Err f
 within_fails text T js ts st h l m p f place t stands i (no_form no_nodes no_roots) =
     no_form_fails ts st h l p t stands (λ e s c names ends is. no_nodes e s c names ends (subst (IsNodeLine e s c names) (sym i) is)) (λ r over. no_roots r (subst (RootOver ts r) (sym i) over))

@@ -16,7 +16,7 @@ use Rattle.bc_cert_defs.specs.declared.head.Head.{Head}
 use Rattle.bc_cert_lines.specs.declared.lines.NodeLine.{NodeLine}
 use Rattle.bc_cert_lines.specs.declared.lines.RootLine.{RootLine}
 use Rattle.bc_cert_lines.specs.Lines.{header, entry_line, end_line, node_line, root_line, code_of_line}
-use Rattle.bc_cert_trees.specs.declared.place.Place.{Place}
+use Rattle.bc_cert_trees.specs.declared.position.Position.{Position}
 use Rattle.bc_cert_trees.specs.Stacks.{◌>>=◌, with_whole, Stack, no_trees, Rooted, node_step, root_step}
 
 -- what may come next
@@ -59,7 +59,7 @@ same_code (p ∷ ps) [] = false
 abbrev pub judged_with : Head → Rooted → List Piece → Judged
 judged_with h r ps = record { segment = h.segment; item = h.item; root = r.root; target = h.target; first = h.first; code = ps; words = h.words }
 
-abbrev pub code_against : Head → ℕ → List Piece → Place → List Piece → Result (Unit {0}) CheckFault
+abbrev pub code_against : Head → ℕ → List Piece → Position → List Piece → Result (Unit {0}) CheckFault
 code_against h least ps p right =
     cond (same_code ps right)
     (cond (words right == h.words && least == h.words) (Ok tt) (Err (WrongWords p.entry)))
@@ -69,17 +69,17 @@ code_against h least ps p right =
 abbrev pub right_of : Head → Rooted → Option (List Piece)
 right_of h r = cond (nat_le (h.first + root_labels_by r.root r.derivation) 65536) (Some (root_code_by r.root r.derivation h.target h.first)) None
 
-abbrev pub against_right : Head → Rooted → Place → List Piece → Option (List Piece) → Result (Unit {0}) CheckFault
+abbrev pub against_right : Head → Rooted → Position → List Piece → Option (List Piece) → Result (Unit {0}) CheckFault
 against_right h r p ps None = Err (WrongCode p.entry)
 against_right h r p ps (Some right) = code_against h r.words ps p right
 
-abbrev pub code_fits : Table → Head → Rooted → Place → List Piece → Result (Unit {0}) CheckFault
+abbrev pub code_fits : Table → Head → Rooted → Position → List Piece → Result (Unit {0}) CheckFault
 code_fits T h r p ps = cond (root_fits T r.root r.derivation) (against_right h r p ps (right_of h r)) (Err (WrongRule p.entry p.node))
 
-abbrev pub pieces_judged : Table → Head → Rooted → List ℕ → Place → Result (List Piece) CheckFault
+abbrev pub pieces_judged : Table → Head → Rooted → List ℕ → Position → Result (List Piece) CheckFault
 pieces_judged T h r line p = with_whole p (code_of_line line) >>= (λ ps. code_fits T h r p ps >>= (λ x. Ok ps))
 
-abbrev pub code_judged : Table → Head → Rooted → List ℕ → Place → Result Judged CheckFault
+abbrev pub code_judged : Table → Head → Rooted → List ℕ → Position → Result Judged CheckFault
 code_judged T h r line p = pieces_judged T h r line p >>= (λ ps. Ok (judged_with h r ps))
 
 -- the first line
@@ -91,34 +91,34 @@ abbrev pub begin_step : List ℕ → State → Result State CheckFault
 begin_step line st = begun st (header line)
 
 -- an `E` line or the `Z` line
-abbrev pub ended : Place → State → Option ℕ → Result State CheckFault
+abbrev pub ended : Position → State → Option ℕ → Result State CheckFault
 ended p st None = Err (Line p.line)
 ended p st (Some n) = cond (n == p.entry) (Ok (record st { stage = the_end })) (Err (Line p.line))
 
-abbrev pub entered : List ℕ → Place → State → Option Head → Result State CheckFault
+abbrev pub entered : List ℕ → Position → State → Option Head → Result State CheckFault
 entered line p st (Some h) = Ok (record st { stage = nodes h; trees = no_trees; nodes = 0 })
 entered line p st None = ended p st (end_line line)
 
-abbrev pub between_step : List ℕ → Place → State → Result State CheckFault
+abbrev pub between_step : List ℕ → Position → State → Result State CheckFault
 between_step line p st = entered line p st (entry_line line)
 
 -- a node line or a root line
-abbrev pub rooted : Head → Place → State → Option RootLine → Result State CheckFault
+abbrev pub rooted : Head → Position → State → Option RootLine → Result State CheckFault
 rooted h p st None = Err (Line p.line)
 rooted h p st (Some r) = root_step r p st.trees >>= (λ x. Ok (record st { stage = code h x; trees = no_trees }))
 
-abbrev pub noded : Head → List ℕ → Place → State → Option NodeLine → Result State CheckFault
+abbrev pub noded : Head → List ℕ → Position → State → Option NodeLine → Result State CheckFault
 noded h line p st (Some n) = node_step st.table n p st.trees >>= (λ ts. Ok (record st { stage = nodes h; trees = ts; nodes = st.nodes + 1 }))
 noded h line p st None = rooted h p st (root_line line)
 
-abbrev pub within_step : Head → List ℕ → Place → State → Result State CheckFault
+abbrev pub within_step : Head → List ℕ → Position → State → Result State CheckFault
 within_step h line p st = noded h line p st (node_line line)
 
 -- a code line
-abbrev pub code_step : Head → Rooted → List ℕ → Place → State → Result State CheckFault
+abbrev pub code_step : Head → Rooted → List ℕ → Position → State → Result State CheckFault
 code_step h r line p st = code_judged st.table h r line p >>= (λ j. Ok (record st { entries = st.entries ++ j ∷ []; stage = between }))
 
-abbrev pub step_at : Stage → List ℕ → Place → State → Result State CheckFault
+abbrev pub step_at : Stage → List ℕ → Position → State → Result State CheckFault
 step_at the_header line p st = begin_step line st
 step_at between line p st = between_step line p st
 step_at (nodes h) line p st = within_step h line p st
@@ -126,7 +126,7 @@ step_at (code h r) line p st = code_step h r line p st
 step_at the_end line p st = Err (Line p.line)
 
 -- a line: its number is one more than that of those before it
-abbrev pub place_of : State → Place
+abbrev pub place_of : State → Position
 place_of st = record { line = st.lines; entry = length st.entries; node = st.nodes }
 
 abbrev pub counted : State → State

@@ -12,7 +12,7 @@ use Rattle.bc_rules_defs.specs.View.{derivation}
 use Rattle.bc_cert_lines.specs.declared.lines.NodeLine.{NodeLine}
 use Rattle.bc_cert_node.specs.Form.{parts_of}
 use Rattle.bc_cert_trees.specs.declared.mark.Shown.{Shown}
-use Rattle.bc_cert_trees.specs.declared.place.Place.{Place}
+use Rattle.bc_cert_trees.specs.declared.position.Position.{Position}
 use Rattle.bc_cert_trees.specs.Wholes.{whole}
 use Rattle.bc_cert_trees.specs.Stacks.{◌>>=◌, Stack, fitting, with_whole, without_expressions, node_judged_over, put_over, AreParallel, node_whole, node_from, node_step}
 use Rattle.bc_cert_trees.specs.View.{Fails}
@@ -70,19 +70,19 @@ not_less : {A : Type 0} (a b : ℕ) (x y : A) (t : Bool) → b ≤ a → nat_lt 
 not_less a b x y true h e = absurd (let i : a < b = grind (arith, e) in omega arith)
 not_less a b x y false h e = refl
 
-pub step_from : (T : Table) (line : NodeLine) (p : Place) (st : Stack) (at : ℕ) → parts_of line.form ≤ length st.facts → at ≡ length st.facts - parts_of line.form → node_step T line p st ≡ node_from T line p st at
+pub step_from : (T : Table) (line : NodeLine) (p : Position) (st : Stack) (at : ℕ) → parts_of line.form ≤ length st.facts → at ≡ length st.facts - parts_of line.form → node_step T line p st ≡ node_from T line p st at
 step_from T line p st at h e = not_less (length st.facts) (parts_of line.form) _ _ (nat_lt (length st.facts) (parts_of line.form)) h refl ∙ ap (λ n. node_from T line p st n) (sym e)
 
-pub step_fault : (T : Table) (line : NodeLine) (p : Place) (st : Stack) (at : ℕ) (f : CheckFault) → fitting line (drop at st.marks) p ≡ Err f → node_from T line p st at ≡ Err f
+pub step_fault : (T : Table) (line : NodeLine) (p : Position) (st : Stack) (at : ℕ) (f : CheckFault) → fitting line (drop at st.marks) p ≡ Err f → node_from T line p st at ≡ Err f
 step_fault T line p st at f h = ap (λ r. r >>= (λ depth. node_whole T line p st at depth)) h
 
-pub step_whole : (T : Table) (line : NodeLine) (p : Place) (st : Stack) (at depth : ℕ) → fitting line (drop at st.marks) p ≡ Ok depth → node_from T line p st at ≡ node_whole T line p st at depth
+pub step_whole : (T : Table) (line : NodeLine) (p : Position) (st : Stack) (at depth : ℕ) → fitting line (drop at st.marks) p ≡ Ok depth → node_from T line p st at ≡ node_whole T line p st at depth
 step_whole T line p st at depth h = ap (λ r. r >>= (λ d. node_whole T line p st at d)) h
 
-pub whole_fault : (T : Table) (line : NodeLine) (p : Place) (st : Stack) (at depth : ℕ) (f : CheckFault) → with_whole p (whole line.form (drop at st.expressions)) ≡ Err f → node_whole T line p st at depth ≡ Err f
+pub whole_fault : (T : Table) (line : NodeLine) (p : Position) (st : Stack) (at depth : ℕ) (f : CheckFault) → with_whole p (whole line.form (drop at st.expressions)) ≡ Err f → node_whole T line p st at depth ≡ Err f
 whole_fault T line p st at depth f h = ap (λ r. r >>= (λ e. node_judged_over T line p (without_expressions at st) at depth e)) h
 
-pub whole_judged : (T : Table) (line : NodeLine) (p : Place) (st : Stack) (at depth : ℕ) (e : Exp) → with_whole p (whole line.form (drop at st.expressions)) ≡ Ok e → node_whole T line p st at depth ≡ node_judged_over T line p (without_expressions at st) at depth e
+pub whole_judged : (T : Table) (line : NodeLine) (p : Position) (st : Stack) (at depth : ℕ) (e : Exp) → with_whole p (whole line.form (drop at st.expressions)) ≡ Ok e → node_whole T line p st at depth ≡ node_judged_over T line p (without_expressions at st) at depth e
 whole_judged T line p st at depth e h = ap (λ r. r >>= (λ x. node_judged_over T line p (without_expressions at st) at depth x)) h
 
 -- a stack stays parallel

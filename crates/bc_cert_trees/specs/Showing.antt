@@ -20,7 +20,7 @@ use Rattle.bc_cert_lines.specs.declared.chain.Rules.TheVariants.{Taken, Named, W
 use Rattle.bc_cert_lines.specs.declared.lines.NodeLine.{NodeLine}
 use Rattle.bc_cert_trees.specs.declared.mark.Mark.{Mark}
 use Rattle.bc_cert_trees.specs.declared.mark.Shown.{Shown}
-use Rattle.bc_cert_trees.specs.declared.place.Place.{Place}
+use Rattle.bc_cert_trees.specs.declared.position.Position.{Position}
 use Rattle.bc_cert_trees.specs.Marks.{has_aim, is_some}
 
 abbrev pub has_words : Option ℕ → Option ℕ → Bool
@@ -97,16 +97,16 @@ shown_by n ms c ch =
 abbrev pub nothing_shown : Shown
 nothing_shown = record { any = false; push = false; on_false = false; on_true = false }
 
-abbrev pub where_some : Shown → Place → Result Shown CheckFault
+abbrev pub where_some : Shown → Position → Result Shown CheckFault
 where_some s p = cond (is_some s) (Ok s) (Err (WrongRule p.entry p.node))
 
-abbrev pub shown_with : Node → List Mark → Costs → Rules → Place → Result Shown CheckFault
+abbrev pub shown_with : Node → List Mark → Costs → Rules → Position → Result Shown CheckFault
 shown_with n ms c Taken p = Ok nothing_shown
 shown_with n ms c (Named ch) p = where_some (shown_by n ms c ch) p
 shown_with n ms c Wrong p = Err (WrongRule p.entry p.node)
 
-abbrev pub shown_for : Node → List Mark → NodeLine → Place → Result Shown CheckFault
+abbrev pub shown_for : Node → List Mark → NodeLine → Position → Result Shown CheckFault
 shown_for n ms line p = shown_with n ms line.costs line.rules p
 
-abbrev pub judged : Node → List Mark → NodeLine → Place → Result Shown CheckFault
+abbrev pub judged : Node → List Mark → NodeLine → Position → Result Shown CheckFault
 judged n ms line p = cond (are_costs (least_words_of n) line.costs) (shown_for n ms line p) (Err (WrongCost p.entry p.node))

@@ -21,7 +21,7 @@ use Rattle.bc_cert_lines.specs.declared.lines.RootLine.TheVariants as lines
 use Rattle.bc_cert_lines.specs.declared.lines.RootLine.{RootLine}
 use Rattle.bc_cert_trees.specs.declared.mark.Mark.{Mark}
 use Rattle.bc_cert_trees.specs.declared.mark.Shown.{Shown}
-use Rattle.bc_cert_trees.specs.declared.place.Place.{Place}
+use Rattle.bc_cert_trees.specs.declared.position.Position.{Position}
 use Rattle.bc_cert_trees.specs.Marks.{has_aim, levels_fit, depth_over, all_bare}
 use Rattle.bc_cert_trees.specs.Showing.{judged}
 use Rattle.bc_cert_trees.specs.Wholes.{whole}
@@ -48,7 +48,7 @@ pub record AreParallel (st : Stack) : Type 0 where
   pub expressions : length st.expressions ≡ length st.facts
   pub derivations : length st.derivations ≡ length st.facts
 
-abbrev pub fitting : NodeLine → List Mark → Place → Result ℕ CheckFault
+abbrev pub fitting : NodeLine → List Mark → Position → Result ℕ CheckFault
 fitting line ms p = cond (levels_fit line.level line.form ms) (cond (nat_le (depth_over ms) 400) (Ok (depth_over ms)) (Err (TooDeep p.line)))
     (Err (Line p.line))
 
@@ -73,7 +73,7 @@ new_mark line depth shown ms = record { level = line.level; depth = depth; shown
 abbrev pub new_facts : NodeLine → Exp → List Facts → Facts
 new_facts line e ps = facts_of e (calls_itself line.form || any_calls ps) line.costs
 
-abbrev pub with_whole : {A : Type 0} → Place → Option A → Result A CheckFault
+abbrev pub with_whole : {A : Type 0} → Position → Option A → Result A CheckFault
 with_whole p None = Err (Line p.line)
 with_whole p (Some e) = Ok e
 
@@ -103,18 +103,18 @@ put_over line st at depth e shown = record {
   derivations = take at st.derivations ++ derived line.rules (second_zero (drop at st.facts)) (drop at st.derivations) ∷ [];
 }
 
-abbrev pub node_judged_over : Table → NodeLine → Place → Stack → ℕ → ℕ → Exp → Result Stack CheckFault
+abbrev pub node_judged_over : Table → NodeLine → Position → Stack → ℕ → ℕ → Exp → Result Stack CheckFault
 node_judged_over T line p st at depth e = judged (line_node T line e (drop at st.facts)) (drop at st.marks) line p >>=
     (λ shown. Ok (put_over line st at depth e shown))
 
-abbrev pub node_whole : Table → NodeLine → Place → Stack → ℕ → ℕ → Result Stack CheckFault
+abbrev pub node_whole : Table → NodeLine → Position → Stack → ℕ → ℕ → Result Stack CheckFault
 node_whole T line p st at depth =
     with_whole p (whole line.form (drop at st.expressions)) >>= (λ e. node_judged_over T line p (without_expressions at st) at depth e)
 
-abbrev pub node_from : Table → NodeLine → Place → Stack → ℕ → Result Stack CheckFault
+abbrev pub node_from : Table → NodeLine → Position → Stack → ℕ → Result Stack CheckFault
 node_from T line p st at = fitting line (drop at st.marks) p >>= (λ depth. node_whole T line p st at depth)
 
-abbrev pub node_step : Table → NodeLine → Place → Stack → Result Stack CheckFault
+abbrev pub node_step : Table → NodeLine → Position → Stack → Result Stack CheckFault
 node_step T line p st = cond (nat_lt (length st.facts) (parts_of line.form)) (Err (Line p.line)) (node_from T line p st (length st.facts - parts_of line.form))
 
 -- a tree
@@ -145,10 +145,10 @@ pub record Rooted : Type 0 where
   pub derivation : Tree
   pub words : ℕ
 
-abbrev pub wrong_rule : {A : Type 0} → Place → Result A CheckFault
+abbrev pub wrong_rule : {A : Type 0} → Position → Result A CheckFault
 wrong_rule p = Err (WrongRule p.entry p.node)
 
-abbrev pub value_root : Place → One → Result Rooted CheckFault
+abbrev pub value_root : Position → One → Result Rooted CheckFault
 value_root p o = cond (has_aim o.mark.shown (Gets Any))
     (Ok (record { root = Value o.mark.level o.expression; derivation = o.derivation; words = o.facts.costs.any })) (wrong_rule p)
 
@@ -156,7 +156,7 @@ abbrev pub words_on : Bool → Facts → ℕ
 words_on false f = f.costs.on_false
 words_on true f = f.costs.on_true
 
-abbrev pub test_root : Bool → Place → One → Result Rooted CheckFault
+abbrev pub test_root : Bool → Position → One → Result Rooted CheckFault
 test_root sense p o = cond (has_aim o.mark.shown (Jumps sense))
     (Ok (record { root = Test o.mark.level sense o.expression; derivation = o.derivation; words = words_on sense o.facts })) (wrong_rule p)
 
@@ -177,20 +177,20 @@ assigned A1 v a = by A1 (one v)
 assigned A2 v a = by A2 (two a v)
 assigned r v a = by r (two v a)
 
-abbrev pub with_least : Rule → ℕ → Place → One → One → Option ℕ → Result Rooted CheckFault
+abbrev pub with_least : Rule → ℕ → Position → One → One → Option ℕ → Result Rooted CheckFault
 with_least r s p v a None = wrong_rule p
 with_least r s p v a (Some n) =
     cond (sides_show r v.mark a.mark)
     (Ok (record { root = Assign s v.expression a.expression; derivation = assigned r v.derivation a.derivation; words = n })) (wrong_rule p)
 
-abbrev pub assign_root : Rule → ℕ → Place → One × One → Result Rooted CheckFault
+abbrev pub assign_root : Rule → ℕ → Position → One × One → Result Rooted CheckFault
 assign_root r s p q =
     cond (q.0.mark.level == side q.1.facts.operand s && q.1.mark.level == side q.1.facts.operand s)
     (with_least r s p q.0 q.1 (same (words_by s q.0.facts q.1.facts r) (least_of s q.0.facts q.1.facts)))
     (Err (Line p.line))
 
 -- the root of the trees
-abbrev pub root_step : RootLine → Place → Stack → Result Rooted CheckFault
+abbrev pub root_step : RootLine → Position → Stack → Result Rooted CheckFault
 root_step lines.Value p st = with_whole p (one_tree st) >>= (λ o. value_root p o)
 root_step (lines.Test sense) p st = with_whole p (one_tree st) >>= (λ o. test_root sense p o)
 root_step (lines.Assign r s) p st = with_whole p (two_trees st) >>= (λ q. assign_root r s p q)

@@ -3,7 +3,7 @@
 
 mod mark;
 mod one;
-mod place;
+mod position;
 mod rooted;
 mod shown;
 mod sides;
@@ -11,6 +11,6 @@ mod stack;
 mod taken;
 mod whole;
 
-pub use place::Place;
+pub use position::Position;
 pub use rooted::Rooted;
 pub use stack::Stack;

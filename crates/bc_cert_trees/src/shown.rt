@@ -5,7 +5,7 @@ ghost use Rattle.bc_cert_node.specs.Node.{node as node_of};
 ghost use Rattle.bc_cert_trees.specs.Showing.{makes as makes_of, agree as agree_of, has_words as has_words_of, is_test as is_test_of, shown_by as shown_by_of, tested as tested_of, tests as tests_of, is_value as is_value_of, shown_for as shown_for_of, judged as judged_of};
 
 use crate::mark::{Mark, Shown};
-use crate::place::Place;
+use crate::position::Position;
 use bc_cert_defs::{CheckFault, Costs};
 use bc_cert_lines::{Chain, NodeLine, Rules};
 use bc_cert_node::Node;
@@ -136,7 +136,7 @@ fn shown_for(
     node: &Node,
     parts: &[Mark],
     line: &NodeLine,
-    place: Place,
+    place: Position,
 ) -> Result<Shown, CheckFault>
     ensures { result ≡ shown_for_of (node_of node.now) parts.now line.now place }
 {
@@ -164,7 +164,7 @@ pub fn judged(
     node: &Node,
     parts: &[Mark],
     line: &NodeLine,
-    place: Place,
+    place: Position,
 ) -> Result<Shown, CheckFault>
     ensures { result ≡ judged_of (node_of node.now) parts.now line.now place }
 {

@@ -10,7 +10,7 @@ ghost use Rattle.bc_cert_trees.specs.View.{stack, one as one_of, only as only_of
 
 use crate::mark::{Mark, Shown, all_bare, depth_over, levels_fit};
 use crate::one::One;
-use crate::place::Place;
+use crate::position::Position;
 use crate::rooted::Rooted;
 use crate::shown::judged;
 use crate::sides::Sides;
@@ -53,7 +53,7 @@ fn facts_from(items: &[Facts], at: usize) -> &[Facts]
 }
 
 /// The depth of a node over these parts, where their levels are right and it is not too deep.
-fn fitting(line: &NodeLine, parts: &[Mark], place: Place) -> Result<u16, CheckFault>
+fn fitting(line: &NodeLine, parts: &[Mark], place: Position) -> Result<u16, CheckFault>
     ensures { result ≡ fitting_of line.now parts.now place }
 {
     if levels_fit(line.level, line.form, parts) {
@@ -119,7 +119,7 @@ impl Stack {
         alloc: Global,
         table: Table,
         line: &NodeLine,
-        place: Place,
+        place: Position,
     ) -> Result<(), CheckFault>
         requires { AreParallel (stack self.old) }
         ensures exact { Steps (stack self.new) result (node_step table line.now place (stack self.old)) }
@@ -142,7 +142,7 @@ impl Stack {
         alloc: Global,
         line: &NodeLine,
         from: usize,
-        place: Place,
+        place: Position,
     ) -> Result<CoreExp, CheckFault>
         requires { from ≤ length self.old.expressions.items }
         ensures exact { Gives exp result (with_whole place (whole_of line.now.form (drop from (stack self.old).expressions))) }
@@ -165,7 +165,7 @@ impl Stack {
         e: CoreExp,
         from: usize,
         depth: u16,
-        place: Place,
+        place: Position,
     ) -> Result<(), CheckFault>
         requires facts { from ≤ length self.old.facts.items }
         requires marks { from ≤ length self.old.marks.items }
@@ -189,7 +189,7 @@ impl Stack {
         line: &NodeLine,
         e: &CoreExp,
         from: usize,
-        place: Place,
+        place: Position,
     ) -> Result<Shown, CheckFault>
         requires facts { from ≤ length self.now.facts.items }
         requires marks { from ≤ length self.now.marks.items }
@@ -332,7 +332,7 @@ impl Stack {
         &mut self,
         alloc: Global,
         line: RootLine,
-        place: Place,
+        place: Position,
     ) -> Result<Rooted, CheckFault>
         requires { AreParallel (stack self.old) }
         ensures { Gives rooted_of result (root_step line place (stack self.old)) }
@@ -355,7 +355,7 @@ impl Stack {
 }
 
 /// A value as root.
-fn value(one: One, place: Place) -> Result<Rooted, CheckFault>
+fn value(one: One, place: Position) -> Result<Rooted, CheckFault>
     ensures { Gives rooted_of result (value_root place (one_of one)) }
 {
     if one.mark.shown.has(Aim::Gets(Mode::Any)) {
@@ -373,7 +373,7 @@ fn value(one: One, place: Place) -> Result<Rooted, CheckFault>
 }
 
 /// A test as root.
-fn test(one: One, sense: bool, place: Place) -> Result<Rooted, CheckFault>
+fn test(one: One, sense: bool, place: Position) -> Result<Rooted, CheckFault>
     ensures { Gives rooted_of result (test_root sense place (one_of one)) }
 {
     if one.mark.shown.has(Aim::Jumps(sense)) {
@@ -449,7 +449,7 @@ fn assignment(
     level: u16,
     value: One,
     address: One,
-    place: Place,
+    place: Position,
 ) -> Result<Rooted, CheckFault>
     ensures { Gives rooted_of result (assign_root rule level place (one_of value, one_of address)) }
 {

@@ -1,7 +1,7 @@
 use crate::complaint::Fault;
 use crate::notes::Notes;
 use crate::operands::{is_plain, is_too_long, take_out};
-use bc_convert_tokens::Source;
+use bc_convert_tokens::TokenizedText;
 
 /// What was read of a chain of relations: where it begins, the indices around its last operand, and what is to be put behind it.
 #[derive(Clone, Copy)]
@@ -28,7 +28,7 @@ pub enum ChainState {
 impl Chain {
     /// Joins a relation whose operator stands at the index behind the last operand. `is_inner` says whether the chain is an
     /// operand of an operator that binds more tightly than `&`.
-    pub fn join(self, source: Source<'_>, notes: &mut Notes, is_inner: bool) -> ChainState {
+    pub fn join(self, source: TokenizedText<'_>, notes: &mut Notes, is_inner: bool) -> ChainState {
         if is_plain(source, self.from, self.to) {
             self.join_plain(source, notes, is_inner)
         } else if self.state == ChainState::Single && is_plain(source, self.at, self.from) {
@@ -40,7 +40,12 @@ impl Chain {
     }
 
     /// Joins a relation behind an operand that may be worked out twice.
-    fn join_plain(self, source: Source<'_>, notes: &mut Notes, is_inner: bool) -> ChainState {
+    fn join_plain(
+        self,
+        source: TokenizedText<'_>,
+        notes: &mut Notes,
+        is_inner: bool,
+    ) -> ChainState {
         let middle = notes.rendered(source, self.from, self.to);
         if is_too_long(middle.as_slice()) {
             notes.complain(source, self.from, Fault::TooLongToRepeat);
@@ -51,7 +56,7 @@ impl Chain {
     }
 
     /// Puts `&` and the middle in front of the operator.
-    fn link(self, source: Source<'_>, notes: &mut Notes, middle: &[u8]) {
+    fn link(self, source: TokenizedText<'_>, notes: &mut Notes, middle: &[u8]) {
         let gap: &[u8] = if source.gap(self.to).is_empty() {
             b""
         } else {
@@ -77,7 +82,7 @@ impl Chain {
     }
 
     /// Keeps the value of the middle in a variable of a VALOF.
-    fn keep(self, source: Source<'_>, notes: &mut Notes) -> ChainState {
+    fn keep(self, source: TokenizedText<'_>, notes: &mut Notes) -> ChainState {
         let middle = notes.rendered(source, self.from, self.to);
         let name = notes.fresh_name(source);
         self.put_name(source, notes, name.as_slice());
@@ -93,7 +98,7 @@ impl Chain {
     }
 
     /// Puts a variable in the place of the middle.
-    fn put_name(self, source: Source<'_>, notes: &mut Notes, name: &[u8]) {
+    fn put_name(self, source: TokenizedText<'_>, notes: &mut Notes, name: &[u8]) {
         take_out(source, notes, self.from.saturating_add(1), self.to);
         notes.clear(self.from);
         notes.replace(self.from, name);

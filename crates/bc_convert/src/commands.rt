@@ -1,11 +1,11 @@
 use crate::notes::Notes;
 use crate::operands::Operand;
-use bc_convert_tokens::Source;
+use bc_convert_tokens::TokenizedText;
 
 /// Makes of an assignment to a byte a call of PUTBYTE, whose closing bracket is still to come: `%` stands at the second
 /// index, and the sign that assigns at the third.
 pub fn put_byte_of(
-    source: Source<'_>,
+    source: TokenizedText<'_>,
     notes: &mut Notes,
     at: usize,
     percent: usize,
@@ -19,7 +19,13 @@ pub fn put_byte_of(
 
 /// Makes of an assignment with an operator one without: the operator stands behind the left side, the sign that assigns
 /// behind the operator, and the right side ends at the last index.
-pub fn put_compound(source: Source<'_>, notes: &mut Notes, at: usize, left: Operand, end: usize) {
+pub fn put_compound(
+    source: TokenizedText<'_>,
+    notes: &mut Notes,
+    at: usize,
+    left: Operand,
+    end: usize,
+) {
     let operator = left.end;
     let behind = operator.saturating_add(2);
     let sign = notes.rendered(source, operator, operator.saturating_add(1));
@@ -45,7 +51,7 @@ pub fn put_compound(source: Source<'_>, notes: &mut Notes, at: usize, left: Oper
 }
 
 /// Puts the sign that assigns in the place of an operator, and behind it the left side, which is no byte.
-fn put_cell(source: Source<'_>, notes: &mut Notes, at: usize, operator: usize) {
+fn put_cell(source: TokenizedText<'_>, notes: &mut Notes, at: usize, operator: usize) {
     let assign = operator.saturating_add(1);
     let whole = notes.rendered(source, at, operator);
     notes.replace(operator, b":=");
@@ -62,7 +68,7 @@ struct Byte {
 }
 
 /// Makes of a byte the beginning of a call of PUTBYTE, and of the operator behind it a call of GETBYTE.
-fn put_byte(source: Source<'_>, notes: &mut Notes, byte: Byte) {
+fn put_byte(source: TokenizedText<'_>, notes: &mut Notes, byte: Byte) {
     let assign = byte.operator.saturating_add(1);
     let string = notes.rendered(source, byte.at, byte.percent);
     let place = notes.rendered(source, byte.percent.saturating_add(1), byte.operator);

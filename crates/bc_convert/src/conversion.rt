@@ -11,7 +11,7 @@ use crate::reading::Reading;
 use crate::spelling::respell;
 use crate::walk::{MOST_DEPTH, Walk, items};
 use bc_convert_edits::{Replacement, apply, settle};
-use bc_convert_tokens::{Dialect, Kind, Source};
+use bc_convert_tokens::{Dialect, Kind, TokenizedText};
 use bc_word::Memory;
 use std::alloc::Global;
 
@@ -27,7 +27,7 @@ pub struct Conversion {
 }
 
 /// Labels that are used as values.
-fn find_label_values(source: Source<'_>, notes: &mut Notes) {
+fn find_label_values(source: TokenizedText<'_>, notes: &mut Notes) {
     for index in 0..source.tokens.len() {
         if is_label_value(source, notes, index) {
             notes.complain(source, index, Fault::LabelAsValue);
@@ -36,7 +36,7 @@ fn find_label_values(source: Source<'_>, notes: &mut Notes) {
 }
 
 /// Whether the token at an index is a label's name as a value.
-fn is_label_value(source: Source<'_>, notes: &Notes, index: usize) -> bool {
+fn is_label_value(source: TokenizedText<'_>, notes: &Notes, index: usize) -> bool {
     source.kind(index) == Kind::Name
         && has_label(source, notes.labels(), index)
         && !notes.is_label_or_destination(index)
@@ -44,7 +44,7 @@ fn is_label_value(source: Source<'_>, notes: &Notes, index: usize) -> bool {
 }
 
 /// Whether one of these labels has the name at an index.
-fn has_label(source: Source<'_>, labels: &[usize], index: usize) -> bool {
+fn has_label(source: TokenizedText<'_>, labels: &[usize], index: usize) -> bool {
     for label in labels {
         if source.is_same(*label, index) {
             return true;
@@ -54,7 +54,7 @@ fn has_label(source: Source<'_>, labels: &[usize], index: usize) -> bool {
 }
 
 /// Jumps past a declaration behind commands, to a label that now stands in the block of that.
-fn find_parted_jumps(source: Source<'_>, notes: &mut Notes) {
+fn find_parted_jumps(source: TokenizedText<'_>, notes: &mut Notes) {
     for index in 0..source.tokens.len() {
         if notes.is_parted(source, index) {
             notes.complain(source, index, Fault::LabelInBlock);
@@ -63,7 +63,12 @@ fn find_parted_jumps(source: Source<'_>, notes: &mut Notes) {
 }
 
 /// Calls of WRITEF that may not do here what they are to do with the header that the source gets.
-fn tell_formats(source: Source<'_>, notes: &mut Notes, options: Options<'_>, header: Header) {
+fn tell_formats(
+    source: TokenizedText<'_>,
+    notes: &mut Notes,
+    options: Options<'_>,
+    header: Header,
+) {
     if matches!(header, Header::Further) {
         return;
     }
@@ -78,7 +83,7 @@ fn tell_formats(source: Source<'_>, notes: &mut Notes, options: Options<'_>, hea
 }
 
 /// The first token that wants EXTHDR, in a source that gets a header of its own.
-fn tell_want(source: Source<'_>, notes: &mut Notes, options: Options<'_>) {
+fn tell_want(source: TokenizedText<'_>, notes: &mut Notes, options: Options<'_>) {
     for index in 0..source.tokens.len() {
         if let Some(Format::Further) = format_at(source, index, options.library) {
             return notes.complain(source, index, Fault::NoHeader);
@@ -87,7 +92,12 @@ fn tell_want(source: Source<'_>, notes: &mut Notes, options: Options<'_>) {
 }
 
 /// What there is to tell of the library, where something becomes of the source.
-fn tell_library(source: Source<'_>, notes: &mut Notes, options: Options<'_>, program: Program) {
+fn tell_library(
+    source: TokenizedText<'_>,
+    notes: &mut Notes,
+    options: Options<'_>,
+    program: Program,
+) {
     if !notes.has_changes() {
         return;
     }
@@ -101,7 +111,7 @@ fn tell_library(source: Source<'_>, notes: &mut Notes, options: Options<'_>, pro
 /// What is found in a source whose tokens are told apart, which shows this dialect by itself.
 fn found(
     alloc: Global,
-    source: Source<'_>,
+    source: TokenizedText<'_>,
     shown: Dialect,
     options: Options<'_>,
 ) -> Result<Notes, Memory> {
@@ -116,7 +126,7 @@ fn found(
 }
 
 /// What a source that shows this dialect by itself and the others of its program show together.
-fn shown_with(source: Source<'_>, shown: Dialect, options: Options<'_>) -> Program {
+fn shown_with(source: TokenizedText<'_>, shown: Dialect, options: Options<'_>) -> Program {
     match options.program {
         Some(program) => program.seen_from(shown),
         None => Program::shown(source, shown, options.library),
@@ -124,7 +134,7 @@ fn shown_with(source: Source<'_>, shown: Dialect, options: Options<'_>) -> Progr
 }
 
 /// Writes down what is found in a source of a program.
-fn find(source: Source<'_>, notes: &mut Notes, options: Options<'_>, program: Program) {
+fn find(source: TokenizedText<'_>, notes: &mut Notes, options: Options<'_>, program: Program) {
     let dialect = program.dialect;
     let header = options.header.unwrap_or(program.header());
     respell(source, notes, dialect, options, header);

@@ -2,7 +2,7 @@ use crate::complaint::Fault;
 use crate::names::is_first_free;
 use crate::notes::Notes;
 use crate::numbers::value_of_number;
-use bc_convert_tokens::{Kind, Source};
+use bc_convert_tokens::{Kind, TokenizedText};
 
 /// The names of a definition: where the first one stands, how many they are, with a comma between each two, and where the
 /// sign behind them stands.
@@ -15,7 +15,7 @@ pub struct Values {
 
 impl Values {
     /// The names of a definition the first of which stands at an index.
-    pub fn of(source: Source<'_>, first: usize, to: usize) -> Values {
+    pub fn of(source: TokenizedText<'_>, first: usize, to: usize) -> Values {
         let mut equal = first.saturating_add(1);
         let mut count: usize = 1;
         for _ in first..to {
@@ -36,7 +36,7 @@ impl Values {
 }
 
 /// Gives each name of a definition a definition of its own: the commas between their values stand at these indices.
-pub fn put_values(source: Source<'_>, notes: &mut Notes, values: Values, commas: &[usize]) {
+pub fn put_values(source: TokenizedText<'_>, notes: &mut Notes, values: Values, commas: &[usize]) {
     let mut name = values.first;
     for comma in commas {
         let sign = name.saturating_add(1);
@@ -73,7 +73,7 @@ impl Last {
 }
 
 /// What is counted on from behind an entry whose value stands between two indices.
-pub fn continued(source: Source<'_>, from: usize, to: usize) -> Option<Last> {
+pub fn continued(source: TokenizedText<'_>, from: usize, to: usize) -> Option<Last> {
     if from >= to {
         return None;
     }
@@ -97,7 +97,7 @@ fn counted_on(last: Option<Last>) -> Last {
 /// Gives a value to the entry without one at an index, of the declaration whose word stands at `word`: one more than the last
 /// one's, and where there is none 0, if it is no global. A static gets 0. Gives what is counted on from behind it.
 pub fn put_entry(
-    source: Source<'_>,
+    source: TokenizedText<'_>,
     notes: &mut Notes,
     word: usize,
     index: usize,
@@ -121,7 +121,7 @@ pub fn put_entry(
 }
 
 /// Puts a value that is counted on behind a token.
-fn put_next(source: Source<'_>, notes: &mut Notes, behind: usize, next: Last) {
+fn put_next(source: TokenizedText<'_>, notes: &mut Notes, behind: usize, next: Last) {
     match next {
         Last::Number(number) => notes.put_number_behind(behind, number),
         Last::Value { from, to, more } => {

@@ -1,7 +1,7 @@
 use crate::names::{has_routine, renamed};
 use crate::options::Renaming;
 use crate::spelling::inside;
-use bc_convert_tokens::{Kind, Source, span};
+use bc_convert_tokens::{Kind, TokenizedText, span};
 use bc_library_ext::further_bit;
 
 /// How a call of WRITEF hands over its format.
@@ -25,7 +25,11 @@ fn is_writef(word: &[u8], library: &[Renaming<'_>]) -> bool {
 
 /// The format of the call of WRITEF whose name stands at an index; `None` where no such call stands there, or where the source declares
 /// a routine of that name.
-pub fn format_at(source: Source<'_>, index: usize, library: &[Renaming<'_>]) -> Option<Format> {
+pub fn format_at(
+    source: TokenizedText<'_>,
+    index: usize,
+    library: &[Renaming<'_>],
+) -> Option<Format> {
     let opening = index.saturating_add(1);
     let format = index.saturating_add(2);
     let is_call = source.kind(index) == Kind::Name
@@ -46,7 +50,7 @@ pub fn format_at(source: Source<'_>, index: usize, library: &[Renaming<'_>]) -> 
 
 /// Whether the format behind the bracket at an index wants EXTHDR, where it is a string or a choice between strings; `None` where it is
 /// neither.
-fn seen(source: Source<'_>, opening: usize) -> Option<bool> {
+fn seen(source: TokenizedText<'_>, opening: usize) -> Option<bool> {
     let format = opening.saturating_add(1);
     if source.kind(format) == Kind::Text {
         return Some(is_further_string(source, format));
@@ -79,7 +83,7 @@ fn seen(source: Source<'_>, opening: usize) -> Option<bool> {
 }
 
 /// The bytes of the string at an index; none where none stands there.
-fn text_at(source: Source<'_>, index: usize) -> &[u8] {
+fn text_at(source: TokenizedText<'_>, index: usize) -> &[u8] {
     match source.kind(index) {
         Kind::Text => source.bytes(index),
         _ => &[],
@@ -87,7 +91,7 @@ fn text_at(source: Source<'_>, index: usize) -> &[u8] {
 }
 
 /// How many arguments stand behind the bracket at an index: a comma in no further bracket parts two, but for those of a choice.
-fn arguments(source: Source<'_>, opening: usize) -> usize {
+fn arguments(source: TokenizedText<'_>, opening: usize) -> usize {
     let mut count: usize = 1;
     let mut depth: usize = 0;
     for index in opening.saturating_add(1)..source.partner(opening) {
@@ -129,12 +133,12 @@ fn has_further_letter(format: &[u8]) -> bool {
 }
 
 /// Whether a string stands at an index which, as a format, has such a letter.
-pub fn is_further_string(source: Source<'_>, index: usize) -> bool {
+pub fn is_further_string(source: TokenizedText<'_>, index: usize) -> bool {
     has_further_letter(text_at(source, index))
 }
 
 /// The bit of the name at an index, once names of an old library have those that they have here, if EXTHDR alone has it; else 0.
-pub fn bit_at(source: Source<'_>, index: usize, library: &[Renaming<'_>]) -> u32 {
+pub fn bit_at(source: TokenizedText<'_>, index: usize, library: &[Renaming<'_>]) -> u32 {
     let word = source.bytes(index);
     if source.kind(index) != Kind::Name {
         return 0;
@@ -146,7 +150,7 @@ pub fn bit_at(source: Source<'_>, index: usize, library: &[Renaming<'_>]) -> u32
 }
 
 /// Whether a string stands behind GET and names the library's header, in either case and with any ending.
-pub fn gets_header(source: Source<'_>, index: usize) -> bool {
+pub fn gets_header(source: TokenizedText<'_>, index: usize) -> bool {
     let name = inside(source.bytes(index));
     let stem = match name.iter().position(|byte| *byte == b'.') {
         Some(dot) => span(name, 0, dot),
@@ -158,7 +162,7 @@ pub fn gets_header(source: Source<'_>, index: usize) -> bool {
 }
 
 /// Whether the library's header is all that the source gets.
-pub fn gets_header_alone(source: Source<'_>) -> bool {
+pub fn gets_header_alone(source: TokenizedText<'_>) -> bool {
     (1..source.tokens.len()).all(|index| source.kind(index - 1) != Kind::Get
         || gets_header(source, index))
 }

@@ -2,11 +2,11 @@ use crate::complaint::Fault;
 use crate::notes::Notes;
 use crate::numbers::value_of_number;
 use crate::operands::{is_plain, is_too_long};
-use bc_convert_tokens::{Kind, Source};
+use bc_convert_tokens::{Kind, TokenizedText};
 
 /// The index of the number or the character that ABS at an index stands in front of, a sign aside; `None` where it stands in front
 /// of something else.
-fn magnitude(source: Source<'_>, at: usize) -> Option<usize> {
+fn magnitude(source: TokenizedText<'_>, at: usize) -> Option<usize> {
     let next = at.saturating_add(1);
     let index = if source.kind(next) == Kind::Add {
         next.saturating_add(1)
@@ -22,7 +22,7 @@ fn magnitude(source: Source<'_>, at: usize) -> Option<usize> {
 }
 
 /// Writes down where ABS stands between two indices with no number behind it: there a constant is wanted.
-pub fn tell_absolutes(source: Source<'_>, notes: &mut Notes, from: usize, to: usize) {
+pub fn tell_absolutes(source: TokenizedText<'_>, notes: &mut Notes, from: usize, to: usize) {
     for index in from..to {
         if source.kind(index) == Kind::Abs && magnitude(source, index).is_none() {
             notes.complain(source, index, Fault::ConstantAbs);
@@ -32,7 +32,7 @@ pub fn tell_absolutes(source: Source<'_>, notes: &mut Notes, from: usize, to: us
 
 /// Whether an index stands where a constant is wanted: behind VEC, or behind TABLE and any number of its elements. What stands
 /// between is of the kinds that constants are made of.
-fn wants_constant(source: Source<'_>, index: usize) -> bool {
+fn wants_constant(source: TokenizedText<'_>, index: usize) -> bool {
     let mut closed: usize = 0;
     let mut has_comma = false;
     for back in 1..=index {
@@ -77,7 +77,7 @@ fn is_of_constant(kind: Kind) -> bool {
 }
 
 /// Takes out ABS at an index, and the sign, if one stands in front of the number at another one.
-fn drop_absolute(source: Source<'_>, notes: &mut Notes, at: usize, number: usize) {
+fn drop_absolute(source: TokenizedText<'_>, notes: &mut Notes, at: usize, number: usize) {
     for index in at..number {
         notes.replace(index, b"");
         notes.take_gap(source, index.saturating_add(1));
@@ -86,7 +86,7 @@ fn drop_absolute(source: Source<'_>, notes: &mut Notes, at: usize, number: usize
 
 /// Writes down that ABS stands at an index, and its operand behind it up to another one: the operand is worked out twice where
 /// it holds no call, and else kept in a variable of a VALOF. Of a number its sign goes.
-pub fn put_absolute(source: Source<'_>, notes: &mut Notes, at: usize, end: usize) {
+pub fn put_absolute(source: TokenizedText<'_>, notes: &mut Notes, at: usize, end: usize) {
     let start = at.saturating_add(1);
     match magnitude(source, at) {
         Some(number) if number.saturating_add(1) == end => drop_absolute(source, notes, at, number),
@@ -97,7 +97,7 @@ pub fn put_absolute(source: Source<'_>, notes: &mut Notes, at: usize, end: usize
 }
 
 /// Keeps the operand of ABS in a variable of a VALOF.
-fn put_kept(source: Source<'_>, notes: &mut Notes, at: usize, end: usize) {
+fn put_kept(source: TokenizedText<'_>, notes: &mut Notes, at: usize, end: usize) {
     let start = at.saturating_add(1);
     let name = notes.fresh_name(source);
     let name = name.as_slice();
@@ -109,7 +109,7 @@ fn put_kept(source: Source<'_>, notes: &mut Notes, at: usize, end: usize) {
 }
 
 /// Has the operand of ABS worked out twice, where its text isn't too long.
-fn put_twice(source: Source<'_>, notes: &mut Notes, at: usize, end: usize) {
+fn put_twice(source: TokenizedText<'_>, notes: &mut Notes, at: usize, end: usize) {
     let start = at.saturating_add(1);
     let bare = notes.rendered(source, start, end);
     if is_too_long(bare.as_slice()) {
@@ -123,7 +123,7 @@ fn put_twice(source: Source<'_>, notes: &mut Notes, at: usize, end: usize) {
 }
 
 /// Puts the choice between the operand of ABS and its negative in the place of both.
-fn put_choice_of(source: Source<'_>, notes: &mut Notes, at: usize, end: usize) {
+fn put_choice_of(source: TokenizedText<'_>, notes: &mut Notes, at: usize, end: usize) {
     let start = at.saturating_add(1);
     let text = notes.rendered(source, start, end);
     notes.replace(at, b"(");

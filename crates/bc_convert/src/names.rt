@@ -2,7 +2,7 @@ use crate::formats::gets_header_alone;
 use crate::library::library_name;
 use crate::numbers::{decimal, value_of_number};
 use crate::options::{Options, Renaming};
-use bc_convert_tokens::{Dialect, Kind, Source};
+use bc_convert_tokens::{Dialect, Kind, TokenizedText};
 use bc_word::Memory;
 use std::alloc::Global;
 
@@ -17,13 +17,13 @@ pub fn dotted(byte: u8) -> u8 {
 }
 
 /// Whether the name at an index stands there for the first time.
-fn is_first(source: Source<'_>, index: usize) -> bool {
+fn is_first(source: TokenizedText<'_>, index: usize) -> bool {
     let mut earlier = 0..index;
     !earlier.any(|other| source.kind(other) == Kind::Name && source.is_same(index, other))
 }
 
 /// How many other names meet the one at an index: those without an underline, and of the others those that come before it.
-fn rank(source: Source<'_>, index: usize) -> u32 {
+fn rank(source: TokenizedText<'_>, index: usize) -> u32 {
     let bytes = source.bytes(index);
     let mut rank: u32 = 0;
     let mut is_behind = false;
@@ -42,7 +42,7 @@ fn rank(source: Source<'_>, index: usize) -> u32 {
 }
 
 /// Whether a name of the source has this spelling.
-fn has_name(source: Source<'_>, bytes: &[u8]) -> bool {
+fn has_name(source: TokenizedText<'_>, bytes: &[u8]) -> bool {
     (0..source.tokens.len()).any(|index| source.kind(index) == Kind::Name
         && source.bytes(index) == bytes)
 }
@@ -61,7 +61,11 @@ fn with_dots(alloc: Global, bytes: &[u8], number: u32) -> Result<Vec<u8>, Memory
 
 /// The name at an index with dots for its underlines. Where it meets other names so, it gets a number from 2 on that no name
 /// has, and that no name before it gets.
-fn without_underlines(alloc: Global, source: Source<'_>, index: usize) -> Result<Vec<u8>, Memory> {
+fn without_underlines(
+    alloc: Global,
+    source: TokenizedText<'_>,
+    index: usize,
+) -> Result<Vec<u8>, Memory> {
     let bytes = source.bytes(index);
     let mut left = rank(source, index);
     let mut number: u32 = 1;
@@ -94,7 +98,7 @@ fn is_small(word: &[u8]) -> bool {
 }
 
 /// The library's name that the name at an index is for, in a dialect that writes it otherwise.
-fn for_library(source: Source<'_>, index: usize, dialect: Dialect) -> Option<&'static [u8]> {
+fn for_library(source: TokenizedText<'_>, index: usize, dialect: Dialect) -> Option<&'static [u8]> {
     let bytes = source.bytes(index);
     let is_meant = dialect.has_small_words || dialect.has_small_library && is_small(bytes);
     match library_name(bytes) {
@@ -104,7 +108,7 @@ fn for_library(source: Source<'_>, index: usize, dialect: Dialect) -> Option<&'s
 }
 
 /// Whether the name at an index is the number of the first global that is free, in a list of GLOBAL.
-pub fn is_first_free(source: Source<'_>, index: usize) -> bool {
+pub fn is_first_free(source: TokenizedText<'_>, index: usize) -> bool {
     index > 0
         && source.bytes(index).eq_ignore_ascii_case(b"UG")
         && source.kind(index - 1) == Kind::Colon
@@ -115,7 +119,7 @@ pub fn is_first_free(source: Source<'_>, index: usize) -> bool {
 /// What the name at an index is called here, where it is called otherwise.
 pub fn name_change(
     alloc: Global,
-    source: Source<'_>,
+    source: TokenizedText<'_>,
     index: usize,
     dialect: Dialect,
     options: Options<'_>,
@@ -131,7 +135,7 @@ pub fn name_change(
 
 /// The same, where another name is chosen for it.
 fn new_name<'o>(
-    source: Source<'_>,
+    source: TokenizedText<'_>,
     index: usize,
     dialect: Dialect,
     options: Options<'o>,
@@ -150,14 +154,14 @@ fn new_name<'o>(
 
 /// Whether the name at an index is declared somewhere: behind LET, AND, FOR or a comma among these, as a parameter, or with
 /// a number.
-pub fn is_declared(source: Source<'_>, index: usize) -> bool {
+pub fn is_declared(source: TokenizedText<'_>, index: usize) -> bool {
     (0..source.tokens.len()).any(|other| source.kind(other) == Kind::Name
         && source.is_same(index, other)
         && declares(source, other))
 }
 
 /// Whether the name at an index is declared there.
-pub fn declares(source: Source<'_>, index: usize) -> bool {
+pub fn declares(source: TokenizedText<'_>, index: usize) -> bool {
     if index == 0 {
         return false;
     }
@@ -170,7 +174,7 @@ pub fn declares(source: Source<'_>, index: usize) -> bool {
 }
 
 /// Whether a name stands in a list of GLOBAL, MANIFEST or STATIC.
-pub fn is_entry(source: Source<'_>, index: usize) -> bool {
+pub fn is_entry(source: TokenizedText<'_>, index: usize) -> bool {
     matches!(
         listing_word(source, index),
         Kind::Global | Kind::Manifest | Kind::Static
@@ -178,7 +182,7 @@ pub fn is_entry(source: Source<'_>, index: usize) -> bool {
 }
 
 /// The token in front of the section bracket that a name stands in, behind which no other section bracket stands.
-fn listing_word(source: Source<'_>, index: usize) -> Kind {
+fn listing_word(source: TokenizedText<'_>, index: usize) -> Kind {
     for back in 1..=index {
         let at = index - back;
         match source.kind(at) {
@@ -197,35 +201,35 @@ fn listing_word(source: Source<'_>, index: usize) -> Kind {
 }
 
 /// Whether a name is spelled as the one at an index.
-fn is_same_name(source: Source<'_>, index: usize, other: usize) -> bool {
+fn is_same_name(source: TokenizedText<'_>, index: usize, other: usize) -> bool {
     source.kind(other) == Kind::Name && source.is_same(index, other)
 }
 
 /// Whether a round bracket stands behind the name at an index.
-fn is_called(source: Source<'_>, index: usize) -> bool {
+fn is_called(source: TokenizedText<'_>, index: usize) -> bool {
     source.kind(index.saturating_add(1)) == Kind::OpenRound
 }
 
 /// Whether the name at an index is declared there as a routine.
-fn declares_routine(source: Source<'_>, index: usize) -> bool {
+fn declares_routine(source: TokenizedText<'_>, index: usize) -> bool {
     index > 0 && matches!(source.kind(index - 1), Kind::Let | Kind::And) && is_called(source, index)
 }
 
 /// Whether the source declares a routine of the name at an index.
-pub fn has_routine(source: Source<'_>, index: usize) -> bool {
+pub fn has_routine(source: TokenizedText<'_>, index: usize) -> bool {
     (0..source.tokens.len()).any(|other| is_same_name(source, index, other)
         && declares_routine(source, other))
 }
 
 /// Whether the name at an index is declared by MANIFEST, or is the variable of a FOR, somewhere in the source, or is set to or compared
 /// with a number other than 0.
-pub fn is_number(source: Source<'_>, index: usize) -> bool {
+pub fn is_number(source: TokenizedText<'_>, index: usize) -> bool {
     (0..source.tokens.len()).any(|other| is_same_name(source, index, other)
         && stands_as_number(source, other))
 }
 
 /// Whether the name at an index stands there as no vector's.
-fn stands_as_number(source: Source<'_>, index: usize) -> bool {
+fn stands_as_number(source: TokenizedText<'_>, index: usize) -> bool {
     let sign = index.saturating_add(1);
     let value = index.saturating_add(2);
     let is_set = matches!(
@@ -244,13 +248,13 @@ fn stands_as_number(source: Source<'_>, index: usize) -> bool {
 }
 
 /// Whether the name at an index is declared there, and not by GLOBAL.
-fn declares_own(source: Source<'_>, index: usize) -> bool {
+fn declares_own(source: TokenizedText<'_>, index: usize) -> bool {
     declares(source, index) && listing_word(source, index) != Kind::Global
 }
 
 /// Whether the name at an index is the source's own, though the library has it: a routine other than START, or what is declared
 /// otherwise than by GLOBAL and never called.
-fn is_own(source: Source<'_>, index: usize) -> bool {
+fn is_own(source: TokenizedText<'_>, index: usize) -> bool {
     let count = source.tokens.len();
     if has_routine(source, index) {
         return !source.bytes(index).eq_ignore_ascii_case(b"START");
@@ -260,7 +264,7 @@ fn is_own(source: Source<'_>, index: usize) -> bool {
 }
 
 /// Whether the tokens in front of a name, back to LET, AND or FOR, are names, commas and an opening bracket alone.
-fn is_in_heading(source: Source<'_>, index: usize) -> bool {
+fn is_in_heading(source: TokenizedText<'_>, index: usize) -> bool {
     for back in 1..=index {
         match source.kind(index - back) {
             Kind::Let | Kind::And => return true,

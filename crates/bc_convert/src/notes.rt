@@ -1,7 +1,7 @@
 use crate::complaint::{Complaint, Fault};
 use crate::numbers::decimal;
 use bc_convert_edits::Replacement;
-use bc_convert_tokens::{Kind, Source, is_name_byte};
+use bc_convert_tokens::{Kind, TokenizedText, is_name_byte};
 use bc_word::Memory;
 use std::alloc::Global;
 
@@ -161,7 +161,7 @@ impl Notes {
     }
 
     /// Takes out the blanks in front of a token, where no comment and no line break is among them.
-    pub fn take_gap(&mut self, source: Source<'_>, index: usize) {
+    pub fn take_gap(&mut self, source: TokenizedText<'_>, index: usize) {
         if index < self.slots.len() && is_plain_gap(source.gap(index)) {
             let slot = &mut self.slots[index];
             slot.takes_gap = true;
@@ -178,14 +178,14 @@ impl Notes {
     }
 
     /// Takes out a token and the blanks in front of it.
-    pub fn take_out(&mut self, source: Source<'_>, index: usize) {
+    pub fn take_out(&mut self, source: TokenizedText<'_>, index: usize) {
         self.clear(index);
         self.replace(index, &[]);
         self.take_gap(source, index);
     }
 
     /// The text of the tokens from an index up to another one as it is to be, a blank where any blanks stand.
-    pub fn rendered(&mut self, source: Source<'_>, from: usize, to: usize) -> Vec<u8> {
+    pub fn rendered(&mut self, source: TokenizedText<'_>, from: usize, to: usize) -> Vec<u8> {
         let mut whole = Vec::new(self.alloc);
         if self.render(source, from, to, &mut whole).is_err() {
             self.refuse();
@@ -196,7 +196,7 @@ impl Notes {
     /// Puts that text behind another one.
     fn render(
         &self,
-        source: Source<'_>,
+        source: TokenizedText<'_>,
         from: usize,
         to: usize,
         whole: &mut Vec<u8>,
@@ -214,7 +214,7 @@ impl Notes {
 
     /// Writes down that what begins at a token can't be converted. A nest that is too deep is written down once: where it was found
     /// first.
-    pub fn complain(&mut self, source: Source<'_>, index: usize, fault: Fault) {
+    pub fn complain(&mut self, source: TokenizedText<'_>, index: usize, fault: Fault) {
         if fault == Fault::TooDeep {
             if index < self.told_until {
                 return;
@@ -259,7 +259,7 @@ impl Notes {
 
     /// Whether the GOTO with its destination at an index stands in front of a declaration behind commands, and its label behind it
     /// in the same list.
-    pub fn is_parted(&self, source: Source<'_>, destination: usize) -> bool {
+    pub fn is_parted(&self, source: TokenizedText<'_>, destination: usize) -> bool {
         self.destinations.contains(&destination)
             && self.blocks.iter().any(|block| {
                 block.from <= destination
@@ -269,7 +269,7 @@ impl Notes {
     }
 
     /// Whether the label of a destination stands in a block, and in no bracket within it.
-    fn has_label(&self, source: Source<'_>, block: LateBlock, destination: usize) -> bool {
+    fn has_label(&self, source: TokenizedText<'_>, block: LateBlock, destination: usize) -> bool {
         self.labels.iter().any(|label| {
             block.at <= *label
                 && *label < block.to
@@ -289,7 +289,7 @@ impl Notes {
     }
 
     /// A name that the source doesn't have; an empty one where an allocation is refused.
-    pub fn fresh_name(&mut self, source: Source<'_>) -> Vec<u8> {
+    pub fn fresh_name(&mut self, source: TokenizedText<'_>) -> Vec<u8> {
         match self.next_name(source) {
             Ok(name) => name,
             Err(_) => {
@@ -300,7 +300,7 @@ impl Notes {
     }
 
     /// The name with the next number that makes it one that the source doesn't have.
-    fn next_name(&mut self, source: Source<'_>) -> Result<Vec<u8>, Memory> {
+    fn next_name(&mut self, source: TokenizedText<'_>) -> Result<Vec<u8>, Memory> {
         for _ in 0..source.tokens.len() {
             self.fresh = self.fresh.saturating_add(1);
             let name = self.numbered()?;
@@ -324,7 +324,7 @@ impl Notes {
     /// `Memory` comes where an allocation was refused, at once or before.
     pub fn finished(
         self,
-        source: Source<'_>,
+        source: TokenizedText<'_>,
     ) -> Result<(Vec<Replacement>, Vec<Complaint>), Memory> {
         if self.is_refused {
             return Err(Memory);
@@ -337,7 +337,7 @@ impl Notes {
 /// A replacement for each token that something becomes of.
 fn replacements(
     alloc: Global,
-    source: Source<'_>,
+    source: TokenizedText<'_>,
     slots: &[Slot],
 ) -> Result<Vec<Replacement>, Memory> {
     let mut replacements = Vec::new(alloc);
@@ -352,7 +352,7 @@ fn replacements(
 /// What becomes of a token, as a replacement.
 fn replacement(
     alloc: Global,
-    source: Source<'_>,
+    source: TokenizedText<'_>,
     index: usize,
     slot: &Slot,
 ) -> Result<Replacement, Memory> {
@@ -374,7 +374,7 @@ fn replacement(
 /// A token with what stands around it, and a blank where it would run into what comes next.
 fn put_apart(
     text: &mut Vec<u8>,
-    source: Source<'_>,
+    source: TokenizedText<'_>,
     index: usize,
     slot: &Slot,
 ) -> Result<(), Memory> {
@@ -386,7 +386,7 @@ fn put_apart(
 }
 
 /// Whether a new text would run into the byte behind the token.
-fn needs_blank(text: &[u8], source: Source<'_>, index: usize) -> bool {
+fn needs_blank(text: &[u8], source: TokenizedText<'_>, index: usize) -> bool {
     let last = text.last().copied();
     let next = source.text.get(source.end(index)).copied();
     match (last, next) {
@@ -415,12 +415,12 @@ fn is_plain_gap(gap: &[u8]) -> bool {
 }
 
 /// Whether a bracket that opens behind an index and in front of another one closes behind that.
-fn is_enclosed(source: Source<'_>, from: usize, index: usize) -> bool {
+fn is_enclosed(source: TokenizedText<'_>, from: usize, index: usize) -> bool {
     (from..index).any(|at| source.kind(at) == Kind::OpenSection && source.partner(at) > index)
 }
 
 /// The index behind the outermost bracket that a token stands in, or behind the token where it stands in none.
-fn nest_end(source: Source<'_>, index: usize) -> usize {
+fn nest_end(source: TokenizedText<'_>, index: usize) -> usize {
     let outermost = (0..index).find(|at| source.partner(*at) >= index && opens(source, *at));
     outermost
         .map_or(index, |at| source.partner(at))
@@ -428,11 +428,11 @@ fn nest_end(source: Source<'_>, index: usize) -> usize {
 }
 
 /// Whether a bracket opens at an index.
-fn opens(source: Source<'_>, index: usize) -> bool {
+fn opens(source: TokenizedText<'_>, index: usize) -> bool {
     matches!(source.kind(index), Kind::OpenRound | Kind::OpenSection)
 }
 
 /// Whether a token has this spelling.
-fn has_token(source: Source<'_>, bytes: &[u8]) -> bool {
+fn has_token(source: TokenizedText<'_>, bytes: &[u8]) -> bool {
     (0..source.tokens.len()).any(|index| source.bytes(index) == bytes)
 }

@@ -1,5 +1,5 @@
 use crate::complaint::Fault;
-use bc_convert_tokens::{Source, behind};
+use bc_convert_tokens::{TokenizedText, behind};
 use bc_word::Memory;
 use std::alloc::Global;
 
@@ -47,7 +47,7 @@ fn value_of_digits(base: u32, digits: &[u8]) -> Result<u32, Fault> {
 }
 
 /// The value of the number at an index, or what is wrong with it.
-pub fn value_of_number(source: Source<'_>, index: usize) -> Result<u32, Fault> {
+pub fn value_of_number(source: TokenizedText<'_>, index: usize) -> Result<u32, Fault> {
     let bytes = source.bytes(index);
     let (base, front) = base_of(bytes);
     if front >= bytes.len() {
@@ -79,7 +79,7 @@ fn written(alloc: Global, base: u32, value: u32) -> Result<String, Memory> {
 /// What becomes of the number at an index: binary ones are written in decimal digits, the others in their base.
 pub fn number_change(
     alloc: Global,
-    source: Source<'_>,
+    source: TokenizedText<'_>,
     index: usize,
 ) -> Result<NumberChange, Memory> {
     let bytes = source.bytes(index);

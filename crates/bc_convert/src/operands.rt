@@ -1,5 +1,5 @@
 use crate::notes::Notes;
-use bc_convert_tokens::{Kind, Source};
+use bc_convert_tokens::{Kind, TokenizedText};
 
 /// How an operand was read: the index behind it, and where it is a byte of a string as a whole the index of its `%`, whose
 /// change is not written down yet.
@@ -26,13 +26,13 @@ pub fn finish(notes: &mut Notes, at: usize, operand: Operand) {
 }
 
 /// Whether a token and the one behind it stand side by side.
-pub fn is_adjacent(source: Source<'_>, index: usize) -> bool {
+pub fn is_adjacent(source: TokenizedText<'_>, index: usize) -> bool {
     let next = index.saturating_add(1);
     source.kind(next) != Kind::End && source.end(index) == source.start(next)
 }
 
 /// Whether an operator stands at an index that is assigned with: `+:=` and its kin.
-pub fn is_compound(source: Source<'_>, index: usize) -> bool {
+pub fn is_compound(source: TokenizedText<'_>, index: usize) -> bool {
     let kind = source.kind(index);
     let is_operator = kind.level() > 1 || kind == Kind::Bang;
     is_operator
@@ -41,7 +41,7 @@ pub fn is_compound(source: Source<'_>, index: usize) -> bool {
 }
 
 /// The level of the dyadic operator at an index, 0 where none goes on there.
-pub fn level_at(source: Source<'_>, index: usize) -> u8 {
+pub fn level_at(source: TokenizedText<'_>, index: usize) -> u8 {
     if source.is_separated(index) || is_compound(source, index) {
         0
     } else {
@@ -50,7 +50,7 @@ pub fn level_at(source: Source<'_>, index: usize) -> u8 {
 }
 
 /// Whether a round bracket at an index encloses the arguments of a call.
-fn is_call(source: Source<'_>, index: usize) -> bool {
+fn is_call(source: TokenizedText<'_>, index: usize) -> bool {
     let before = if index == 0 {
         Kind::End
     } else {
@@ -61,7 +61,7 @@ fn is_call(source: Source<'_>, index: usize) -> bool {
 }
 
 /// Whether the tokens between two indices hold no call and no VALOF, so that they may be worked out twice.
-pub fn is_plain(source: Source<'_>, from: usize, to: usize) -> bool {
+pub fn is_plain(source: TokenizedText<'_>, from: usize, to: usize) -> bool {
     (from..to).all(|index| !is_call(source, index) && source.kind(index) != Kind::Valof)
 }
 
@@ -71,7 +71,7 @@ pub fn is_too_long(text: &[u8]) -> bool {
 }
 
 /// Takes out the tokens between two indices.
-pub fn take_out(source: Source<'_>, notes: &mut Notes, from: usize, to: usize) {
+pub fn take_out(source: TokenizedText<'_>, notes: &mut Notes, from: usize, to: usize) {
     for index in from..to {
         notes.take_out(source, index);
     }

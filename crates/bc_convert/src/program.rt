@@ -4,7 +4,7 @@ use crate::formats::{
 use crate::names::{declares, is_declared, is_entry};
 use crate::options::{Header, Renaming};
 use crate::reading::Reading;
-use bc_convert_tokens::{Dialect, Kind, Source};
+use bc_convert_tokens::{Dialect, Kind, TokenizedText};
 use bc_word::Memory;
 use std::alloc::Global;
 
@@ -42,7 +42,7 @@ impl Program {
     }
 
     /// What a source whose tokens are told apart shows.
-    pub fn shown(source: Source<'_>, dialect: Dialect, library: &[Renaming<'_>]) -> Program {
+    pub fn shown(source: TokenizedText<'_>, dialect: Dialect, library: &[Renaming<'_>]) -> Program {
         let mut program = Program {
             dialect,
             needs_further: false,
@@ -65,7 +65,7 @@ impl Program {
     }
 
     /// Takes in the name at an index.
-    fn note_name(&mut self, source: Source<'_>, index: usize, library: &[Renaming<'_>]) {
+    fn note_name(&mut self, source: TokenizedText<'_>, index: usize, library: &[Renaming<'_>]) {
         match format_at(source, index, library) {
             Some(Format::Further) => self.needs_further = true,
             Some(Format::Hidden) => self.hides_format = true,
@@ -83,7 +83,7 @@ impl Program {
     }
 
     /// Takes in the string at an index.
-    fn note_string(&mut self, source: Source<'_>, index: usize) {
+    fn note_string(&mut self, source: TokenizedText<'_>, index: usize) {
         if source.bytes(index) == b"\"EXTHDR\"".as_slice() {
             self.needs_further = true;
         }

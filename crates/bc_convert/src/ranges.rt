@@ -2,7 +2,7 @@ use crate::notes::Notes;
 use crate::numbers::{decimal, value_of_number};
 use crate::quoted::character_of;
 use crate::spelling::inside;
-use bc_convert_tokens::{Kind, Source};
+use bc_convert_tokens::{Kind, TokenizedText};
 use bc_word::Memory;
 use std::alloc::Global;
 
@@ -14,7 +14,7 @@ pub struct CaseConstant {
 }
 
 /// The constant that stands between two indices, where it is a number, a number with a sign or a character.
-pub fn case_constant(source: Source<'_>, from: usize, to: usize) -> Option<CaseConstant> {
+pub fn case_constant(source: TokenizedText<'_>, from: usize, to: usize) -> Option<CaseConstant> {
     let count = to.saturating_sub(from);
     match (count, source.kind(from)) {
         (1, Kind::Number) => Some(CaseConstant {
@@ -89,7 +89,7 @@ fn cases(alloc: Global, first: CaseConstant, last: CaseConstant) -> Result<Vec<u
 }
 
 /// Puts bytes in the place of a token, and a blank behind them where none stands there.
-pub fn replace_apart(source: Source<'_>, notes: &mut Notes, index: usize, bytes: &[u8]) {
+pub fn replace_apart(source: TokenizedText<'_>, notes: &mut Notes, index: usize, bytes: &[u8]) {
     notes.replace(index, bytes);
     let next = index.saturating_add(1);
     if source.gap(next).is_empty() {

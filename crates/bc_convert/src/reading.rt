@@ -1,4 +1,4 @@
-use bc_convert_tokens::{Dialect, Source, Token, classified, lex, partners};
+use bc_convert_tokens::{Dialect, Token, TokenizedText, classified, lex, partners};
 use bc_word::Memory;
 use std::alloc::Global;
 
@@ -17,7 +17,7 @@ impl Reading {
     }
 
     /// Tells the tokens of a text apart.
-    fn told(alloc: Global, raw: Source<'_>) -> Result<Reading, Memory> {
+    fn told(alloc: Global, raw: TokenizedText<'_>) -> Result<Reading, Memory> {
         let dialect = Dialect::of(raw);
         let tokens = classified(alloc, raw, dialect)?;
         Ok(Reading {
@@ -27,7 +27,7 @@ impl Reading {
     }
 
     /// The text that was read, as a source.
-    pub fn source<'s>(&'s self, text: &'s [u8]) -> Source<'s> {
+    pub fn source<'s>(&'s self, text: &'s [u8]) -> TokenizedText<'s> {
         self.paired.source(text)
     }
 }
@@ -42,7 +42,7 @@ struct Paired {
 impl Paired {
     /// Finds the partners.
     fn new(alloc: Global, text: &[u8], tokens: Vec<Token>) -> Result<Paired, Memory> {
-        let bare = Source {
+        let bare = TokenizedText {
             text,
             tokens: tokens.as_slice(),
             partners: &[],
@@ -52,8 +52,8 @@ impl Paired {
     }
 
     /// These tokens with their text, as a source.
-    fn source<'s>(&'s self, text: &'s [u8]) -> Source<'s> {
-        Source {
+    fn source<'s>(&'s self, text: &'s [u8]) -> TokenizedText<'s> {
+        TokenizedText {
             text,
             tokens: self.tokens.as_slice(),
             partners: self.partners.as_slice(),

@@ -5,14 +5,14 @@ use crate::notes::Notes;
 use crate::numbers::{NumberChange, decimal, number_change};
 use crate::options::{Header, Options};
 use crate::quoted::{Respelled, inside_respelled};
-use bc_convert_tokens::{Dialect, Kind, Source, reserved, span};
+use bc_convert_tokens::{Dialect, Kind, TokenizedText, reserved, span};
 use bc_word::Memory;
 use std::alloc::Global;
 
 /// What becomes of each token by itself: words and signs in this dialect's spelling, names without underlines, numbers and
 /// strings as they are written here, and complaints of what has no counterpart.
 pub fn respell(
-    source: Source<'_>,
+    source: TokenizedText<'_>,
     notes: &mut Notes,
     dialect: Dialect,
     options: Options<'_>,
@@ -29,7 +29,7 @@ pub fn respell(
 
 /// What becomes of a token that is neither a name nor a string.
 fn respell_further(
-    source: Source<'_>,
+    source: TokenizedText<'_>,
     notes: &mut Notes,
     index: usize,
     kind: Kind,
@@ -78,7 +78,7 @@ fn routine_fault(bytes: &[u8]) -> Option<Fault> {
 
 /// What becomes of a name.
 fn respell_name(
-    source: Source<'_>,
+    source: TokenizedText<'_>,
     notes: &mut Notes,
     index: usize,
     dialect: Dialect,
@@ -97,7 +97,7 @@ fn respell_name(
 }
 
 /// What becomes of a number.
-fn respell_number(source: Source<'_>, notes: &mut Notes, index: usize) {
+fn respell_number(source: TokenizedText<'_>, notes: &mut Notes, index: usize) {
     let change = number_change(notes.alloc(), source, index);
     match notes.made(change) {
         None | Some(NumberChange::Kept) => {}
@@ -121,7 +121,7 @@ fn quoted(alloc: Global, sign: u8, inside: &[u8]) -> Result<Vec<u8>, Memory> {
 }
 
 /// What becomes of a string: the library's header has its name here where it stands behind GET.
-fn respell_string(source: Source<'_>, notes: &mut Notes, index: usize, header: Header) {
+fn respell_string(source: TokenizedText<'_>, notes: &mut Notes, index: usize, header: Header) {
     if gets_header(source, index) {
         let name: &[u8] = match header {
             Header::Further => b"\"EXTHDR\"",
@@ -141,7 +141,7 @@ fn respell_string(source: Source<'_>, notes: &mut Notes, index: usize, header: H
 }
 
 /// What becomes of a character constant: one that can't be seen is written as a number.
-fn respell_character(source: Source<'_>, notes: &mut Notes, index: usize) {
+fn respell_character(source: TokenizedText<'_>, notes: &mut Notes, index: usize) {
     match respelled(source, notes, index) {
         Some(respelled) if respelled.count != 1 => notes.complain(
             source,
@@ -162,7 +162,7 @@ fn respell_character(source: Source<'_>, notes: &mut Notes, index: usize) {
 }
 
 /// What stands between the signs at an index, as this dialect writes it. What is wrong with it is written down.
-fn respelled(source: Source<'_>, notes: &mut Notes, index: usize) -> Option<Respelled> {
+fn respelled(source: TokenizedText<'_>, notes: &mut Notes, index: usize) -> Option<Respelled> {
     let inside = inside_respelled(notes.alloc(), inside(source.bytes(index)));
     match notes.made(inside)? {
         Ok(respelled) => Some(respelled),
@@ -174,7 +174,7 @@ fn respelled(source: Source<'_>, notes: &mut Notes, index: usize) -> Option<Resp
 }
 
 /// Puts bytes between two signs in the place of a token that is spelled otherwise.
-fn put_quoted(source: Source<'_>, notes: &mut Notes, index: usize, sign: u8, inside: &[u8]) {
+fn put_quoted(source: TokenizedText<'_>, notes: &mut Notes, index: usize, sign: u8, inside: &[u8]) {
     let whole = quoted(notes.alloc(), sign, inside);
     if let Some(whole) = notes.made(whole) {
         replace_if_other(source, notes, index, whole.as_slice());
@@ -182,14 +182,20 @@ fn put_quoted(source: Source<'_>, notes: &mut Notes, index: usize, sign: u8, ins
 }
 
 /// Puts bytes in the place of a token that is spelled otherwise.
-fn replace_if_other(source: Source<'_>, notes: &mut Notes, index: usize, bytes: &[u8]) {
+fn replace_if_other(source: TokenizedText<'_>, notes: &mut Notes, index: usize, bytes: &[u8]) {
     if source.bytes(index) != bytes {
         notes.replace(index, bytes);
     }
 }
 
 /// What becomes of a reserved word or a sign.
-fn respell_sign(source: Source<'_>, notes: &mut Notes, index: usize, kind: Kind, dialect: Dialect) {
+fn respell_sign(
+    source: TokenizedText<'_>,
+    notes: &mut Notes,
+    index: usize,
+    kind: Kind,
+    dialect: Dialect,
+) {
     let bytes = source.bytes(index);
     if let Some(word) = reserved(bytes, dialect.has_small_words)
         && kind != Kind::Header
@@ -210,7 +216,7 @@ fn respell_sign(source: Source<'_>, notes: &mut Notes, index: usize, kind: Kind,
 }
 
 /// What becomes of a section bracket, whose tag has dots in place of underlines.
-fn respell_section(source: Source<'_>, notes: &mut Notes, index: usize, sign: &[u8]) {
+fn respell_section(source: TokenizedText<'_>, notes: &mut Notes, index: usize, sign: &[u8]) {
     let bytes = source.bytes(index);
     let whole = with_dotted(notes.alloc(), sign, span(bytes, 2, bytes.len()));
     if let Some(whole) = notes.made(whole) {

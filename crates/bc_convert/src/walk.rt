@@ -9,7 +9,7 @@ use crate::names::is_number;
 use crate::notes::{LateBlock, Notes};
 use crate::operands::{Operand, finish, is_adjacent, is_compound, is_plain, level_at};
 use crate::ranges::{case_constant, cases_between, replace_apart};
-use bc_convert_tokens::{Dialect, Kind, Source, is_name_byte};
+use bc_convert_tokens::{Dialect, Kind, TokenizedText, is_name_byte};
 
 /// How deep the parts of a source may nest: each part counts for some of its own.
 pub const MOST_DEPTH: usize = 3000;
@@ -17,7 +17,7 @@ pub const MOST_DEPTH: usize = 3000;
 /// What is walked through: the source, what is known of its dialect, and how much deeper the walk may go.
 #[derive(Clone, Copy)]
 pub struct Walk<'s> {
-    pub source: Source<'s>,
+    pub source: TokenizedText<'s>,
     pub dialect: Dialect,
     pub depth: usize,
 }
@@ -36,7 +36,7 @@ impl<'s> Walk<'s> {
 }
 
 /// Where the bracket at an index ends, within a limit: the index of what closes it, or the limit.
-fn inside_end(source: Source<'_>, index: usize, to: usize) -> usize
+fn inside_end(source: TokenizedText<'_>, index: usize, to: usize) -> usize
     ensures { result ≤ to }
 {
     source.partner(index).min(to)
@@ -51,7 +51,7 @@ fn behind(index: usize, to: usize) -> usize
 
 /// Whether a list that begins at an index may have declarations: it is that of a section bracket, and of no SWITCHON. Gives
 /// `None` outside of section brackets.
-fn is_block(source: Source<'_>, from: usize) -> Option<bool> {
+fn is_block(source: TokenizedText<'_>, from: usize) -> Option<bool> {
     if from == 0 || source.kind(from - 1) != Kind::OpenSection {
         return None;
     }
@@ -74,7 +74,7 @@ fn is_no_command(kind: Kind) -> bool {
 }
 
 /// Whether an item of a list begins at an index: in front, behind a separator, or behind the colon of a case or a label.
-fn begins_item(source: Source<'_>, from: usize, at: usize) -> bool {
+fn begins_item(source: TokenizedText<'_>, from: usize, at: usize) -> bool {
     at == from || source.is_separated(at) || at > 0 && source.kind(at - 1) == Kind::Colon
 }
 
@@ -105,7 +105,7 @@ pub fn items(walk: Walk<'_>, notes: &mut Notes, from: usize, to: usize) {
 }
 
 /// Puts the items of a list from an index on between brackets of their own, where the list is one of commands.
-fn put_block(source: Source<'_>, notes: &mut Notes, from: usize, at: usize, to: usize) {
+fn put_block(source: TokenizedText<'_>, notes: &mut Notes, from: usize, at: usize, to: usize) {
     match is_block(source, from) {
         None => {}
         Some(false) => notes.complain(source, at, Fault::LateDeclaration),
@@ -160,7 +160,7 @@ fn bracket(walk: Walk<'_>, notes: &mut Notes, at: usize, to: usize) -> usize {
 }
 
 /// SECTION or NEEDS with its names, which become a comment.
-fn header(source: Source<'_>, notes: &mut Notes, at: usize, to: usize) -> usize {
+fn header(source: TokenizedText<'_>, notes: &mut Notes, at: usize, to: usize) -> usize {
     let mut end = behind(at, to);
     for _ in at..to {
         let next = behind(end, to);
@@ -177,7 +177,7 @@ fn header(source: Source<'_>, notes: &mut Notes, at: usize, to: usize) -> usize 
 }
 
 /// A GOTO's destination, which is to be a name alone.
-fn destination(source: Source<'_>, notes: &mut Notes, at: usize, to: usize) -> usize {
+fn destination(source: TokenizedText<'_>, notes: &mut Notes, at: usize, to: usize) -> usize {
     let next = behind(at, to);
     let goes_on = !source.is_separated(next)
         && matches!(
@@ -248,7 +248,7 @@ fn definitions(walk: Walk<'_>, notes: &mut Notes, values: Values, to: usize) -> 
 }
 
 /// Whether an entry without a value ends in front of an index.
-fn ends_entry(source: Source<'_>, index: usize, closing: usize) -> bool {
+fn ends_entry(source: TokenizedText<'_>, index: usize, closing: usize) -> bool {
     index >= closing
         || matches!(source.kind(index), Kind::Comma | Kind::Semicolon)
         || source.is_separated(index)
@@ -323,7 +323,12 @@ fn cases(walk: Walk<'_>, notes: &mut Notes, at: usize, to: usize) -> usize {
 }
 
 /// Writes out the cases of a range, whose constants stand between these indices.
-fn put_range(source: Source<'_>, notes: &mut Notes, first: (usize, usize), last: (usize, usize)) {
+fn put_range(
+    source: TokenizedText<'_>,
+    notes: &mut Notes,
+    first: (usize, usize),
+    last: (usize, usize),
+) {
     let low = case_constant(source, first.0, first.1);
     let high = case_constant(source, last.0, last.1);
     let text = cases_between(notes.alloc(), low, high);
@@ -541,7 +546,7 @@ fn ends_a_word(bytes: &[u8]) -> bool {
 }
 
 /// Takes out a sign that is `+`, where it is no operator between two operands.
-fn drop_plus(source: Source<'_>, notes: &mut Notes, at: usize) {
+fn drop_plus(source: TokenizedText<'_>, notes: &mut Notes, at: usize) {
     if source.bytes(at) != b"+".as_slice() {
         return;
     }
@@ -560,7 +565,7 @@ fn is_star_subscript(walk: Walk<'_>, index: usize) -> bool {
 }
 
 /// Whether what was read from an index up to another one is a number: a constant, or a name that is used as no vector's.
-fn is_number_alone(source: Source<'_>, at: usize, end: usize) -> bool {
+fn is_number_alone(source: TokenizedText<'_>, at: usize, end: usize) -> bool {
     let is_one = end == at.saturating_add(1);
     match source.kind(at) {
         Kind::Number | Kind::Character | Kind::Constant => is_one,

@@ -1,6 +1,6 @@
 use crate::bytes::span;
 use crate::kind::Kind;
-use crate::source::{Source, Token};
+use crate::source::{Token, TokenizedText};
 use bc_word::Memory;
 use std::alloc::Global;
 
@@ -20,7 +20,7 @@ fn is_closed_by(text: &[u8], opening: &Token, closing: &Token) -> bool {
 }
 
 /// Whether some bracket of a stack is closed by this token.
-fn closes_any(source: Source<'_>, open: &[usize], closing: &Token) -> bool {
+fn closes_any(source: TokenizedText<'_>, open: &[usize], closing: &Token) -> bool {
     open.iter().any(|index| match source.tokens.get(*index) {
         Some(opening) => is_closed_by(source.text, opening, closing),
         None => false,
@@ -29,7 +29,7 @@ fn closes_any(source: Source<'_>, open: &[usize], closing: &Token) -> bool {
 
 /// Takes brackets from a stack up to the one that this token closes, and writes down that it closes them.
 fn close(
-    source: Source<'_>,
+    source: TokenizedText<'_>,
     open: &mut Vec<usize>,
     partners: &mut [usize],
     index: usize,
@@ -58,7 +58,7 @@ fn close(
 /// # Errors
 ///
 /// `Memory` where an allocation was refused.
-pub fn partners(alloc: Global, source: Source<'_>) -> Result<Vec<usize>, Memory> {
+pub fn partners(alloc: Global, source: TokenizedText<'_>) -> Result<Vec<usize>, Memory> {
     let count = source.tokens.len();
     let mut partners = vec![in alloc; count; count]?;
     let mut open = Vec::new(alloc);

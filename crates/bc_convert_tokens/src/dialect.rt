@@ -1,5 +1,5 @@
 use crate::kind::Kind;
-use crate::source::{Source, Token};
+use crate::source::{Token, TokenizedText};
 use crate::words::{is_same_word, is_small, reserved};
 use bc_word::Memory;
 use std::alloc::Global;
@@ -22,7 +22,7 @@ impl Dialect {
     /// which is no part of a source in this dialect. The library's names stand in small letters where these do, where the
     /// library's header does behind GET, or where `start` is declared and START isn't. `*(` is a subscript where something is
     /// assigned to one.
-    pub fn of(source: Source<'_>) -> Dialect {
+    pub fn of(source: TokenizedText<'_>) -> Dialect {
         let has_small_words = begins_small(source) || has_small_let(source);
         Dialect {
             has_small_words,
@@ -43,13 +43,13 @@ impl Dialect {
 }
 
 /// Whether the first word is a reserved one in small letters.
-fn begins_small(source: Source<'_>) -> bool {
+fn begins_small(source: TokenizedText<'_>) -> bool {
     let first = source.bytes(0);
     source.kind(0) == Kind::Word && is_small(first) && reserved(first, true).is_some()
 }
 
 /// Whether `let` stands in front of a word in the same line.
-fn has_small_let(source: Source<'_>) -> bool {
+fn has_small_let(source: TokenizedText<'_>) -> bool {
     for index in 1..source.tokens.len() {
         let is_in_line = !source.gap(index).contains(&b'\n');
         if source.kind(index) == Kind::Word
@@ -68,34 +68,34 @@ fn is_small_header(string: &[u8]) -> bool {
 }
 
 /// Whether the token at an index is LET or AND.
-fn is_let_or_and(source: Source<'_>, index: usize) -> bool {
+fn is_let_or_and(source: TokenizedText<'_>, index: usize) -> bool {
     let word = source.bytes(index);
     is_same_word(word, b"LET") || is_same_word(word, b"AND")
 }
 
 /// Whether a routine of this name is declared.
-fn declares_routine(source: Source<'_>, name: &[u8]) -> bool {
+fn declares_routine(source: TokenizedText<'_>, name: &[u8]) -> bool {
     (1..source.tokens.len()).any(|index| source.bytes(index) == name
         && is_let_or_and(source, index - 1)
         && source.kind(index.saturating_add(1)) == Kind::OpenRound)
 }
 
 /// Whether names of the library stand in small letters in a source whose reserved words are capitals.
-fn has_small_library(source: Source<'_>) -> bool {
+fn has_small_library(source: TokenizedText<'_>) -> bool {
     let gets_header = (1..source.tokens.len()).any(|index| is_small_header(source.bytes(index))
         && is_same_word(source.bytes(index - 1), b"GET"));
     gets_header || declares_routine(source, b"start") && !declares_routine(source, b"START")
 }
 
 /// Whether a `*` and a round bracket stand side by side, without a blank between them.
-fn is_star_subscript(source: Source<'_>, star: usize) -> bool {
+fn is_star_subscript(source: TokenizedText<'_>, star: usize) -> bool {
     source.kind(star) == Kind::Star
         && source.kind(star.saturating_add(1)) == Kind::OpenRound
         && source.end(star) == source.start(star.saturating_add(1))
 }
 
 /// Whether a command assigns to what `*(` begins the subscript of.
-fn assigns_to_star(source: Source<'_>) -> bool {
+fn assigns_to_star(source: TokenizedText<'_>) -> bool {
     for star in 1..source.tokens.len() {
         let closing = source.partner(star.saturating_add(1));
         if is_star_subscript(source, star)
@@ -112,7 +112,7 @@ fn assigns_to_star(source: Source<'_>) -> bool {
 }
 
 /// Whether the bracket at an index opens a list of GLOBAL, MANIFEST or STATIC.
-fn opens_entries(source: Source<'_>, index: usize) -> bool {
+fn opens_entries(source: TokenizedText<'_>, index: usize) -> bool {
     if index == 0 {
         return false;
     }
@@ -123,7 +123,7 @@ fn opens_entries(source: Source<'_>, index: usize) -> bool {
 }
 
 /// Whether an index stands in a list of GLOBAL, MANIFEST or STATIC.
-fn is_in_entries(source: Source<'_>, index: usize) -> bool {
+fn is_in_entries(source: TokenizedText<'_>, index: usize) -> bool {
     for back in 1..=index {
         let at = index - back;
         match source.kind(at) {
@@ -137,7 +137,7 @@ fn is_in_entries(source: Source<'_>, index: usize) -> bool {
 
 /// Whether an entry of such a list can begin at an index: behind the bracket, a semicolon or a line break, or behind a comma
 /// where a value follows.
-fn begins_entry(source: Source<'_>, index: usize) -> bool {
+fn begins_entry(source: TokenizedText<'_>, index: usize) -> bool {
     if index == 0 {
         return false;
     }
@@ -152,7 +152,7 @@ fn begins_entry(source: Source<'_>, index: usize) -> bool {
 }
 
 /// Whether the tokens in front of an index, back to LET or AND, are words, commas and opening brackets, the last one no word.
-fn is_in_heading(source: Source<'_>, index: usize) -> bool {
+fn is_in_heading(source: TokenizedText<'_>, index: usize) -> bool {
     if index == 0 || source.kind(index - 1) == Kind::Word {
         return false;
     }
@@ -168,7 +168,7 @@ fn is_in_heading(source: Source<'_>, index: usize) -> bool {
 }
 
 /// Whether the word at an index is declared there, if it is a name.
-fn is_declared_at(source: Source<'_>, index: usize) -> bool {
+fn is_declared_at(source: TokenizedText<'_>, index: usize) -> bool {
     if index == 0 {
         return false;
     }
@@ -180,7 +180,7 @@ fn is_declared_at(source: Source<'_>, index: usize) -> bool {
 
 /// Whether the word at an index, which is of a kind in old dialects, is a name there all the same: it is declared or assigned
 /// to, or what an operator needs does not follow it.
-fn is_used_as_name(source: Source<'_>, index: usize, kind: Kind) -> bool {
+fn is_used_as_name(source: TokenizedText<'_>, index: usize, kind: Kind) -> bool {
     let is_operator = !matches!(kind, Kind::Constant | Kind::Joint);
     match source.kind(index.saturating_add(1)) {
         Kind::Assign | Kind::Colon => true,
@@ -191,7 +191,7 @@ fn is_used_as_name(source: Source<'_>, index: usize, kind: Kind) -> bool {
 }
 
 /// Whether the word at an index is a name somewhere.
-fn is_name_somewhere(source: Source<'_>, index: usize, kind: Kind) -> bool {
+fn is_name_somewhere(source: TokenizedText<'_>, index: usize, kind: Kind) -> bool {
     for other in 0..source.tokens.len() {
         if source.kind(other) == Kind::Word
             && source.is_same(index, other)
@@ -204,7 +204,7 @@ fn is_name_somewhere(source: Source<'_>, index: usize, kind: Kind) -> bool {
 }
 
 /// What the word at an index is.
-fn kind_of_word(source: Source<'_>, index: usize, dialect: Dialect) -> Kind {
+fn kind_of_word(source: TokenizedText<'_>, index: usize, dialect: Dialect) -> Kind {
     match reserved(source.bytes(index), dialect.has_small_words) {
         None => Kind::Name,
         Some(word) if word.kind == Kind::Header => {
@@ -251,7 +251,7 @@ fn kind_of_square(before: Kind, is_separated: bool) -> Kind {
 /// `Memory` where an allocation was refused.
 pub fn classified(
     alloc: Global,
-    source: Source<'_>,
+    source: TokenizedText<'_>,
     dialect: Dialect,
 ) -> Result<Vec<Token>, Memory> {
     let mut tokens = Vec::new(alloc);

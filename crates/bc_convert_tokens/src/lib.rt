@@ -15,5 +15,5 @@ pub use bytes::{behind, is_name_byte, span};
 pub use dialect::{Dialect, classified};
 pub use kind::Kind;
 pub use lexing::lex;
-pub use source::{Source, Token};
+pub use source::{Token, TokenizedText};
 pub use words::{ReservedWord, reserved};

@@ -12,13 +12,13 @@ pub struct Token {
 
 /// A text, its tokens, and for each token that opens a bracket the index of the one that closes it.
 #[derive(Clone, Copy)]
-pub struct Source<'s> {
+pub struct TokenizedText<'s> {
     pub text: &'s [u8],
     pub tokens: &'s [Token],
     pub partners: &'s [usize],
 }
 
-impl<'s> Source<'s> {
+impl<'s> TokenizedText<'s> {
     /// What the token at an index is; `End` behind the last one.
     pub fn kind(self, index: usize) -> Kind {
         self.tokens.get(index).map_or(Kind::End, |token| token.kind)

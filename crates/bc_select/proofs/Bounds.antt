@@ -21,7 +21,7 @@ use Rattle.bc_rules_defs.specs.Free.{jumps_at}
 use Rattle.bc_select_defs.specs.declared.choice.Choice.{Choice}
 use Rattle.bc_select_defs.specs.declared.choice.Choices.{Choices}
 use Rattle.bc_select_defs.specs.declared.choice.Candidate.{Candidate}
-use Rattle.bc_select_defs.specs.declared.choice.Node.{Node}
+use Rattle.bc_select_defs.specs.declared.choice.Asked.{Asked}
 use Rattle.bc_select_defs.specs.Options.{plus, more, sum, given, operand_cost, words_of, choice, candidate, better, least_from}
 use Rattle.bc_select_defs.specs.Choices.{words_for, line, by_value, number_tests, not_tests, zero_number, number_cost, without, mixed, worked, pair_tests, choices, words_of_all, node_of}
 use Rattle.bc_select.specs.Small.{Small, AreSmall, UpTo}
@@ -96,7 +96,7 @@ beside_up a true x y k h i = h
 beside_up true false x y k h i = i
 beside_up false false x y k h i = none_bound k
 
-without_bound : (op : Op) (a b : Node) (x y : Option ℕ) (k : ℕ) → Bound x k → Bound y k → Bound (without op a b x y) k
+without_bound : (op : Op) (a b : Asked) (x y : Option ℕ) (k : ℕ) → Bound x k → Bound y k → Bound (without op a b x y) k
 without_bound operators.Multiply a b x y k h i = none_bound k
 without_bound operators.Divide a b x y k h i = none_bound k
 without_bound operators.Remainder a b x y k h i = none_bound k
@@ -178,7 +178,7 @@ not_bound c n h =
     let b = h.bound in let u = h.under in
     line_bound None _ _ (not_tests c) (1 + n) (b + 12) (omega arith) (omega arith) (wider _ (b + 1) (b + 12) (plus_bound _ b 1 h.push) (omega arith), tt) (wider _ (b + 1) (b + 12) (plus_bound _ b 1 h.any) (omega arith), tt) (λ any sense i. (turned_bound c b (b + 12 + 2) sense (omega arith) h.on_false h.on_true, tt))
 
-mixed_bound : (op : Op) (a b : Node) (x y : Option ℕ) (i j k : ℕ) → Bound x i → Bound y j → i + j + 4 ≤ k → AllBound (mixed op a b x y) k
+mixed_bound : (op : Op) (a b : Asked) (x y : Option ℕ) (i j k : ℕ) → Bound x i → Bound y j → i + j + 4 ≤ k → AllBound (mixed op a b x y) k
 mixed_bound op a b x y i j k hx hy h = (
   given_bound _ _ k (wider _ (i + 2) k (sum_bound _ _ i 2 hx (operand_bound b.operand)) (omega arith)),
   (
@@ -202,7 +202,7 @@ mixed_bound op a b x y i j k hx hy h = (
 both_bound : (x y : Option ℕ) (i j m k : ℕ) → Bound x i → Bound y j → i + j + m ≤ k → Bound (plus (sum x y) m) k
 both_bound x y i j m k hx hy h = wider _ (i + j + m) k (plus_bound _ (i + j) m (sum_bound x y i j hx hy)) h
 
-worked_bound : (op : Op) (a b : Node) (s m n k : ℕ) (ha : IsUnder a.choices m) (hb : IsUnder b.choices n) → ha.bound + hb.bound + 9 ≤ k → AllBound (worked op a b s) k
+worked_bound : (op : Op) (a b : Asked) (s m n k : ℕ) (ha : IsUnder a.choices m) (hb : IsUnder b.choices n) → ha.bound + hb.bound + 9 ≤ k → AllBound (worked op a b s) k
 worked_bound op a b s m n k ha hb h =
     let i = ha.bound in let j = hb.bound in
     let w1 = w_few s in let w2 = w_few (s + 1) in (
@@ -231,7 +231,7 @@ worked_bound op a b s m n k ha hb h =
       ),
     )
 
-tests_bound : (T : Table) (op : Op) (a b : Node) (m n k : ℕ) (ha : IsUnder a.choices m) (hb : IsUnder b.choices n) → ha.bound + hb.bound + 9 ≤ k → (any : Option ℕ) (sense : Bool) → Bound any k → AllBound (pair_tests T op a b any sense) (k + 2)
+tests_bound : (T : Table) (op : Op) (a b : Asked) (m n k : ℕ) (ha : IsUnder a.choices m) (hb : IsUnder b.choices n) → ha.bound + hb.bound + 9 ≤ k → (any : Option ℕ) (sense : Bool) → Bound any k → AllBound (pair_tests T op a b any sense) (k + 2)
 tests_bound T op a b m n k ha hb h any false hv =
     let i = ha.bound in let j = hb.bound in
     let zero = plus_bound _ k 2 (beside_up (zero_number a.number) (zero_number b.number) (words_of a.choices.any) (words_of b.choices.any) k (wider _ i k ha.any (omega arith)) (wider _ j k hb.any (omega arith))) in (
@@ -269,7 +269,7 @@ tests_bound T op a b m n k ha hb h any true hv =
       ),
     )
 
-pair_bound : (T : Table) (op : Op) (o : Option Operand) (a b : Node) (s m n : ℕ) → IsUnder a.choices m → IsUnder b.choices n → IsUnder (line o (mixed op a b (words_of a.choices.push) (words_of b.choices.push)) (mixed op a b (words_of a.choices.any) (words_of b.choices.any) ++ worked op a b s) (pair_tests T op a b)) (1 + m + n)
+pair_bound : (T : Table) (op : Op) (o : Option Operand) (a b : Asked) (s m n : ℕ) → IsUnder a.choices m → IsUnder b.choices n → IsUnder (line o (mixed op a b (words_of a.choices.push) (words_of b.choices.push)) (mixed op a b (words_of a.choices.any) (words_of b.choices.any) ++ worked op a b s) (pair_tests T op a b)) (1 + m + n)
 pair_bound T op o a b s m n ha hb =
     let i = ha.bound in let j = hb.bound in let u = ha.under in let v = hb.under in
     let k = i + j + 12 in

@@ -18,7 +18,7 @@ use Rattle.bc_rules_defs.specs.Code.{cost}
 use Rattle.bc_select_defs.specs.declared.choice.Choice.{Choice}
 use Rattle.bc_select_defs.specs.Least.{first_rule}
 use Rattle.bc_rules_defs.specs.Names.{rule_number}
-use Rattle.bc_select_defs.specs.declared.choice.Node.{Node}
+use Rattle.bc_select_defs.specs.declared.choice.Asked.{Asked}
 use Rattle.bc_select_defs.specs.Choices.{choice_for, choices, node_of}
 use Rattle.bc_select_defs.specs.Folds.{AtMost}
 use Rattle.bc_select_defs.specs.Lower.{lower}
@@ -69,7 +69,7 @@ reading_is e s (Jumps true) r h =
     ∙ ap (λ y. tree_of x (test_parts y.any (own (Jumps true)))) (is_line e s) ∙ sym (ap (λ y. y.on_true) (is_line e s))
 
 -- the choice of an assignment, both sides of which stand at level s, and its tree
-pub assignment_choice : (v a : Exp) (level s : ℕ) (o : Option Operand) (x y : Node) (r : Option Choice) → r ≡ assign_choice o x y level → o ≡ operand_of a → x ≡ node_of Two v s → y ≡ node_of Two a s → s ≡ side_level a level → r ≡ root_choice Two (Assign level v a)
+pub assignment_choice : (v a : Exp) (level s : ℕ) (o : Option Operand) (x y : Asked) (r : Option Choice) → r ≡ assign_choice o x y level → o ≡ operand_of a → x ≡ node_of Two v s → y ≡ node_of Two a s → s ≡ side_level a level → r ≡ root_choice Two (Assign level v a)
 assignment_choice v a level s o x y r h i j k l =
     h ∙ ap (λ q. assign_choice q x y level) i ∙ ap (λ n. assign_choice (operand_of a) n y level) j ∙ ap (λ n. assign_choice (operand_of a) (node_of Two v s) n level) k
     ∙ ap (λ n. assign_choice (operand_of a) (node_of Two v n) (node_of Two a n) level) l

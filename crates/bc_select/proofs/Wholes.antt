@@ -11,7 +11,7 @@ use Rattle.bc_core.specs.WellFormed.{nodes, nodes_of_args}
 use Rattle.bc_rules_defs.specs.declared.rule.Table.TheVariants.{Two}
 use Rattle.bc_rules_defs.specs.declared.rule.Rule.TheVariants.{V2, V3}
 use Rattle.bc_select_defs.specs.declared.choice.Choices.{Choices}
-use Rattle.bc_select_defs.specs.declared.choice.Node.{Node}
+use Rattle.bc_select_defs.specs.declared.choice.Asked.{Asked}
 use Rattle.bc_select_defs.specs.Options.{plus, words_of}
 use Rattle.bc_rules_defs.specs.Piece.{w}
 use Rattle.bc_select_defs.specs.Choices.{leaf_choices, number_choices, number_tests, by_value, unary_choices, cond_choices, call_choices, pair_choices, words_of_all, choices, node_of}
@@ -68,14 +68,14 @@ unfolding whole
 call_whole es f s w n r c h i j k =
     ap (λ x. whole x n r.nodes) (k ∙ call_same es f s w r h j) ∙ ap (λ x. whole (choices Two (tree.Call (args es) f) s) x r.nodes) i ∙ ap (λ q. whole (choices Two (tree.Call (args es) f) s) (nodes_of_args (args es)) q.nodes) j
 
-operand_at : Exp → Part → Node
+operand_at : Exp → Part → Asked
 operand_at e q = record { choices = q.choices; operand = operand_of e; number = constant_of e; calls = q.calls; nodes = q.nodes }
 
-pub operand_is : (n : Node) (q : Part) (e : Exp) (s : ℕ) → n ≡ record { choices = q.choices; operand = operand_of e; number = constant_of e; calls = q.calls; nodes = q.nodes } → q ≡ node e s → n ≡ node_of Two e s
+pub operand_is : (n : Asked) (q : Part) (e : Exp) (s : ℕ) → n ≡ record { choices = q.choices; operand = operand_of e; number = constant_of e; calls = q.calls; nodes = q.nodes } → q ≡ node e s → n ≡ node_of Two e s
 unfolding operand_at
 operand_is n q e s h i = h ∙ ap (operand_at e) i
 
-pub pair_is : (op : Op) (l r : Node) (a b : Exp) (s : ℕ) → l ≡ node_of Two a (s + 1) → r ≡ node_of Two b (s + 1) → ◌≡◌ {A = Pair} (record { op = op; left = l; right = r; level = s }) (pair_of op a b s)
+pub pair_is : (op : Op) (l r : Asked) (a b : Exp) (s : ℕ) → l ≡ node_of Two a (s + 1) → r ≡ node_of Two b (s + 1) → ◌≡◌ {A = Pair} (record { op = op; left = l; right = r; level = s }) (pair_of op a b s)
 pair_is op l r a b s h i = cc
 
 pub stored_is : (x y : Option ℕ) (k : ℕ) (q : Part) (e : Exp) (s : ℕ) → x ≡ plus y k → y ≡ words_of q.choices.any → k ≡ w s → q ≡ node e s → x ≡ plus (words_of (choices Two e s).any) (w s)

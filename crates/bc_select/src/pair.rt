@@ -16,20 +16,20 @@ use crate::candidates::{
 };
 use bc_core::Operand;
 use bc_rules_defs::{Rule, is_direct, number_words, operand_words};
-use bc_select_defs::{Choice, Choices, Node, is_zero_number};
+use bc_select_defs::{Asked, Choice, Choices, is_zero_number};
 use bc_word::{Op, mirror};
 
 /// A binary operator at a level, with its operands.
 #[derive(Clone, Copy)]
 pub struct Pair {
     pub op: Op,
-    pub left: Node,
-    pub right: Node,
+    pub left: Asked,
+    pub right: Asked,
     pub level: u64,
 }
 
 /// Whether two expressions may be worked out in either order.
-pub fn free(a: &Node, b: &Node) -> bool
+pub fn free(a: &Asked, b: &Asked) -> bool
     ensures { result ≡ are_free a.now b.now }
 {
     !(a.calls || b.calls) || is_direct(a.operand) || is_direct(b.operand)
@@ -286,8 +286,8 @@ pub fn pair_choices(pair: &Pair, operand: Option<Operand>) -> Choices
 /// The choice of an assignment at a level, from its address's operand.
 pub fn assign_choice(
     operand: Option<Operand>,
-    value: &Node,
-    address: &Node,
+    value: &Asked,
+    address: &Asked,
     level: u64,
 ) -> Option<Choice>
     requires value { AreSmall value.now.choices }

@@ -23,7 +23,7 @@ use crate::split::{cut, last};
 use crate::table::Nodes;
 use bc_core::{CoreExp, Operand, constant};
 use bc_rules_defs::{Rule, number_words};
-use bc_select_defs::{Choices, Node};
+use bc_select_defs::{Asked, Choices};
 use bc_word::Op;
 
 /// Arguments of a call: the words of them all, each stored in its cell, and how many nodes they have.
@@ -82,10 +82,10 @@ fn not_part(part: &Part) -> Part
 
 /// An operand of a binary operator.
 #[inline(always)]
-pub fn operand_node(e: &CoreExp, part: &Part) -> Node
+pub fn operand_node(e: &CoreExp, part: &Part) -> Asked
     ensures { result ≡ record { choices = part.now.choices; operand = operand_of (exp e.now); number = constant_of (exp e.now); calls = part.now.calls; nodes = part.now.nodes } }
 {
-    Node {
+    Asked {
         choices: part.choices,
         operand: own_operand(e),
         number: constant(e),

@@ -22,7 +22,7 @@ use Rattle.bc_rules_defs.specs.Piece.{w}
 use Rattle.bc_select_defs.specs.declared.choice.Choice.{Choice}
 use Rattle.bc_select_defs.specs.declared.choice.Choices.{Choices}
 use Rattle.bc_select_defs.specs.declared.choice.Candidate.{Candidate}
-use Rattle.bc_select_defs.specs.declared.choice.Node.{Node}
+use Rattle.bc_select_defs.specs.declared.choice.Asked.{Asked}
 use Rattle.bc_select_defs.specs.Options.{plus, more, sum, given, only, operand_cost, words_of, candidate, least_from}
 
 abbrev pub choice_for : Aim → Choices → Option Choice
@@ -71,7 +71,7 @@ abbrev pub not_choices : Choices → Choices
 not_choices c = line None (candidate V4 (plus (words_of c.push) 1) ∷ []) (candidate V4 (plus (words_of c.any) 1) ∷ []) (not_tests c)
 
 -- two operands
-abbrev pub free : Node → Node → Bool
+abbrev pub free : Asked → Asked → Bool
 free a b = not (a.calls || b.calls) || direct_operand a.operand || direct_operand b.operand
 
 abbrev pub zero_number : Option ℕ → Bool
@@ -83,16 +83,16 @@ number_cost None = None
 number_cost (Some n) = Some (w (negated n))
 
 -- of x and y, that of the operand beside a 0
-abbrev pub beside : Node → Node → (x y : Option ℕ) → Option ℕ
+abbrev pub beside : Asked → Asked → (x y : Option ℕ) → Option ℕ
 beside a b x y = cond (zero_number b.number) x (cond (zero_number a.number) y None)
 
-abbrev pub without : Op → Node → Node → (x y : Option ℕ) → Option ℕ
+abbrev pub without : Op → Asked → Asked → (x y : Option ℕ) → Option ℕ
 without Add a b x y = beside a b x y
 without Subtract a b x y = cond (zero_number b.number) x None
 without _ a b x y = None
 
 -- the rules by which one operand stays in the instruction; x and y are the words of the operands in the mode
-abbrev pub mixed : Op → Node → Node → (x y : Option ℕ) → List Candidate
+abbrev pub mixed : Op → Asked → Asked → (x y : Option ℕ) → List Candidate
 mixed op a b x y =
     candidate V6 (only Add op (sum x (operand_cost b.operand)))
     ∷ candidate V7 (only Add op (given (free a b) (sum y (operand_cost a.operand))))
@@ -103,7 +103,7 @@ mixed op a b x y =
     ∷ []
 
 -- the rules by which both operands are worked out
-abbrev pub worked : Op → Node → Node → (s : ℕ) → List Candidate
+abbrev pub worked : Op → Asked → Asked → (s : ℕ) → List Candidate
 worked op a b s =
     let x = words_of a.choices.any in
     let y = words_of b.choices.any in
@@ -124,7 +124,7 @@ abbrev pub has_tests_of_zero : Table → Bool
 has_tests_of_zero One = false
 has_tests_of_zero Two = true
 
-abbrev pub pair_tests : Table → Op → Node → Node → Option ℕ → Bool → List Candidate
+abbrev pub pair_tests : Table → Op → Asked → Asked → Option ℕ → Bool → List Candidate
 pair_tests T op a b any false =
     candidate J2 (only And op (sum (words_of a.choices.on_false) (words_of b.choices.on_false)))
     ∷ candidate J5 (only Or op (sum (words_of a.choices.on_true) (words_of b.choices.on_false)))
@@ -140,7 +140,7 @@ pair_tests T op a b any true =
     ∷ candidate J9 (given (has_tests_of_zero T) (only NotEqual op (plus (beside a b (words_of a.choices.any) (words_of b.choices.any)) 2)))
     ∷ []
 
-abbrev pub pair_choices : Table → Op → Option Operand → Node → Node → ℕ → Choices
+abbrev pub pair_choices : Table → Op → Option Operand → Asked → Asked → ℕ → Choices
 pair_choices T op o a b s =
     line o (mixed op a b (words_of a.choices.push) (words_of b.choices.push)) (mixed op a b (words_of a.choices.any) (words_of b.choices.any)
     ++ worked op a b s) (pair_tests T op a b)
@@ -157,7 +157,7 @@ call_choices arguments routine s = line None [] (candidate V22 (plus (sum argume
 abbrev pub valof_choices : Choices
 valof_choices = line None [] (candidate V22 (Some 0) ∷ []) by_value
 
-abbrev pub node : Exp → Choices → Node
+abbrev pub node : Exp → Choices → Asked
 node e c = record { choices = c; operand = operand_of e; number = constant_of e; calls = has_call e; nodes = nodes e }
 
 abbrev mutual
@@ -178,5 +178,5 @@ abbrev mutual
   words_of_all T no_argument s = Some 0
   words_of_all T (argument e es) s = sum (plus (words_of (choices T e s).any) (w s)) (words_of_all T es (s + 1))
 
-abbrev pub node_of : Table → Exp → ℕ → Node
+abbrev pub node_of : Table → Exp → ℕ → Asked
 node_of T e s = node e (choices T e s)

@@ -19,7 +19,7 @@ use Rattle.bc_rules_defs.specs.Piece.{w, operand_words}
 use Rattle.bc_rules_defs.specs.Rules.{Derives, v0, v1, v2, v3, v4, v17, v20, v22, v22_valof, j1, j2, j3, j4, j5, j6, DerivesAll, no_more, one_more, RootDerives, value, test, a1, a2, a3, Tree, Trees, by, one, two, shape, root_shape}
 use Rattle.bc_rules_defs.specs.Code.{cost, root_cost}
 use Rattle.bc_select_defs.specs.declared.choice.Choice.{Choice}
-use Rattle.bc_select_defs.specs.declared.choice.Node.{Node}
+use Rattle.bc_select_defs.specs.declared.choice.Asked.{Asked}
 use Rattle.bc_select_defs.specs.Least.{top, first_rule, RootIsLeast, RootHasLeastParts, AreLeastWords}
 use Rattle.bc_rules_defs.specs.Names.{rule_number}
 use Rattle.bc_select_defs.specs.Options.{plus, sum, given, words_of, candidate, least_from}
@@ -31,7 +31,7 @@ use Rattle.bc_select_defs.specs.Makes.{Made, Makes, makes_none, makes_some, make
 use Rattle.bc_select_defs.specs.Attained.{IsPart, Part, least_parts, part_for, attained}
 
 -- the choice of an assignment, from its address's operand
-abbrev pub assign_choice : Option Operand → (value address : Node) → ℕ → Option Choice
+abbrev pub assign_choice : Option Operand → (value address : Asked) → ℕ → Option Choice
 assign_choice (Some o) v a s = least_from None (candidate rule.A1 (plus (words_of v.choices.any) (operand_words o)) ∷ [])
 assign_choice None v a s =
     least_from None

@@ -29,7 +29,7 @@ pub struct Choices {
 
 /// What the rules ask of an expression that is part of another.
 #[derive(Clone, Copy, Debug, PartialEq, Eq)]
-pub struct Node {
+pub struct Asked {
     pub choices: Choices,
     /// The operand that one instruction can take for it.
     pub operand: Option<Operand>,

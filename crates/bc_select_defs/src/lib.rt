@@ -5,5 +5,5 @@ mod choice;
 pub mod laws;
 mod zero;
 
-pub use choice::{Candidate, Choice, Choices, Node};
+pub use choice::{Asked, Candidate, Choice, Choices};
 pub use zero::is_zero_number;

@@ -8,7 +8,7 @@ use std::alloc::Global;
 
 /// What a place of a sentence is filled with.
 #[derive(Clone, Copy)]
-pub enum Part<'a> {
+pub enum Fill<'a> {
     Text(&'a str),
     /// The text of a token, cut where it is long.
     Shown(&'a [u8]),
@@ -20,16 +20,16 @@ fn add_number(text: &mut String, number: u64) -> Result<(), Memory> {
     Ok(())
 }
 
-fn add_part(text: &mut String, part: Part<'_>) -> Result<(), Memory> {
+fn add_part(text: &mut String, part: Fill<'_>) -> Result<(), Memory> {
     match part {
-        Part::Text(added) => Ok(text.push_str(added)?),
-        Part::Shown(bytes) => push_shown(text, bytes),
-        Part::Number(number) => add_number(text, number),
+        Fill::Text(added) => Ok(text.push_str(added)?),
+        Fill::Shown(bytes) => push_shown(text, bytes),
+        Fill::Number(number) => add_number(text, number),
     }
 }
 
 /// Adds the part with this index, where there is one.
-fn add_nth(text: &mut String, parts: &[Part<'_>], index: usize) -> Result<(), Memory> {
+fn add_nth(text: &mut String, parts: &[Fill<'_>], index: usize) -> Result<(), Memory> {
     match parts.get(index) {
         Some(part) => add_part(text, *part),
         None => Ok(()),
@@ -37,7 +37,7 @@ fn add_nth(text: &mut String, parts: &[Part<'_>], index: usize) -> Result<(), Me
 }
 
 /// Adds a sentence, in which each `{}` is the place of the next of these parts. Memory is answered where a growth was refused.
-pub fn add_sentence(text: &mut String, sentence: &str, parts: &[Part<'_>]) -> Result<(), Memory> {
+pub fn add_sentence(text: &mut String, sentence: &str, parts: &[Fill<'_>]) -> Result<(), Memory> {
     let mut at: usize = 0;
     for piece in sentence.split("{}") {
         if at > 0 {
@@ -104,14 +104,14 @@ impl Draft {
     }
 
     /// Adds to the sentence on what is wrong.
-    pub fn say(&mut self, sentence: &str, parts: &[Part<'_>]) {
+    pub fn say(&mut self, sentence: &str, parts: &[Fill<'_>]) {
         if add_sentence(&mut self.message.sentence, sentence, parts).is_err() {
             self.refuse();
         }
     }
 
     /// A sentence that is to be a part of others.
-    pub fn filled(&mut self, sentence: &str, parts: &[Part<'_>]) -> String {
+    pub fn filled(&mut self, sentence: &str, parts: &[Fill<'_>]) -> String {
         let mut text = String::new(self.alloc);
         if add_sentence(&mut text, sentence, parts).is_err() {
             self.refuse();
@@ -120,13 +120,13 @@ impl Draft {
     }
 
     /// Says what one may have meant, in place of what was said of that before.
-    pub fn help(&mut self, sentence: &str, parts: &[Part<'_>]) {
+    pub fn help(&mut self, sentence: &str, parts: &[Fill<'_>]) {
         let help = self.filled(sentence, parts);
         self.message.help = Some(help);
     }
 
     /// Adds a further place, and what stands there.
-    pub fn note(&mut self, span: Span, sentence: &str, parts: &[Part<'_>]) {
+    pub fn note(&mut self, span: Span, sentence: &str, parts: &[Fill<'_>]) {
         let sentence = self.filled(sentence, parts);
         if self.message.notes.push(Note { span, sentence }).is_err() {
             self.refuse();

@@ -1,4 +1,4 @@
-use crate::draft::{Draft, Part};
+use crate::draft::{Draft, Fill};
 use bc_lex::{LexError, Source};
 use bcpl_places::{Get, Span, gets_of};
 
@@ -171,7 +171,7 @@ fn help_for_get(draft: &mut Draft, name: &[u8]) {
     } else {
         draft.help(
             "say which file it is, by --get {}=PATH",
-            &[Part::Shown(name)],
+            &[Fill::Shown(name)],
         );
     }
 }
@@ -180,7 +180,7 @@ fn help_for_get(draft: &mut Draft, name: &[u8]) {
 fn tell_missing(draft: &mut Draft, file: usize, get: &Get<'_>) {
     let size = get.end.saturating_sub(get.start);
     draft.place(span(file, get.start, size));
-    draft.say("no source has the name {}", &[Part::Shown(get.name)]);
+    draft.say("no source has the name {}", &[Fill::Shown(get.name)]);
     help_for_get(draft, get.name);
 }
 
@@ -205,7 +205,7 @@ fn tell_escape(draft: &mut Draft, site: Site<'_>) {
     let behind = text.get(at.saturating_add(1)).copied().unwrap_or(0);
     draft.place(span(file, at, 2));
     if behind.is_ascii_graphic() {
-        draft.say("no escape is written *{}", &[Part::Shown(&[behind])]);
+        draft.say("no escape is written *{}", &[Fill::Shown(&[behind])]);
     } else if behind == b' ' {
         draft.say("no escape is written by * and a blank", &[]);
     } else {

@@ -20,7 +20,7 @@ mod trial;
 mod wanted;
 mod words;
 
-pub use draft::{Draft, Part};
+pub use draft::{Draft, Fill};
 pub use linking::is_set;
 pub use message::{Message, Note, message_of};
 pub use report::{Named, told_lines};

@@ -1,4 +1,4 @@
-use crate::draft::{Draft, Part};
+use crate::draft::{Draft, Fill};
 use crate::syntax::span_of;
 use crate::words::{is_symbol, shown};
 use bc_core::{Core, Place};
@@ -129,7 +129,7 @@ fn tell_twice(draft: &mut Draft, sources: &[Source<'_>], mains: &[usize], number
     draft.place(second.span);
     draft.say(
         "the routine {} sets the global {}, which another routine sets already",
-        &[Part::Shown(second.name), Part::Number(u64::from(number))],
+        &[Fill::Shown(second.name), Fill::Number(u64::from(number))],
     );
     draft.note(first.span, "the other routine", &[]);
     draft.help(
@@ -176,7 +176,7 @@ fn tell_sizes(draft: &mut Draft, sources: &[Source<'_>], mains: &[usize]) {
     let alloc = draft.alloc();
     let sizes = draft.found(sizes_of(alloc, sources, mains), Vec::new(alloc));
     let sentence = draft.found(too_large(alloc, sizes.as_slice()), String::new(alloc));
-    draft.say("{}", &[Part::Text(sentence.as_str())]);
+    draft.say("{}", &[Fill::Text(sentence.as_str())]);
 }
 
 /// Tells of segments that can't be linked.
@@ -266,7 +266,7 @@ pub fn tell_labels(draft: &mut Draft, sources: &[Source<'_>], main: usize) {
         draft.place(place);
         draft.say(
             "; of its routines this one has the most words and signs that make labels, {}",
-            &[Part::Number(count as u64)],
+            &[Fill::Number(count as u64)],
         );
     }
     draft.help(

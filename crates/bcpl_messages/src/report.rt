@@ -1,4 +1,4 @@
-use crate::draft::{Part, add_sentence};
+use crate::draft::{Fill, add_sentence};
 use crate::message::{Message, Note};
 use bc_lex::Source;
 use bc_word::Memory;
@@ -41,7 +41,7 @@ struct Told<'a, 's> {
 
 impl Told<'_, '_> {
     /// Adds a sentence, in which each `{}` is the place of the next of these parts.
-    fn say(&mut self, sentence: &str, parts: &[Part<'_>]) -> Result<(), Memory> {
+    fn say(&mut self, sentence: &str, parts: &[Fill<'_>]) -> Result<(), Memory> {
         add_sentence(&mut self.lines, sentence, parts)
     }
 
@@ -56,9 +56,9 @@ impl Told<'_, '_> {
         self.say(
             "{}:{}:{}: ",
             &[
-                Part::Text(path),
-                Part::Number(line.number as u64),
-                Part::Number(column as u64),
+                Fill::Text(path),
+                Fill::Number(line.number as u64),
+                Fill::Number(column as u64),
             ],
         )
     }
@@ -75,7 +75,7 @@ impl Told<'_, '_> {
     /// Adds a place with a sentence, and its line.
     fn add_place(&mut self, span: Span, sentence: &str) -> Result<(), Memory> {
         self.add_position(span)?;
-        self.say("{}\n", &[Part::Text(sentence)])?;
+        self.say("{}\n", &[Fill::Text(sentence)])?;
         self.add_excerpt(span)
     }
 
@@ -86,7 +86,7 @@ impl Told<'_, '_> {
         let path = self.named.path(get.file);
         self.say(
             "  GET from {}:{}\n",
-            &[Part::Text(path), Part::Number(number as u64)],
+            &[Fill::Text(path), Fill::Number(number as u64)],
         )
     }
 
@@ -106,7 +106,7 @@ impl Told<'_, '_> {
                 self.add_place(span, sentence)?;
                 self.add_way(message.main, span.file)
             }
-            None => self.say("{}\n", &[Part::Text(sentence)]),
+            None => self.say("{}\n", &[Fill::Text(sentence)]),
         }
     }
 
@@ -119,7 +119,7 @@ impl Told<'_, '_> {
     /// Adds what one may have meant.
     fn add_help(&mut self, help: &Option<String>) -> Result<(), Memory> {
         match help {
-            Some(help) => self.say("  help: {}\n", &[Part::Text(help.as_str())]),
+            Some(help) => self.say("  help: {}\n", &[Fill::Text(help.as_str())]),
             None => Ok(()),
         }
     }

@@ -1,6 +1,6 @@
 use crate::constants::{Reason, reason_of};
 use crate::declared::{Declared, declaration_of};
-use crate::draft::{Draft, Part};
+use crate::draft::{Draft, Fill};
 use crate::likeness::nearest;
 use crate::neighbours::VECTOR_WITHOUT_SIZE;
 use crate::read::Read;
@@ -44,9 +44,9 @@ impl<'a> Said<'a> {
         draft.say(
             "{}{}{}",
             &[
-                Part::Text(self.front),
-                Part::Shown(self.name),
-                Part::Text(self.behind),
+                Fill::Text(self.front),
+                Fill::Shown(self.name),
+                Fill::Text(self.behind),
             ],
         );
         if let Some(help) = self.help {
@@ -262,7 +262,7 @@ fn add_second(draft: &mut Draft, read: Read<'_, '_>, second: Also) {
             places,
         ),
     };
-    draft.help(sentence, &[Part::Number(number)]);
+    draft.help(sentence, &[Fill::Number(number)]);
 }
 
 /// Where names are known.
@@ -281,7 +281,7 @@ fn add_found(draft: &mut Draft, read: Read<'_, '_>, name: &[u8], found: Declared
     draft.note(
         read.place(found.index),
         "{} {}",
-        &[Part::Shown(name), Part::Text(found.sentence)],
+        &[Fill::Shown(name), Fill::Text(found.sentence)],
     );
 }
 
@@ -336,7 +336,7 @@ fn add_like(draft: &mut Draft, read: Read<'_, '_>, place: usize, name: &[u8]) {
     if let Some(near) = like.known {
         return draft.help(
             "did you mean {}? Names are as they are written, capitals and small letters apart",
-            &[Part::Shown(near)],
+            &[Fill::Shown(near)],
         );
     }
     if let Some(near) = like.first {

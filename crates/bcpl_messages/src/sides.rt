@@ -1,6 +1,6 @@
 //! Names and values, or places and values, that are not as many.
 
-use crate::draft::{Draft, Part};
+use crate::draft::{Draft, Fill};
 use crate::words::{is_at, is_symbol};
 use bc_lex_tokens::{Symbol, Token};
 
@@ -159,8 +159,8 @@ pub fn says_sides(draft: &mut Draft, tokens: &[Token<'_>], index: usize) -> bool
     } else {
         "each name has its value: on the left of = stand {}, on the right {}"
     };
-    let left = Part::Number(sides.left as u64);
-    let right = Part::Number(sides.right as u64);
+    let left = Fill::Number(sides.left as u64);
+    let right = Fill::Number(sides.right as u64);
     draft.help(sentence, &[left, right]);
     true
 }

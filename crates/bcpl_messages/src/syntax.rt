@@ -2,7 +2,7 @@ ghost use Rattle.std.specs.Prelude.{slice_get};
 ghost use Rattle.bcpl_messages.specs.Spans.{IsSpanOf};
 
 use crate::brackets::{open_at, tag};
-use crate::draft::{Draft, Part};
+use crate::draft::{Draft, Fill};
 use crate::likeness::reserved_word;
 use crate::neighbours::{help_for_name, help_for_neighbours, help_for_token};
 use crate::read::Read;
@@ -294,7 +294,7 @@ fn say_reserved<'a>(draft: &mut Draft, name: &'a [u8], word: &'a str, is_first: 
     };
     draft.help(
         "{} is a name; the reserved word is {}{}",
-        &[Part::Shown(name), Part::Text(word), Part::Text(old)],
+        &[Fill::Shown(name), Fill::Text(word), Fill::Text(old)],
     );
 }
 
@@ -379,7 +379,7 @@ fn help_for(draft: &mut Draft, tokens: &[Token<'_>], index: usize) {
 fn tell_expected(draft: &mut Draft, read: Read<'_, '_>, index: usize) {
     draft.place(read.place(index));
     match read.tokens.get(index) {
-        Some(token) => draft.say("{} can't stand here", &[Part::Shown(token.text)]),
+        Some(token) => draft.say("{} can't stand here", &[Fill::Shown(token.text)]),
         None => draft.say("the file ends too early", &[]),
     }
     say_wanted(draft, read.tokens, index);
@@ -398,7 +398,7 @@ fn say_unclosed(draft: &mut Draft, bracket: Option<&Token<'_>>, count: usize) {
         1 => "this {} is not closed, nor is another one around it",
         _ => "this {} is not closed, nor are {} others around it",
     };
-    draft.say(sentence, &[Part::Shown(text), Part::Number(others as u64)]);
+    draft.say(sentence, &[Fill::Shown(text), Fill::Number(others as u64)]);
 }
 
 /// Tells of sections that are open at the end.
@@ -425,7 +425,7 @@ fn tell_tag(draft: &mut Draft, read: Read<'_, '_>, index: usize, innermost: usiz
         Some(token) => tag(token),
         None => b"",
     };
-    draft.say("no open $( has the tag {}", &[Part::Shown(name)]);
+    draft.say("no open $( has the tag {}", &[Fill::Shown(name)]);
     draft.note(
         read.place(innermost),
         "the innermost that is open here",

@@ -1,6 +1,6 @@
 use crate::certificate::{Lined, lines_of};
 use crate::placed::{Placed, Text, is_byte};
-use crate::report::{Part, Report};
+use crate::report::{Fill, Report};
 use crate::text_items::item_at;
 use bc_cert_defs::{Judged, Mismatch, Verdict};
 use bc_rules_defs::Piece;
@@ -107,10 +107,10 @@ fn add_item(
         placed,
         "item {} of segment {} is {} by entry {} of the certificate",
         &[
-            Part::Number(other.item as u128),
-            Part::Number(segment as u128),
-            Part::Item(other.wanted),
-            Part::Number(u128::from(entry)),
+            Fill::Number(other.item as u128),
+            Fill::Number(segment as u128),
+            Fill::Item(other.wanted),
+            Fill::Number(u128::from(entry)),
         ],
     )
 }
@@ -158,10 +158,10 @@ fn beyond(
         placed,
         "the code of this entry takes {} items from item {} on, and segment {} has {}",
         &[
-            Part::Number(u128::from(count)),
-            Part::Number(u128::from(judged.item)),
-            Part::Number(u128::from(judged.segment)),
-            Part::Number(items as u128),
+            Fill::Number(u128::from(count)),
+            Fill::Number(u128::from(judged.item)),
+            Fill::Number(u128::from(judged.segment)),
+            Fill::Number(items as u128),
         ],
         ALL_TEXTS,
     )
@@ -178,8 +178,8 @@ fn elsewhere(
         placed,
         "this entry stands in segment {}, and the texts have {}, counted from 0",
         &[
-            Part::Number(u128::from(segment)),
-            Part::Number(count as u128),
+            Fill::Number(u128::from(segment)),
+            Fill::Number(count as u128),
         ],
         ALL_TEXTS,
     )

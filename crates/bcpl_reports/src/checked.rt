@@ -2,7 +2,7 @@ use crate::certificate::{Entry, Lined, head_of, lines_of, node_lines};
 use crate::codes::wrong_code;
 use crate::costs::wrong_cost;
 use crate::placed::{Placed, Text};
-use crate::report::{Part, Report};
+use crate::report::{Fill, Report};
 use crate::rules::wrong_rule;
 use bc_cert_defs::CheckFault;
 use bc_cert_lines::{end_line, node_line, root_line};
@@ -43,7 +43,7 @@ fn add_no_node(report: &mut Report, placed: Placed<'_>, line: &[u8]) -> Result<(
         Some(node) => report.fault(
             placed,
             "in front of a node stand the trees of its parts, each at its level, and here they don't; the parts of this node: {}",
-            &[Part::Number(node.form.parts() as u128)],
+            &[Fill::Number(node.form.parts() as u128)],
             FORMS,
         ),
         None => report.fault(placed, no_node(line), &[], FORMS),

@@ -2,7 +2,7 @@ use crate::certificate::Entry;
 use crate::derived::rooted_of;
 use crate::fields::piece_text;
 use crate::placed::Placed;
-use crate::report::{Part, Report};
+use crate::report::{Fill, Report};
 use bc_cert_lines::{RootLine, code_line};
 use bc_cert_trees::{Rooted, Stack};
 use bc_rules::{code_of, next_label, words};
@@ -73,8 +73,8 @@ fn add_words(report: &mut Report, entry: &Entry<'_>, count: u64) -> Result<(), M
         entry.lined.field(entry.index, 5),
         "the code has {} words, and {} stands here",
         &[
-            Part::Number(u128::from(count)),
-            Part::Number(u128::from(entry.head.words)),
+            Fill::Number(u128::from(count)),
+            Fill::Number(u128::from(entry.head.words)),
         ],
     )
 }

@@ -1,6 +1,6 @@
 use crate::certificate::Entry;
 use crate::least::least_of;
-use crate::report::{Part, Report};
+use crate::report::{Fill, Report};
 use bc_cert_lines::NodeLine;
 use bc_cert_node::LeastWords;
 use bc_word::Memory;
@@ -52,10 +52,10 @@ fn wrong_number(least: &LeastWords, line: &NodeLine) -> Option<NodeNumber> {
 }
 
 /// How many words, with a sign where there is no number.
-fn words(number: Option<u128>) -> Part<'static> {
+fn words(number: Option<u128>) -> Fill<'static> {
     match number {
-        Some(number) => Part::Number(number),
-        None => Part::Text("-"),
+        Some(number) => Fill::Number(number),
+        None => Fill::Text("-"),
     }
 }
 
@@ -76,7 +76,7 @@ fn add_wrong(
     report.place(
         entry.lined.field(entry.line(node), field),
         sentence,
-        &[Part::Text(what), words(wrong.right), words(wrong.written)],
+        &[Fill::Text(what), words(wrong.right), words(wrong.written)],
     )
 }
 

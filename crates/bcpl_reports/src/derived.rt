@@ -4,13 +4,13 @@ ghost use Rattle.bc_cert_trees.specs.View.{stack};
 
 use bc_cert_defs::CheckFault;
 use bc_cert_lines::{NodeLine, RootLine};
-use bc_cert_trees::{Place, Rooted, Stack};
+use bc_cert_trees::{Position, Rooted, Stack};
 use bc_rules_defs::Table;
 use bc_word::Memory;
 use std::alloc::Global;
 
 /// A place of which nothing is told.
-const NOWHERE: Place = Place {
+const NOWHERE: Position = Position {
     line: 0,
     entry: 0,
     node: 0,

@@ -1,6 +1,6 @@
 use crate::instruction::instruction;
 use crate::placed::{Placed, Text};
-use crate::report::{Part, Report};
+use crate::report::{Fill, Report};
 use crate::text_items::item_at;
 use bc_machine_defs::End;
 use bc_machine_image::Image;
@@ -154,8 +154,8 @@ fn add_address(report: &mut Report, address: u16, sentence: &str) -> Result<(), 
     report.say(
         sentence,
         &[
-            Part::Number(u128::from(address)),
-            Part::Number(u128::from(global)),
+            Fill::Number(u128::from(address)),
+            Fill::Number(u128::from(global)),
         ],
     )
 }
@@ -166,11 +166,11 @@ fn add_end(report: &mut Report, stop: &Stop) -> Result<(), Memory> {
         End::ZeroDivide => report.text("a division or a remainder by 0, at "),
         End::BadInstruction(_) => report.say(
             "the word {} is no instruction, at ",
-            &[Part::Number(u128::from(stop.words.0))],
+            &[Fill::Number(u128::from(stop.words.0))],
         ),
         End::BudgetSpent => report.say(
             "{} instructions were carried out; the next one stands at ",
-            &[Part::Number(u128::from(stop.steps))],
+            &[Fill::Number(u128::from(stop.steps))],
         ),
         End::Device => report.text("an input or an output failed, at "),
         End::Finished => Ok(()),
@@ -217,8 +217,8 @@ fn help_for(stop: &Stop, is_code: bool) -> Option<&'static str> {
 }
 
 /// What so many words are called.
-fn unit(words: usize) -> Part<'static> {
-    Part::Text(if words == 1 { "word" } else { "words" })
+fn unit(words: usize) -> Fill<'static> {
+    Fill::Text(if words == 1 { "word" } else { "words" })
 }
 
 /// Adds which routine stands in front of a spot.
@@ -230,10 +230,10 @@ fn add_routine(report: &mut Report, global: u16, distance: usize) -> Result<(), 
     report.line(
         "  the nearest routine of a global in front of it is that of {}{}{}, which begins {} {} before",
         &[
-            Part::Number(u128::from(global)),
-            Part::Text(comma),
-            Part::Text(name),
-            Part::Number(distance as u128),
+            Fill::Number(u128::from(global)),
+            Fill::Text(comma),
+            Fill::Text(name),
+            Fill::Number(distance as u128),
             unit(distance),
         ],
     )
@@ -244,8 +244,8 @@ fn add_label(report: &mut Report, label: u16, distance: usize) -> Result<(), Mem
     report.line(
         "  the nearest label in front of it is {}, {} {} before",
         &[
-            Part::Number(u128::from(label)),
-            Part::Number(distance as u128),
+            Fill::Number(u128::from(label)),
+            Fill::Number(distance as u128),
             unit(distance),
         ],
     )

@@ -1,5 +1,5 @@
 use crate::placed::{Stretch, is_byte};
-use crate::report::Part;
+use crate::report::Fill;
 use bc_rules_defs::Piece;
 
 /// The stretch of the field with this index of a line, fields being separated by a blank; where there is none, behind the line.
@@ -29,9 +29,9 @@ pub fn field_of(bytes: &[u8], line: Stretch, index: usize) -> Stretch {
 }
 
 /// A piece as a certificate has it: a body has the sign `?`.
-pub fn piece_text(piece: &Piece) -> Part<'_> {
+pub fn piece_text(piece: &Piece) -> Fill<'_> {
     match piece {
-        Piece::Item(item) => Part::Item(item),
-        Piece::Body(_) => Part::Text("?"),
+        Piece::Item(item) => Fill::Item(item),
+        Piece::Body(_) => Fill::Text("?"),
     }
 }

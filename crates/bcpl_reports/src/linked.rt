@@ -1,5 +1,5 @@
 use crate::placed::{Placed, Text};
-use crate::report::{Part, Report};
+use crate::report::{Fill, Report};
 use crate::text_items::item_at;
 use bc_link::LinkError;
 use bc_text_items::{Base, Item, Segment};
@@ -62,7 +62,7 @@ fn label_unset(report: &mut Report, placed: Placed<'_>, label: u16) -> Result<()
     report.fault(
         placed,
         "the label {} stands nowhere in this segment",
-        &[Part::Number(u128::from(label))],
+        &[Fill::Number(u128::from(label))],
         "each segment has labels of its own; what another segment has is reached by a global",
     )
 }
@@ -103,7 +103,7 @@ fn label_twice(
     report.place(
         second,
         "the label {} stands here once more",
-        &[Part::Number(u128::from(label))],
+        &[Fill::Number(u128::from(label))],
     )?;
     report.note(first, "it stands here already")?;
     report.help("a segment has each label once; a Z may be missing between two segments")
@@ -147,12 +147,12 @@ fn global_set_at<'a>(
 
 /// Adds that a global is set once more.
 fn set_again(report: &mut Report, placed: Placed<'_>, number: u16) -> Result<(), Memory> {
-    let global = Part::Number(u128::from(number));
+    let global = Fill::Number(u128::from(number));
     match library_name(number) {
         Some(name) => report.place(
             placed,
             "the global {}, {} of the library, is set here once more",
-            &[global, Part::Text(name)],
+            &[global, Fill::Text(name)],
         ),
         None => report.place(placed, "the global {} is set here once more", &[global]),
     }
@@ -179,10 +179,10 @@ fn add_name(name: &mut Report, texts: &[Text<'_>], segment: usize) -> Result<(),
     match place_of(texts, segment, 0) {
         Some(placed) => name.say(
             "{}, segment {} of all",
-            &[Part::Text(placed.text.path), Part::Number(segment as u128)],
+            &[Fill::Text(placed.text.path), Fill::Number(segment as u128)],
         ),
         None if segment == 0 => name.text("the primitives"),
-        None => name.say("segment {}", &[Part::Number(segment as u128)]),
+        None => name.say("segment {}", &[Fill::Number(segment as u128)]),
     }
 }
 
@@ -219,7 +219,7 @@ fn sizes_of(
 fn add_sizes(report: &mut Report, texts: &[Text<'_>], segments: &[Segment]) -> Result<(), Memory> {
     let sizes = sizes_of(report.alloc(), texts, segments)?;
     let lines = too_large(report.alloc(), sizes.as_slice())?;
-    report.line("{}", &[Part::Text(lines.as_str())])
+    report.line("{}", &[Fill::Text(lines.as_str())])
 }
 
 /// Adds what is said of a label that stands nowhere in its segment.

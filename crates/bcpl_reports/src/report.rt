@@ -10,7 +10,7 @@ const SHOWN: usize = 40;
 
 /// What a place of a sentence is filled with.
 #[derive(Clone, Copy)]
-pub enum Part<'a> {
+pub enum Fill<'a> {
     Text(&'a str),
     /// Bytes, each as the character with its number.
     Letters(&'a [u8]),
@@ -119,19 +119,19 @@ impl Report {
         }
     }
 
-    fn part(&mut self, part: Part<'_>) -> Result<(), Memory> {
+    fn part(&mut self, part: Fill<'_>) -> Result<(), Memory> {
         match part {
-            Part::Text(text) => self.text(text),
-            Part::Letters(letters) => self.letters(letters),
-            Part::Front(name) => self.front(name),
-            Part::Number(number) => self.number(number),
-            Part::Item(item) => self.item(item),
-            Part::Found(byte) => self.found(byte),
+            Fill::Text(text) => self.text(text),
+            Fill::Letters(letters) => self.letters(letters),
+            Fill::Front(name) => self.front(name),
+            Fill::Number(number) => self.number(number),
+            Fill::Item(item) => self.item(item),
+            Fill::Found(byte) => self.found(byte),
         }
     }
 
     /// Adds the part with this index, where there is one.
-    fn nth(&mut self, parts: &[Part<'_>], index: usize) -> Result<(), Memory> {
+    fn nth(&mut self, parts: &[Fill<'_>], index: usize) -> Result<(), Memory> {
         match parts.get(index) {
             Some(part) => self.part(*part),
             None => Ok(()),
@@ -139,7 +139,7 @@ impl Report {
     }
 
     /// Adds a sentence, in which each `{}` is the place of the next of these parts.
-    pub fn say(&mut self, sentence: &str, parts: &[Part<'_>]) -> Result<(), Memory> {
+    pub fn say(&mut self, sentence: &str, parts: &[Fill<'_>]) -> Result<(), Memory> {
         let mut at: usize = 0;
         for text in sentence.split("{}") {
             if at > 0 {
@@ -152,7 +152,7 @@ impl Report {
     }
 
     /// Adds a sentence as a line.
-    pub fn line(&mut self, sentence: &str, parts: &[Part<'_>]) -> Result<(), Memory> {
+    pub fn line(&mut self, sentence: &str, parts: &[Fill<'_>]) -> Result<(), Memory> {
         self.say(sentence, parts)?;
         self.text("\n")
     }
@@ -167,9 +167,9 @@ impl Report {
         self.say(
             "{}:{}:{}: ",
             &[
-                Part::Text(text.path),
-                Part::Number(line.number as u128),
-                Part::Number(column as u128),
+                Fill::Text(text.path),
+                Fill::Number(line.number as u128),
+                Fill::Number(column as u128),
             ],
         )
     }
@@ -188,7 +188,7 @@ impl Report {
         &mut self,
         placed: Placed<'_>,
         sentence: &str,
-        parts: &[Part<'_>],
+        parts: &[Fill<'_>],
     ) -> Result<(), Memory> {
         self.begin_place(placed)?;
         self.say(sentence, parts)?;
@@ -200,7 +200,7 @@ impl Report {
         &mut self,
         placed: Placed<'_>,
         sentence: &str,
-        parts: &[Part<'_>],
+        parts: &[Fill<'_>],
         help: &str,
     ) -> Result<(), Memory> {
         self.place(placed, sentence, parts)?;
@@ -215,7 +215,7 @@ impl Report {
 
     /// Adds what to do.
     pub fn help(&mut self, help: &str) -> Result<(), Memory> {
-        self.line("  help: {}", &[Part::Text(help)])
+        self.line("  help: {}", &[Fill::Text(help)])
     }
 
     pub fn into_text(self) -> String {

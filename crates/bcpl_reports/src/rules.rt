@@ -1,6 +1,6 @@
 use crate::certificate::Entry;
 use crate::derived::{rooted_of, takes};
-use crate::report::{Part, Report};
+use crate::report::{Fill, Report};
 use bc_cert_lines::{NodeLine, RootLine, node_line};
 use bc_cert_trees::Stack;
 use bc_rules_defs::{Rule, Table};
@@ -27,7 +27,7 @@ const MOST_NODES: usize = 400;
 #[derive(Clone, Copy)]
 struct Name {
     front: &'static str,
-    behind: Part<'static>,
+    behind: Fill<'static>,
 }
 
 /// The node line that begins so and has these rules; none where they make none.
@@ -73,7 +73,7 @@ impl<'a> Trial<'a> {
         if self.takes(trees, before, name)? {
             right.push(Name {
                 front: before,
-                behind: Part::Text(name),
+                behind: Fill::Text(name),
             })?;
         }
         Ok(())
@@ -152,10 +152,10 @@ fn assignment(rule: Rule) -> &'static str {
 /// A root line as a certificate has it.
 fn root_name(root: RootLine) -> Name {
     let (front, behind) = match root {
-        RootLine::Value => ("R V", Part::Text("")),
-        RootLine::Test(false) => ("R F", Part::Text("")),
-        RootLine::Test(true) => ("R T", Part::Text("")),
-        RootLine::Assign(rule, level) => (assignment(rule), Part::Number(u128::from(level))),
+        RootLine::Value => ("R V", Fill::Text("")),
+        RootLine::Test(false) => ("R F", Fill::Text("")),
+        RootLine::Test(true) => ("R T", Fill::Text("")),
+        RootLine::Assign(rule, level) => (assignment(rule), Fill::Number(u128::from(level))),
     };
     Name { front, behind }
 }
@@ -221,11 +221,11 @@ fn add_right(report: &mut Report, right: &[Name]) -> Result<(), Memory> {
     let does = if count == 1 { "this does" } else { "these do" };
     report.say(
         "  help: by what the lines of its parts show, {}: ",
-        &[Part::Text(does)],
+        &[Fill::Text(does)],
     )?;
     for (index, name) in right.iter().enumerate() {
-        let between = Part::Text(between(index, count));
-        report.say("{}{}{}", &[between, Part::Text(name.front), name.behind])?;
+        let between = Fill::Text(between(index, count));
+        report.say("{}{}{}", &[between, Fill::Text(name.front), name.behind])?;
     }
     report.text("\n")
 }

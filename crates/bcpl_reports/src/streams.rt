@@ -1,4 +1,4 @@
-use crate::report::{Part, Report};
+use crate::report::{Fill, Report};
 use bc_word::Memory;
 use std::alloc::Global;
 
@@ -22,7 +22,7 @@ fn add_repeated<'a>(report: &mut Report, names: &[&'a str], side: &'a str) -> Re
     match repeated(names) {
         Some(name) => report.line(
             "two {} have the name {}",
-            &[Part::Text(side), Part::Front(name)],
+            &[Fill::Text(side), Fill::Front(name)],
         ),
         None => Ok(()),
     }
@@ -36,10 +36,10 @@ fn add_long<'a>(report: &mut Report, name: &'a str, side: &'a str) -> Result<(),
     report.line(
         "the name {} of one of the {} has {} bytes, and {} are the most",
         &[
-            Part::Front(name),
-            Part::Text(side),
-            Part::Number(name.len() as u128),
-            Part::Number(MOST as u128),
+            Fill::Front(name),
+            Fill::Text(side),
+            Fill::Number(name.len() as u128),
+            Fill::Number(MOST as u128),
         ],
     )
 }

@@ -1,5 +1,5 @@
 use crate::placed::{Placed, Stretch, Text, is_byte};
-use crate::report::{Part, Report};
+use crate::report::{Fill, Report};
 use crate::text_items::next_where;
 use bc_text::TextError;
 use bc_word::Memory;
@@ -87,7 +87,7 @@ fn bad_character(report: &mut Report, text: Text<'_>, at: usize) -> Result<(), M
     report.fault(
         one_byte(text, at),
         "no item begins with {}",
-        &[Part::Found(found)],
+        &[Fill::Found(found)],
         character_help(found),
     )
 }
@@ -120,7 +120,7 @@ fn no_number(report: &mut Report, text: Text<'_>, at: usize, letters: &[u8]) -> 
     report.fault(
         one_byte(text, at),
         sentence,
-        &[Part::Letters(letters), Part::Found(found)],
+        &[Fill::Letters(letters), Fill::Found(found)],
         ITEMS,
     )
 }
@@ -146,7 +146,7 @@ fn missing_label(report: &mut Report, text: Text<'_>, at: usize) -> Result<(), M
     report.fault(
         one_byte(text, at),
         "`L` and the number of a label are wanted here, and {} stands here",
-        &[Part::Found(found)],
+        &[Fill::Found(found)],
         "G5L7 says that the global 5 begins as the address of the label 7",
     )
 }

@@ -12,7 +12,7 @@ use crate::values::is_used;
 use bc_lex::{Source, lex};
 use bc_lex_tokens::Token;
 use bc_word::Memory;
-use bcpl_messages::{Draft, Message, Named, Part, told_lines};
+use bcpl_messages::{Draft, Fill, Message, Named, told_lines};
 use bcpl_places::Span;
 use std::alloc::Global;
 
@@ -63,9 +63,9 @@ fn warns_of_library_global(draft: &mut Draft, main: &Main<'_, '_, '_>, at: usize
     draft.say(
         "the global {} is {} of the library, and here it is named {}",
         &[
-            Part::Number(u64::from(number)),
-            Part::Text(name),
-            Part::Shown(main.text(at)),
+            Fill::Number(u64::from(number)),
+            Fill::Text(name),
+            Fill::Shown(main.text(at)),
         ],
     );
     draft.help(
@@ -84,9 +84,9 @@ fn warns_of_number(draft: &mut Draft, main: &Main<'_, '_, '_>, at: usize) -> boo
     draft.say(
         "the global {} is named {} in this file already, and here {}",
         &[
-            Part::Number(u64::from(number)),
-            Part::Shown(name),
-            Part::Shown(main.text(at)),
+            Fill::Number(u64::from(number)),
+            Fill::Shown(name),
+            Fill::Shown(main.text(at)),
         ],
     );
     draft.help(
@@ -105,7 +105,7 @@ fn warns_of_unset(draft: &mut Draft, main: &Main<'_, '_, '_>, at: usize) -> bool
     begin(draft, main.tokens, at);
     draft.say(
         "{} is called here, and nothing in the program sets the global {}",
-        &[Part::Shown(main.text(at)), Part::Number(u64::from(number))],
+        &[Fill::Shown(main.text(at)), Fill::Number(u64::from(number))],
     );
     draft.help(
         "a routine sets it that is declared while its name means the global: is a file of the program missing?",
@@ -122,7 +122,7 @@ fn warns_of_assignment(draft: &mut Draft, main: &Main<'_, '_, '_>, at: usize) ->
     begin(draft, main.tokens, at);
     draft.say(
         "{} is a routine of the library, and this assignment puts something else in its place",
-        &[Part::Shown(main.text(at))],
+        &[Fill::Shown(main.text(at))],
     );
     draft.help(
         "all calls of it are changed, the library's own too; a variable of one's own is declared by LET",
@@ -147,7 +147,7 @@ fn warns_of_arguments(draft: &mut Draft, main: &Main<'_, '_, '_>, at: usize) -> 
         } else {
             "this call hands over {} arguments, and "
         },
-        &[Part::Number(arguments as u64)],
+        &[Fill::Number(arguments as u64)],
     );
     draft.say(
         if parameters == 1 {
@@ -155,7 +155,7 @@ fn warns_of_arguments(draft: &mut Draft, main: &Main<'_, '_, '_>, at: usize) -> 
         } else {
             "{} has {} parameters"
         },
-        &[Part::Shown(main.text(at)), Part::Number(parameters as u64)],
+        &[Fill::Shown(main.text(at)), Fill::Number(parameters as u64)],
     );
     draft.help(
         "a parameter for which nothing is handed over has no value",
@@ -171,7 +171,7 @@ fn warns_of_format(draft: &mut Draft, main: &Main<'_, '_, '_>, at: usize) -> boo
         return false;
     };
     let sign = [letter];
-    let letter = Part::Shown(&sign);
+    let letter = Fill::Shown(&sign);
     begin(draft, main.tokens, at);
     draft.say(
         "WRITEF doesn't know %{}, and writes {} in its place",
@@ -196,7 +196,7 @@ fn warns_of_value(draft: &mut Draft, main: &Main<'_, '_, '_>, at: usize) -> bool
     begin(draft, main.tokens, at);
     draft.say(
         "the value of {} is used, and it is a routine of BE, whose value means nothing",
-        &[Part::Shown(main.text(at))],
+        &[Fill::Shown(main.text(at))],
     );
     draft.help(
         "a routine with a value is defined by =, as in LET F(X) = VALOF $( .. RESULTIS E $)",
@@ -213,7 +213,7 @@ fn warns_of_unreached(draft: &mut Draft, main: &Main<'_, '_, '_>, at: usize) -> 
     begin(draft, main.tokens, behind);
     draft.say(
         "nothing comes to this command: {} in front of it goes elsewhere",
-        &[Part::Shown(main.text(at))],
+        &[Fill::Shown(main.text(at))],
     );
     draft.help(
         "a label, a CASE or a DEFAULT in front of it would let it be reached; else take it away",

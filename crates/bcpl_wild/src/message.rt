@@ -10,7 +10,7 @@ use bc_interpret_trace::Standing;
 use bc_lex::Source;
 use bc_machine_image::Image;
 use bc_word::Memory;
-use bcpl_messages::{Draft, Message, Part};
+use bcpl_messages::{Draft, Fill, Message};
 use bcpl_places::Span;
 use std::alloc::Global;
 
@@ -198,13 +198,13 @@ impl Lacking<'_> {
         draft.filled(
             sentence,
             &[
-                Part::Number(arguments as u64),
-                Part::Shown(self.routine),
-                Part::Number(self.parameter.count as u64),
-                Part::Text(self.parameters()),
-                Part::Shown(self.name),
-                Part::Number(number as u64),
-                Part::Text(ending(number)),
+                Fill::Number(arguments as u64),
+                Fill::Shown(self.routine),
+                Fill::Number(self.parameter.count as u64),
+                Fill::Text(self.parameters()),
+                Fill::Shown(self.name),
+                Fill::Number(number as u64),
+                Fill::Text(ending(number)),
             ],
         )
     }
@@ -215,12 +215,12 @@ impl Lacking<'_> {
         draft.filled(
             "{} was called here, and {} is the {}{} of its {} {}",
             &[
-                Part::Shown(self.routine),
-                Part::Shown(self.name),
-                Part::Number(number as u64),
-                Part::Text(ending(number)),
-                Part::Number(self.parameter.count as u64),
-                Part::Text(self.parameters()),
+                Fill::Shown(self.routine),
+                Fill::Shown(self.name),
+                Fill::Number(number as u64),
+                Fill::Text(ending(number)),
+                Fill::Number(self.parameter.count as u64),
+                Fill::Text(self.parameters()),
             ],
         )
     }
@@ -330,7 +330,7 @@ pub fn placed_message(
     sentence: String,
 ) -> Result<Message, Memory> {
     let mut draft = Draft::new(alloc, 0);
-    draft.say("{}", &[Part::Text(sentence.as_str())]);
+    draft.say("{}", &[Fill::Text(sentence.as_str())]);
     tell_calls(&mut draft, program, stand, None, None);
     draft.into_message()
 }
@@ -426,7 +426,7 @@ impl<'s> Walk<'s> {
 /// Says in which routine the run stands.
 fn say_within(draft: &mut Draft, name: &[u8]) {
     if !name.is_empty() {
-        draft.say(", in {}", &[Part::Shown(name)]);
+        draft.say(", in {}", &[Fill::Shown(name)]);
     }
 }
 
@@ -437,7 +437,7 @@ fn said_of_others(draft: &mut Draft, left: usize) -> String {
         1 => "; {} more call around it, left out here",
         _ => "; {} more calls around it, left out here",
     };
-    draft.filled(sentence, &[Part::Number(left as u64)])
+    draft.filled(sentence, &[Fill::Number(left as u64)])
 }
 
 /// What is said behind a call of those that are left out: all of it behind the last call that is told.
@@ -452,18 +452,18 @@ fn add_leading<'a>(
     not_handed: Option<&'a NotHanded>,
     more: &'a str,
 ) {
-    let more = Part::Text(more);
+    let more = Fill::Text(more);
     let span = leading.span;
     if let Some(not_handed) = not_handed
         && not_handed.back == leading.back
     {
-        let note = Part::Text(not_handed.note.as_str());
+        let note = Fill::Text(not_handed.note.as_str());
         return draft.note(span, "{}{}", &[note, more]);
     }
     match leading.called {
         Called::Library => draft.note(span, "a routine of the library was called here{}", &[more]),
         Called::Routine(name) => {
-            let name = Part::Shown(name.unwrap_or(b""));
+            let name = Fill::Shown(name.unwrap_or(b""));
             draft.note(span, "{} was called here{}", &[name, more]);
         }
     }

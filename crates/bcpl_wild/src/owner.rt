@@ -6,7 +6,7 @@ use crate::placed::{LabelOf, ReadMain, labelled, read};
 use bc_interpret_trace::Standing;
 use bc_machine_image::Image;
 use bc_scope_places::VariableSite;
-use bcpl_messages::{Draft, Part};
+use bcpl_messages::{Draft, Fill};
 
 /// The address of the cell of global 0.
 const GLOBALS: u16 = 8;
@@ -66,9 +66,9 @@ fn global(draft: &mut Draft, program: &Program<'_, '_>, number: u16) -> Owner {
         Some(_) => "global {} {}",
         None => "global {}",
     };
-    let name = Part::Shown(name.unwrap_or(b""));
+    let name = Fill::Shown(name.unwrap_or(b""));
     Owner {
-        text: draft.filled(sentence, &[Part::Number(u64::from(number)), name]),
+        text: draft.filled(sentence, &[Fill::Number(u64::from(number)), name]),
         kind: Kind::Cell,
     }
 }
@@ -127,7 +127,7 @@ fn name_of_primitive<'s>(
 fn of_primitives(draft: &mut Draft, program: &Program<'_, '_>, address: u16) -> Owner {
     match name_of_primitive(draft, program, address) {
         Some(name) => Owner {
-            text: draft.filled("{}", &[Part::Shown(name)]),
+            text: draft.filled("{}", &[Fill::Shown(name)]),
             kind: Kind::Code,
         },
         None => Owner {
@@ -165,10 +165,10 @@ fn behind_label(
     };
     Some(Owner {
         text: if back == 0 || is_code {
-            draft.filled("{}", &[Part::Shown(name)])
+            draft.filled("{}", &[Fill::Shown(name)])
         } else {
-            let back = Part::Number(u64::from(back));
-            draft.filled("cell {} behind that of {}", &[back, Part::Shown(name)])
+            let back = Fill::Number(u64::from(back));
+            draft.filled("cell {} behind that of {}", &[back, Fill::Shown(name)])
         },
         kind,
     })
@@ -248,8 +248,8 @@ impl<'s> Frame<'_, 's> {
 
     /// The variable that has the cell at this offset.
     fn within(&self, draft: &mut Draft, site: VariableSite, offset: u64) -> Option<Owner> {
-        let name = Part::Shown(self.read.text(site.leaf)?);
-        let routine = Part::Shown(self.routine());
+        let name = Fill::Shown(self.read.text(site.leaf)?);
+        let routine = Fill::Shown(self.routine());
         Some(match offset.saturating_sub(site.offset).checked_sub(1) {
             None => Owner {
                 text: draft.filled("{} of {}", &[name, routine]),
@@ -261,7 +261,7 @@ impl<'s> Frame<'_, 's> {
             Some(index) => Owner {
                 text: draft.filled(
                     "cell {} of the vector {} of {}",
-                    &[Part::Number(index), name, routine],
+                    &[Fill::Number(index), name, routine],
                 ),
                 kind: Kind::Cell,
             },
@@ -282,10 +282,10 @@ impl<'s> Frame<'_, 's> {
             text: draft.filled(
                 sentence,
                 &[
-                    Part::Number(distance),
-                    Part::Shown(name),
-                    Part::Shown(self.routine()),
-                    Part::Number(count),
+                    Fill::Number(distance),
+                    Fill::Shown(name),
+                    Fill::Shown(self.routine()),
+                    Fill::Number(count),
                 ],
             ),
             kind: Kind::Behind,
@@ -298,8 +298,8 @@ impl<'s> Frame<'_, 's> {
             text: draft.filled(
                 "at the address {}, behind all variables of {}",
                 &[
-                    Part::Number(u64::from(address)),
-                    Part::Shown(self.routine()),
+                    Fill::Number(u64::from(address)),
+                    Fill::Shown(self.routine()),
                 ],
             ),
             kind: Kind::Behind,

@@ -3,7 +3,7 @@
 use crate::message::Met;
 use crate::owner::{Kind, Owner};
 use bc_interpret_quiet::Cause;
-use bcpl_messages::{Draft, Part};
+use bcpl_messages::{Draft, Fill};
 
 /// What is known of a wild access beside its cause.
 #[derive(Clone, Copy)]
@@ -47,7 +47,7 @@ fn say_unset(draft: &mut Draft, known: Known<'_>, address: u16) {
     } else {
         " is read {}, and nothing was ever put into it"
     };
-    draft.say(sentence, &[Part::Text(known.place())]);
+    draft.say(sentence, &[Fill::Text(known.place())]);
 }
 
 /// Says that what is no routine is called.
@@ -57,15 +57,15 @@ fn say_no_routine(draft: &mut Draft, met: &Met<'_>, known: Known<'_>, value: u16
     } else {
         "the value {} is called {}, and no routine has that address"
     };
-    let value = Part::Number(u64::from(value));
-    draft.say(sentence, &[value, Part::Text(known.place())]);
+    let value = Fill::Number(u64::from(value));
+    draft.say(sentence, &[value, Fill::Text(known.place())]);
 }
 
 /// Says that a call has no room, which is one of so many within one another.
 fn say_too_large(draft: &mut Draft, calls: usize) {
     draft.say(
         "this call, the {}{} within one another, would need cells behind the last one of the store",
-        &[Part::Number(calls as u64), Part::Text(ending(calls))],
+        &[Fill::Number(calls as u64), Fill::Text(ending(calls))],
     );
 }
 
@@ -99,10 +99,10 @@ fn say_no_cell(draft: &mut Draft, known: Known<'_>, address: u16, access: Access
 
 /// The same, where something is known that the address belongs to.
 fn say_of_owner(draft: &mut Draft, known: Known<'_>, owner: &Owner, access: Access) {
-    let place = Part::Text(known.place());
-    let text = Part::Text(owner.text.as_str());
-    let verb = Part::Text(access.verb);
-    let forbidden = Part::Text(access.forbidden);
+    let place = Fill::Text(known.place());
+    let text = Fill::Text(owner.text.as_str());
+    let verb = Fill::Text(access.verb);
+    let forbidden = Fill::Text(access.forbidden);
     match owner.kind {
         Kind::Code => draft.say(
             "the value of {} is the address of its code, which {}",
@@ -125,9 +125,9 @@ fn say_gone(draft: &mut Draft, known: Known<'_>, address: u16, access: Access) {
     draft.say(
         "the address {} is {} {}, and there is no cell of the program there now",
         &[
-            Part::Number(u64::from(address)),
-            Part::Text(access.verb),
-            Part::Text(known.place()),
+            Fill::Number(u64::from(address)),
+            Fill::Text(access.verb),
+            Fill::Text(known.place()),
         ],
     );
 }
@@ -135,8 +135,8 @@ fn say_gone(draft: &mut Draft, known: Known<'_>, address: u16, access: Access) {
 /// Says the address, with whose cell it is where that is known.
 fn say_whose(draft: &mut Draft, known: Known<'_>, address: u16) {
     match known.owner {
-        Some(owner) => draft.say("{}", &[Part::Text(owner.text.as_str())]),
-        None => draft.say("the address {}", &[Part::Number(u64::from(address))]),
+        Some(owner) => draft.say("{}", &[Fill::Text(owner.text.as_str())]),
+        None => draft.say("the address {}", &[Fill::Number(u64::from(address))]),
     }
 }
 
