@@ -1,7 +1,5 @@
 //! Leaves: what stands in a tree as it stands among the tokens, so that one can be counted by the other.
-ghost use Rattle.std.specs.Prelude.{◌<◌, length, IfSome};
 
-use bc_lex_tokens::{Symbol, Token, TokenKind};
 use bc_parse_tree::Exp;
 
 /// The leaves of a construct, from the first to the last. They are counted in text order, from 0 on.
@@ -79,53 +77,4 @@ fn calls_behind(e: &Exp<'_>) -> u64 {
         | Exp::Table(_)
         | Exp::Valof(_) => 0,
     }
-}
-
-/// Whether a word is met by a walk over trees in text order. Other words and signs are not.
-fn is_word(symbol: Symbol) -> bool {
-    matches!(
-        symbol,
-        Symbol::Break
-            | Symbol::Case
-            | Symbol::Default
-            | Symbol::EndCase
-            | Symbol::False
-            | Symbol::Finish
-            | Symbol::Goto
-            | Symbol::Loop
-            | Symbol::ResultIs
-            | Symbol::Return
-            | Symbol::Table
-            | Symbol::True
-            | Symbol::ValueOf
-            | Symbol::Vector
-    )
-}
-
-/// Whether a token is a leaf: a name, a number, a character, a string, or one of BREAK, CASE, DEFAULT, ENDCASE, FALSE,
-/// FINISH, GOTO, LOOP, RESULTIS, RETURN, TABLE, TRUE, VALOF and VEC.
-pub fn is_leaf(kind: TokenKind<'_>) -> bool {
-    match kind {
-        TokenKind::Name(_)
-        | TokenKind::Number(_)
-        | TokenKind::Character(_)
-        | TokenKind::String(_) => true,
-        TokenKind::Symbol(symbol) => is_word(symbol),
-    }
-}
-
-/// The index of the token that is this leaf, if there are as many.
-pub fn token_of(tokens: &[Token<'_>], leaf: u64) -> Option<usize>
-    ensures within { IfSome result (λ i. i < length tokens.now) }
-{
-    let mut left = leaf;
-    for (i, token) in tokens.iter().enumerate() {
-        if is_leaf(token.kind) {
-            if left == 0 {
-                return Some(i);
-            }
-            left -= 1;
-        }
-    }
-    None
 }

@@ -3,11 +3,12 @@ ghost use Rattle.std.specs.Prelude.{◌≡◌, ◌<◌, ◌≤◌, length, true,
 ghost use Rattle.bc_scope_places.specs.Named.{name_of, named, spelled, HasName};
 
 use crate::brackets::around;
-use crate::leaves::{Leaves, token_of};
+use crate::leaves::Leaves;
 use crate::record::Sites;
 use crate::span::Span;
 use crate::walk::{Beside, End, Found, Walk};
 use bc_lex_tokens::{Token, TokenKind};
+use bc_parse_leaves::token_at;
 use bc_parse_tree::Section;
 use bc_scope_names::ScopeError;
 use bc_word::Memory;
@@ -87,8 +88,8 @@ fn has_name(tokens: &[Token<'_>], i: usize, name: Option<&[u8]>) -> bool
 fn span_of(tokens: &[Token<'_>], at: Leaves) -> Option<Span>
     ensures { IfSome result (λ s. (s.first ≤ s.last) × (s.last < length tokens.now)) }
 {
-    let first = token_of(tokens, at.first)?;
-    let last = token_of(tokens, at.last)?;
+    let first = token_at(tokens, at.first)?;
+    let last = token_at(tokens, at.last)?;
     if first <= last {
         Some(around(tokens, at, first, last))
     } else {
@@ -143,13 +144,6 @@ pub fn sites_of(alloc: Global, section: &Section<'_>) -> Result<Option<Sites>, M
         Err(End::Found) => Ok(None),
         Err(End::Memory) => Err(Memory),
     }
-}
-
-/// The token that is this leaf of a section.
-pub fn token_at(tokens: &[Token<'_>], leaf: u64) -> Option<usize>
-    ensures within { IfSome result (λ i. i < length tokens.now) }
-{
-    token_of(tokens, leaf)
 }
 
 /// Where the fault of a section stands among its tokens.
