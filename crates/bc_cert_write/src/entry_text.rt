@@ -17,7 +17,7 @@ use crate::workings::Workings;
 use bc_core::Root;
 use bc_rules::words;
 use bc_rules_defs::{Derivation, Entry, Piece};
-use bc_select::{Row, is_selectable};
+use bc_select::Row;
 use bc_word::Memory;
 use std::alloc::Global;
 
@@ -31,8 +31,8 @@ fn code_words(code: &[Piece]) -> Result<u64, Memory>
     Ok(words(code))
 }
 
-/// The node lines of a root with its derivation, from the rows of its nodes. A root of more than 2^32 nodes has no place
-/// in memory.
+/// The node lines of a root with its derivation, from the rows of its nodes, as many as it has nodes. A root of more than 2^32 nodes has no
+/// place in memory.
 fn root_nodes(
     alloc: Global,
     text: &mut Text,
@@ -43,7 +43,7 @@ fn root_nodes(
     requires { ∥ AllZip IsRowOf (root_in_order (root_of root.now)) rows.now ∥₁ }
     ensures { OnOk result (AddsNodes (root_of root.now) (tree derivation.now) text.old.bytes.items text.new.bytes.items) }
 {
-    if !is_selectable(root) {
+    if rows.len() > 1 << 32 {
         return Err(Memory);
     }
     let marks = marks_of(alloc, root, derivation, rows.len())?;
