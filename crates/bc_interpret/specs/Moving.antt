@@ -15,13 +15,16 @@ use Rattle.bc_interpret_defs.specs.Running.{start_at, start_state}
 use Rattle.bc_interpret_steps.specs.declared.forms.Work.{Work}
 use Rattle.bc_interpret_steps.specs.declared.forms.Work.TheVariants as works
 use Rattle.bc_interpret_steps.specs.declared.forms.Progress.{Progress}
+use Rattle.bc_interpret_steps.specs.declared.forms.Progress.TheVariants as progress
 use Rattle.bc_interpret_steps.specs.declared.rests.Rest.{Rest}
 use Rattle.bc_interpret_steps.specs.declared.sections.Callable.{Callable}
 use Rattle.bc_interpret_steps.specs.declared.state.State.{State}
+use Rattle.bc_interpret_steps.specs.declared.state.Stacks.{Stacks}
 use Rattle.bc_interpret_steps.specs.Code.{stack, given}
 use Rattle.bc_interpret_steps.specs.Came.{state_of, at}
 use Rattle.bc_interpret_steps.specs.Sections.{IsTable}
 use Rattle.bc_interpret_steps.specs.Stepped.{Stepped}
+use Rattle.bc_interpret_steps.specs.Passing.{Ran, work_next}
 use Rattle.bc_interpret.specs.declared.run.Run.{Run}
 use Rattle.bc_interpret.specs.declared.run.Moved.{Moved}
 use Rattle.bc_interpret.specs.declared.run.Moved.TheVariants.{On, Over}
@@ -42,23 +45,34 @@ at_of w rests = at (given rests) w (stack rests)
 abbrev pub weight_of : Work → List Rest → ℕ
 weight_of w rests = let a = at_of w rests in weight a.work a.rests
 
--- what a step came to
-abbrev pub StepIs : List Placed → Work → List Rest → State → Progress → List Rest → State → Type 0
-StepIs program w rests old p rests1 new = let a = at_of w rests in Stepped program a.work a.rests old p (stack rests1) (given rests1) new
+-- what a step from here came to
+abbrev pub StepIs : List Placed → machine.At → State → Progress → List Rest → State → Type 0
+StepIs program a old p rests1 new = Stepped program a.work a.rests old p (stack rests1) (given rests1) new
 
--- the result of what is left of a run, by the calls of this program that nest at most n deep
+-- what steps that change nothing, and a last one behind them, came to
+abbrev pub RanIs : List Placed → Work → List Rest → State → Progress → List Rest → State → Type 0
+RanIs program w rests old p rests1 new = Ran program (at_of w rests) old p (stack rests1) (given rests1) new
+
+-- the result of what is left of a run from here on, by the calls of this program that nest at most n deep
+abbrev pub left_from : List Placed → ℕ → machine.At → State → Content → Result
+left_from program n a st streams = result_of (meant (calls program n) a (state_of st streams))
+
 abbrev pub left_of : List Placed → ℕ → Work → List Rest → State → Content → Result
-left_of program n w rests st streams = result_of (meant (calls program n) (at_of w rests) (state_of st streams))
+left_of program n w rests st streams = left_from program n (at_of w rests) st streams
+
+-- what is done next in a run, with what is left to do
+abbrev pub next_of : Run → Work
+next_of run = work_next run.stacks.next
 
 -- how a primitive's work moves a run
-abbrev pub moved_of : Served → Moved
-moved_of (forms.Number v) = On (works.Number v)
-moved_of (forms.Wild c) = Over (outs.Wild c)
-moved_of forms.Device = Over outs.Device
+abbrev pub MovesBy : Served → Moved → (after : Stacks) → (before : Stacks) → Type 0
+MovesBy (forms.Number v) moved after before = (moved ≡ On) × (after ≡ record before { next = progress.On (works.Number v) })
+MovesBy (forms.Wild c) moved after before = (moved ≡ Over (outs.Wild c)) × (after ≡ before)
+MovesBy forms.Device moved after before = (moved ≡ Over outs.Device) × (after ≡ before)
 
 -- this result is that of what is left, or that with which the run is over
 abbrev pub Comes : List Placed → ℕ → Result → Moved → Run → Content → Type 0
-Comes program n r (On w) run streams = r ≡ left_of program n w run.stacks.rests.items run.state streams
+Comes program n r On run streams = r ≡ left_of program n (next_of run) run.stacks.rests.items run.state streams
 Comes program n r (Over o) run streams = IsResult r o streams
 
 abbrev pub Keeps : List Callable → Work → Run → Content → Moved → Run → Content → Type 0
@@ -68,8 +82,8 @@ Keeps table w old before moved new after =
 
 -- a wild access to which the machine comes from what is to be done next, it comes to from here; or it comes to the one that is named
 abbrev pub Leads : List Placed → machine.At → outcomes.State → Moved → Run → Content → Type 0
-Leads program from start (On w) run streams =
-    (cause : Cause) → ComesTo program (at_of w run.stacks.rests.items) (state_of run.state streams) cause → ComesTo program from start cause
+Leads program from start On run streams =
+    (cause : Cause) → ComesTo program (at_of (next_of run) run.stacks.rests.items) (state_of run.state streams) cause → ComesTo program from start cause
 Leads program from start (Over o) run streams = Names program from start o
 
 abbrev pub Tracks : List Callable → Work → Run → Content → Moved → Run → Content → Type 0
@@ -77,12 +91,13 @@ Tracks table w old before moved new after =
     (program : List Placed) → IsTable program table → Leads program (at_of w old.stacks.rests.items) (state_of old.state before) moved new after
 
 abbrev pub Lessened : Work → Run → Moved → Run → Type 0
-Lessened w old (On next) new =
-    (new.state.turns ≤ old.state.turns) × (old.state.turns ≤ new.state.turns → weight_of next new.stacks.rests.items < weight_of w old.stacks.rests.items)
+Lessened w old On new =
+    (new.state.turns ≤ old.state.turns)
+    × (old.state.turns ≤ new.state.turns → weight_of (next_of new) new.stacks.rests.items < weight_of w old.stacks.rests.items)
 Lessened w old (Over o) new = Unit {0}
 
 abbrev pub TookTurn : Moved → Run → Run → Type 0
-TookTurn (On next) old new = new.state.turns < old.state.turns
+TookTurn On old new = new.state.turns < old.state.turns
 TookTurn (Over o) old new = Unit {0}
 
 -- what one step came to, over streams whose content may be known

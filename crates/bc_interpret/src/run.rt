@@ -1,7 +1,7 @@
 // Runs.
 
-ghost use Rattle.std.specs.Prelude.{◌≡◌, IfOk};
-ghost use Rattle.bc_interpret.specs.Moving.{HasProgram, moved_of, AdvancedOn, StretchedOn, CompletedOn};
+ghost use Rattle.std.specs.Prelude.{IfOk};
+ghost use Rattle.bc_interpret.specs.Moving.{HasProgram, MovesBy, next_of, AdvancedOn, StretchedOn, CompletedOn};
 
 use crate::serve::{Served, serve};
 use bc_interpret_quiet::Cause;
@@ -64,19 +64,23 @@ impl Run<'_> {
     }
 }
 
-/// What comes of a step: what is to be done next, or what the run came to.
+/// Whether a run goes on.
 #[derive(Clone, Copy)]
-enum Moved<'c> {
-    On(Work<'c>),
+enum Moved {
+    /// It does: what is to be done next stands with what is left to do.
+    On,
     Over(Outcome),
 }
 
 /// How a primitive's work moves a run.
-fn moved_by<'c>(served: Served) -> Moved<'c>
-    ensures { result ≡ moved_of served }
+fn moved_by(served: Served, stacks: &mut Stacks<'_>) -> Moved
+    ensures { MovesBy served result stacks.new stacks.old }
 {
     match served {
-        Served::Number(v) => Moved::On(Work::Number(v)),
+        Served::Number(v) => {
+            stacks.next = Progress::On(Work::Number(v));
+            Moved::On
+        }
         Served::Wild(cause) => Moved::Over(Outcome::Wild(cause)),
         Served::Device => Moved::Over(Outcome::Device),
     }
@@ -85,19 +89,19 @@ fn moved_by<'c>(served: Served) -> Moved<'c>
 /// One step, with what a primitive does.
 ///
 /// `Memory` comes where an allocation was refused.
+#[inline(always)]
 fn advance<'c, S: Streams>(
     table: &[Callable<'c>],
-    work: &Work<'c>,
     run: &mut Run<'c>,
     streams: &mut S,
-) -> Result<Moved<'c>, Memory>
+) -> Result<Moved, Memory>
     requires { HasProgram table.now }
-    ensures { IfOk result (λ moved. AdvancedOn S.known S.content S.failures table.now work.now run.old run.new streams.old streams.new moved) }
+    ensures { IfOk result (λ moved. AdvancedOn S.known S.content S.failures table.now (next_of run.old) run.old run.new streams.old streams.new moved) }
 {
-    run.trace.follow(work, run.stacks.rests.as_slice())?;
-    step(table, work, &mut run.stacks, &mut run.state)?;
+    run.trace.follow(&run.stacks)?;
+    step(table, &mut run.stacks, &mut run.state)?;
     match run.stacks.next {
-        Progress::On(next) => Ok(Moved::On(next)),
+        Progress::On(_) => Ok(Moved::On),
         Progress::Serve(primitive, frame) => {
             let served = serve(
                 primitive,
@@ -106,7 +110,7 @@ fn advance<'c, S: Streams>(
                 streams,
                 &mut run.name,
             )?;
-            Ok(moved_by(served))
+            Ok(moved_by(served, &mut run.stacks))
         }
         Progress::Answered => Ok(Moved::Over(Outcome::Ended(Ending::Finished))),
         Progress::Ended(ending) => Ok(Moved::Over(Outcome::Ended(ending))),
@@ -118,25 +122,23 @@ fn advance<'c, S: Streams>(
 /// Steps up to one that takes a turn.
 ///
 /// `Memory` comes where an allocation was refused.
+#[inline(always)]
 fn stretch<'c, S: Streams>(
     table: &[Callable<'c>],
-    work: Work<'c>,
     run: &mut Run<'c>,
     streams: &mut S,
-) -> Result<Moved<'c>, Memory>
+) -> Result<Moved, Memory>
     requires { HasProgram table.now }
-    ensures { IfOk result (λ moved. StretchedOn S.known S.content S.failures table.now work.entry run.old run.new streams.old streams.new moved) }
+    ensures { IfOk result (λ moved. StretchedOn S.known S.content S.failures table.now (next_of run.old) run.old run.new streams.old streams.new moved) }
 {
-    let mut now = work;
     loop {
         let before = run.state.turns;
-        let moved = advance(table, &now, run, streams)?;
+        let moved = advance(table, run, streams)?;
         match moved {
-            Moved::On(next) => {
+            Moved::On => {
                 if run.state.turns < before {
-                    return Ok(Moved::On(next));
+                    return Ok(Moved::On);
                 }
-                now = next;
             }
             Moved::Over(outcome) => return Ok(Moved::Over(outcome)),
         }
@@ -148,18 +150,16 @@ fn stretch<'c, S: Streams>(
 /// `Memory` comes where an allocation was refused.
 pub(crate) fn to_end<'c, S: Streams>(
     table: &[Callable<'c>],
-    work: Work<'c>,
     run: &mut Run<'c>,
     streams: &mut S,
 ) -> Result<Outcome, Memory>
     requires { HasProgram table.now }
-    ensures { IfOk result (λ outcome. CompletedOn S.known S.content S.failures table.now work.entry run.old streams.old streams.new outcome) }
+    ensures { IfOk result (λ outcome. CompletedOn S.known S.content S.failures table.now (next_of run.old) run.old streams.old streams.new outcome) }
 {
-    let mut now = work;
     loop {
-        let moved = stretch(table, now, run, streams)?;
+        let moved = stretch(table, run, streams)?;
         match moved {
-            Moved::On(next) => now = next,
+            Moved::On => {}
             Moved::Over(outcome) => return Ok(outcome),
         }
     }

@@ -3,6 +3,8 @@
 ghost use Rattle.std.specs.Prelude.{◌≡◌, ◌+◌, [], map, IfOk};
 ghost use Rattle.bc_core.specs.View.{section as section_view};
 ghost use Rattle.bc_interpret_steps.specs.Sections.{program_of};
+ghost use Rattle.bc_interpret_steps.specs.declared.forms.Progress.TheVariants.{On};
+ghost use Rattle.bc_interpret_steps.specs.declared.forms.Work.TheVariants.{Number};
 ghost use Rattle.bc_interpret.specs.Interpreted.{InterpretedOn};
 ghost use Rattle.bc_interpret.specs.Moving.{RunOn};
 
@@ -19,16 +21,17 @@ use bc_machine::{Image, Streams};
 use bc_word::Memory;
 use std::alloc::Global;
 
-/// A run over this store, with nothing left to do.
+/// A run over this store, with nothing left to do behind the address of global 1.
 fn run_over<'c>(alloc: Global, store: Store, turns: u64) -> Run<'c>
     ensures store { result.state.store ≡ store }
     ensures turns { result.state.turns ≡ turns }
+    ensures next { result.stacks.next ≡ On (Number 9) }
     ensures rests { result.stacks.rests.items ≡ [] }
 {
     Run {
         state: State { store, turns },
         stacks: Stacks {
-            next: Progress::Answered,
+            next: Progress::On(Work::Number(9)),
             rests: Vec::new(alloc),
             room: Room {
                 rests: Vec::new(alloc),
@@ -69,7 +72,7 @@ fn run_sections<S: Streams>(
         &mut run.stacks.rests,
     )?;
     put(Rest::Number(NumberRest::Loads), &mut run.stacks.rests)?;
-    let outcome = to_end(table.as_slice(), Work::Number(9), &mut run, streams)?;
+    let outcome = to_end(table.as_slice(), &mut run, streams)?;
     let trail = run.trail(alloc)?;
     Ok(Interpreted { outcome, trail })
 }

@@ -2,6 +2,7 @@ pub mod Argues
 pub mod Arrivals
 pub mod Assigns
 pub mod Counts
+pub mod Entered
 pub mod Entries
 pub mod Frames
 pub mod Gathers
@@ -9,6 +10,7 @@ pub mod Handing
 pub mod Listings
 pub mod Loads
 pub mod Loops
+pub mod Passing
 pub mod Performs
 pub mod Piles
 pub mod Quiet

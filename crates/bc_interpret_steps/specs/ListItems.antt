@@ -1,13 +1,16 @@
 -- For proofs: what comes of the first item of a list.
-use Rattle.std.specs.Prelude.{ℕ, ◌≡◌, List}
+use Rattle.std.specs.Prelude.{ℕ, ◌≡◌, Bool, List}
 use Rattle.bc_machine_defs.specs.Streams.{Content}
+use Rattle.bc_core.specs.Commands.{Items}
 use Rattle.bc_core.specs.View.{items, items_before}
 use Rattle.bc_core.specs.declared.command.ListItem.{ListItem}
+use Rattle.bc_core.specs.Lists.{Beginning, met}
 use Rattle.bc_interpret_defs.specs.Machine as machine
 use Rattle.bc_interpret_defs.specs.Machine.{list_step}
 use Rattle.bc_interpret_defs.specs.Causes.{Stood}
 use Rattle.bc_interpret_steps.specs.declared.state.State.{State}
 use Rattle.bc_interpret_steps.specs.declared.forms.Entry.{Entry}
+use Rattle.bc_interpret_steps.specs.declared.forms.Entry.TheVariants as entries
 use Rattle.bc_interpret_steps.specs.declared.forms.Progress.{Progress}
 use Rattle.bc_interpret_steps.specs.declared.rests.Rest.{Rest}
 use Rattle.bc_interpret_steps.specs.declared.lists.Along.{Along}
@@ -26,3 +29,27 @@ IsAlong E first behind s at before old (forms.On next) p after new =
     streams))
     × Stood old.store new.store
 IsAlong E first behind s at before old forms.Over p after new = Goes (list_step E (items_before first (items behind)) s (entry_of at)) before old p after new
+
+-- whether the item is the place at which a list is entered so, which is not at its beginning
+abbrev pub IsEntry : Bool → ListItem → Entry → Type 0
+IsEntry here i entries.Beginning = Unit {0}
+IsEntry here i at =
+    (E : machine.Spot) (behind : Items) (s : ℕ) (rs : List machine.Rest)
+    → list_step E (items_before i behind) s (entry_of at) rs ≡ list_step E behind s (met here (entry_of at)) rs
+
+-- these items are left of a list, of which none so far is the place
+abbrev pub IsBeforeEntry : (left all : List ListItem) → Entry → Type 0
+IsBeforeEntry left all entries.Beginning = Unit {0}
+IsBeforeEntry left all at =
+    (E : machine.Spot) (s : ℕ) (rs : List machine.Rest) → list_step E (items all) s (entry_of at) rs ≡ list_step E (items left) s (entry_of at) rs
+
+-- these are behind the place
+abbrev pub IsBehindEntry : (left all : List ListItem) → Entry → Type 0
+IsBehindEntry left all entries.Beginning = Unit {0}
+IsBehindEntry left all at =
+    (E : machine.Spot) (s : ℕ) (rs : List machine.Rest) → list_step E (items all) s (entry_of at) rs ≡ list_step E (items left) s Beginning rs
+
+-- the list, entered so, is these from their beginning on
+abbrev pub IsEntered : (left all : List ListItem) → Entry → Type 0
+IsEntered left all at =
+    (E : machine.Spot) (s : ℕ) (rs : List machine.Rest) → list_step E (items all) s (entry_of at) rs ≡ list_step E (items left) s Beginning rs

@@ -3,6 +3,7 @@
 ghost use Rattle.bc_interpret_defs.specs.Machine as machine;
 ghost use Rattle.bc_interpret_steps.specs.Code.{exit_of};
 ghost use Rattle.bc_interpret_steps.specs.Stepped.{StepsOver};
+ghost use Rattle.bc_interpret_steps.specs.Passing.{RunsOver};
 
 use crate::calls::arrive;
 use crate::exits::{exit_taken, nothing_taken};
@@ -111,8 +112,23 @@ pub(crate) fn give_nothing<'c>(
     }
 }
 
-/// Control has left a command.
+/// Control has left a command. What does nothing behind it is passed at once.
+#[inline(always)]
 pub(crate) fn give_exit<'c>(
+    table: &[Callable<'c>],
+    exit: Exit,
+    stacks: &mut Stacks<'c>,
+    state: &mut State,
+) -> Result<(), Memory>
+    ensures { RunsOver table.now (machine.Give (machine.Left (exit_of exit))) stacks.old.rests state.old result stacks.new.next stacks.new.rests state.new }
+{
+    let out = stacks.pass(exit);
+    Ok(hand_exit(table, out, stacks, state)?)
+}
+
+/// Control has left a command, and what is left to do first takes that.
+#[inline(always)]
+fn hand_exit<'c>(
     table: &[Callable<'c>],
     exit: Exit,
     stacks: &mut Stacks<'c>,

@@ -6,7 +6,8 @@ ghost use Rattle.bc_core.specs.Outcome.{in_turn};
 ghost use Rattle.bc_core.specs.View.{exp, items as items_view, block_of};
 ghost use Rattle.bc_interpret_defs.specs.Machine as machine;
 ghost use Rattle.bc_interpret_steps.specs.declared.state.State.{State as StateValue};
-ghost use Rattle.bc_interpret_steps.specs.Code.{spot_of, exit_of, exit_rest, nothing_rest, work_of};
+ghost use Rattle.bc_interpret_steps.specs.Code.{spot_of, exit_of, exit_rest, nothing_rest, work_of, stack};
+ghost use Rattle.bc_interpret_steps.specs.Passing.{IsHandedOn, IsLeft, IsPassed, PassesOn};
 ghost use Rattle.bc_interpret_steps.specs.Came.{IsBehind, IsBehindCases, CameOrMalformed};
 ghost use Rattle.bc_interpret_steps.specs.Stepped.{Takes, TakesOrMalformed, GivesOrMalformed, GivesIfOk};
 
@@ -59,6 +60,92 @@ fn step_variable<'c>(
         return Ok(Progress::Going);
     }
     Ok(Progress::On(Work::Round(spot, limit, by, body, s)))
+}
+
+/// Whether nothing is done behind a command, with these items behind it, that control leaves so.
+#[inline(always)]
+fn is_left(items: &[ListItem], exit: Exit) -> bool
+    ensures { IsLeft (items_view items.now) (exit_of exit) result }
+{
+    match exit {
+        Exit::Past => match items {
+            [] => true,
+            [_, ..] => false,
+        },
+        Exit::Broke
+        | Exit::Looped
+        | Exit::LeftCases
+        | Exit::Returned
+        | Exit::Resulted(_)
+        | Exit::Jumped(_) => true,
+    }
+}
+
+/// How control leaves this where nothing is done behind it: a command of a list with none behind it, or which is left for good, a list to
+/// which no jump leads, and a SWITCHON.
+#[inline(always)]
+fn handed_on(rest: &ExitRest<'_>, exit: Exit) -> Option<Exit>
+    ensures { IsHandedOn (exit_of exit) rest.now result }
+{
+    match rest {
+        ExitRest::Follows(_, items, _) => {
+            if is_left(items, exit) {
+                Some(exit)
+            } else {
+                None
+            }
+        }
+        ExitRest::Listed(_, _, _) => match exit {
+            Exit::Jumped(_) => None,
+            Exit::Past
+            | Exit::Broke
+            | Exit::Looped
+            | Exit::LeftCases
+            | Exit::Returned
+            | Exit::Resulted(_) => Some(exit),
+        },
+        ExitRest::Cases => Some(behind_cases(exit)),
+        ExitRest::Returns
+        | ExitRest::Results
+        | ExitRest::WhileBody(_, _, _, _)
+        | ExitRest::RepeatBody(_, _, _)
+        | ExitRest::RepeatWhileBody(_, _, _, _)
+        | ExitRest::ForBody(_, _, _, _, _) => None,
+    }
+}
+
+/// How control leaves what is left to do first, where nothing is done behind it.
+#[inline(always)]
+fn passed(exit: Exit, rests: &[Rest<'_>]) -> Option<Exit>
+    ensures { IsPassed (exit_of exit) rests.now result }
+{
+    match rests.last() {
+        Some(Rest::Exit(rest)) => handed_on(rest, exit),
+        _ => None,
+    }
+}
+
+/// Control leaves what is left to do first, as long as nothing is done behind it. How it leaves the last of that is given.
+#[inline(always)]
+fn pass<'c>(exit: Exit, rests: &mut Vec<Rest<'c>>) -> Exit
+    ensures { PassesOn (exit_of exit) (stack rests.old.items) (exit_of result) (stack rests.new.items) }
+{
+    let mut now = exit;
+    while let Some(out) = passed(now, rests.as_slice()) {
+        let _gone = rests.pop();
+        now = out;
+    }
+    now
+}
+
+impl<'c> Stacks<'c> {
+    /// Control leaves what is left to do first, as long as nothing is done behind it. How it leaves the last of that is given.
+    #[inline(always)]
+    pub(crate) fn pass(&mut self, exit: Exit) -> Exit
+        ensures { PassesOn (exit_of exit) (stack self.old.rests.items) (exit_of result) (stack self.new.rests.items) }
+    {
+        pass(exit, &mut self.rests)
+    }
 }
 
 /// What is done where control leaves a command.

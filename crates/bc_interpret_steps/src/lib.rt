@@ -1,5 +1,6 @@
 //! The steps of a run of a resolved program. Each takes what is at work and what is left to do to the next, as the machine of
-//! `bc_interpret_defs` does. None takes native stack for the depth of calls; trees take it down to a depth of 16.
+//! `bc_interpret_defs` does, or some steps further where control only leaves commands. None takes native stack for the depth of calls;
+//! trees take it down to a depth of 16.
 #![tactic(auto)]
 
 mod answers;

@@ -7,7 +7,7 @@ ghost use Rattle.bc_core.specs.Lists.{has_case as has_case_of, has_label as has_
 ghost use Rattle.bc_interpret_defs.specs.Machine as machine;
 ghost use Rattle.bc_interpret_steps.specs.Code.{spot_of, entry_of};
 ghost use Rattle.bc_interpret_steps.specs.Assigns.{IsNext};
-ghost use Rattle.bc_interpret_steps.specs.ListItems.{IsAlong};
+ghost use Rattle.bc_interpret_steps.specs.ListItems.{IsAlong, IsEntry, IsBehindEntry, IsEntered};
 ghost use Rattle.bc_interpret_steps.specs.Stepped.{Proceeds};
 
 use crate::assign::{Assigned, command_at_once};
@@ -98,6 +98,46 @@ fn next_of(item: &ListItem, at: Entry) -> Next<'_>
     }
 }
 
+/// Whether an item is the place at which a list is entered so.
+#[inline(always)]
+#[tactic(auto, using(crate::proofs::Entered::no_entry))]
+fn is_entry(item: &ListItem, at: Entry) -> bool
+    ensures { IsEntry result item.now at }
+{
+    match item {
+        ListItem::Command(_) => false,
+        ListItem::Case(k) => matches!(at, Entry::AtCase(v) if v == k.get()),
+        ListItem::Default => matches!(at, Entry::AtDefault),
+        ListItem::Label(k) => matches!(at, Entry::AtLabel(l) if l == *k),
+    }
+}
+
+/// The items behind the place at which a list is entered so, which is not at its beginning.
+fn behind_entry<'c>(items: &'c [ListItem], at: Entry) -> &'c [ListItem]
+    ensures { IsBehindEntry result.now items.now at }
+{
+    let mut left = items;
+    while let [first, behind @ ..] = left {
+        if is_entry(first, at) {
+            return behind;
+        }
+        left = behind;
+    }
+    left
+}
+
+/// The items that are done from the place on at which a list is entered so.
+#[inline(always)]
+#[tactic(auto, using(crate::proofs::Entered::from_beginning, crate::proofs::Entered::from_entry))]
+fn entered<'c>(items: &'c [ListItem], at: Entry) -> &'c [ListItem]
+    ensures { IsEntered result.now items.now at }
+{
+    match at {
+        Entry::Beginning => items,
+        Entry::AtCase(_) | Entry::AtDefault | Entry::AtLabel(_) => behind_entry(items, at),
+    }
+}
+
 /// Puts what is left to do where an assignment is wild, or divides by zero: to pass it, and then the items behind it. By these its place
 /// is found.
 fn stop<'c>(
@@ -173,8 +213,8 @@ pub(crate) fn listing<'c>(
     ensures { Proceeds (machine.list_step (spot_of spot.entry) (items_view items.now) s (entry_of entry)) stacks.old.rests state.old result stacks.new.next
         stacks.new.rests state.new }
 {
-    let mut left = items;
-    let mut at = entry;
+    let mut left = entered(items, entry);
+    let mut at = Entry::Beginning;
     while let [first, behind @ ..] = left {
         let along = list_item(spot, (first, behind), s, at, stacks, state)?;
         match along {

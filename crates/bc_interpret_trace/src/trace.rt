@@ -3,7 +3,7 @@
 use crate::behind::clue_of;
 use crate::roots::roots_of_block;
 use bc_core::Block;
-use bc_interpret_steps::{Rest, TruthRest, Work};
+use bc_interpret_steps::{Progress, Rest, Stacks, TruthRest, Work};
 use bc_word::Memory;
 use std::alloc::Global;
 
@@ -40,6 +40,8 @@ pub struct Standing {
 #[derive(Drop)]
 pub struct Trace<'c> {
     marks: Vec<Mark<'c>>,
+    /// How much is left to do at least while the run is in what it went into last.
+    least: usize,
 }
 
 impl<'c> Trace<'c> {
@@ -47,35 +49,47 @@ impl<'c> Trace<'c> {
     pub fn new(alloc: Global) -> Trace<'c> {
         Trace {
             marks: Vec::new(alloc),
+            least: 0,
         }
     }
 
-    /// Follows a run through the step that does this work, before the step.
+    /// Follows a run through the step that does what is to be done next, before the step.
     ///
     /// `Memory` comes where an allocation was refused.
     #[inline(always)]
-    pub fn follow(&mut self, work: &Work<'c>, rests: &[Rest<'c>]) -> Result<(), Memory> {
-        self.forget(rests.len());
-        match work {
-            Work::Number(routine) => self.call(*routine, rests),
-            Work::Verdict(true) => self.branch(rests),
+    pub fn follow(&mut self, stacks: &Stacks<'c>) -> Result<(), Memory> {
+        let rests = stacks.rests.as_slice();
+        if self.least > rests.len() {
+            self.forget(rests.len());
+        }
+        match stacks.next {
+            Progress::On(Work::Number(routine)) => self.call(routine, rests),
+            Progress::On(Work::Verdict(true)) => self.branch(rests),
             _ => Ok(()),
         }
     }
 
     /// What was left is forgotten.
-    #[inline(always)]
     fn forget(&mut self, left: usize) {
         for _each in 0..self.marks.len() {
-            let is_left = match self.marks.last() {
-                Some(mark) => mark.least > left,
-                None => false,
+            let least = match self.marks.last() {
+                Some(mark) => mark.least,
+                None => 0,
             };
-            if !is_left {
+            self.least = least;
+            if least <= left {
                 return;
             }
             let _gone = self.marks.pop();
         }
+        self.least = 0;
+    }
+
+    /// The run goes into this, where so much is left to do at least.
+    fn mark(&mut self, least: usize, within: Within<'c>) -> Result<(), Memory> {
+        self.marks.push(Mark { least, within })?;
+        self.least = least;
+        Ok(())
     }
 
     /// A number, which is the routine where a call comes next.
@@ -84,14 +98,13 @@ impl<'c> Trace<'c> {
             return Ok(());
         };
         let given = if *fresh { 0 } else { given(rests) };
-        self.marks.push(Mark {
-            least: rests.len().saturating_sub(given),
-            within: Within::Call {
+        self.mark(
+            rests.len().saturating_sub(given),
+            Within::Call {
                 routine,
                 frame: *frame as usize,
             },
-        })?;
-        Ok(())
+        )
     }
 
     /// A truth, with which a TEST takes its first branch.
@@ -99,11 +112,7 @@ impl<'c> Trace<'c> {
         let Some(Rest::Truth(TruthRest::Chooses(_, _, that, _))) = rests.last() else {
             return Ok(());
         };
-        self.marks.push(Mark {
-            least: rests.len().saturating_sub(1),
-            within: Within::Branch(that),
-        })?;
-        Ok(())
+        self.mark(rests.len().saturating_sub(1), Within::Branch(that))
     }
 
     /// How many calls the run is in.

@@ -1,137 +1,100 @@
-use Rattle.std.proofs.Common.{sym, subst}
-use Rattle.std.proofs.lemmas.Result.{on_ok_weaker}
+use Rattle.std.proofs.Common.{sym, ap, subst, ◌∙◌}
+use Rattle.bc_interpret_steps.specs.declared.forms.Progress.TheVariants as progress
 use Rattle.bc_interpret_steps.specs.declared.forms.Work.TheVariants as works
-use Rattle.bc_interpret_steps.specs.Code.{work_of, stack, given}
-use Rattle.bc_interpret_steps.specs.Stepped.{Stepped}
-use Rattle.bc_interpret_steps.proofs.Handing.{stepped, stepped_loosely}
+use Rattle.bc_interpret_steps.specs.Code.{work_of, given}
+use Rattle.bc_interpret_steps.specs.Passing.{RunsOver}
+use Rattle.bc_interpret_steps.proofs.Passing.{proceeds_next, proceeds_loosely, ran_next, ran_once, nothing_next}
 use Rattle.bc_interpret_steps.proofs.steps.step.Goals as goal
 
-pub returns-in-Evaluate : goal.returns-in-Evaluate
-returns-in-Evaluate c program table =
-    let t = c.in-Evaluate in
-    let rs = stack c.args.stacks.now.rests.items in
-    let vs = given c.args.stacks.now.rests.items in
-    let after = c.evaluate.new.stacks.rests.items in
-    let p = c.evaluate.new.stacks.next in
-    on_ok_weaker c.evaluate.result (λ h. subst (λ w. Stepped program (work_of vs w) rs c.args.state.now p (stack after) (given after) c.args.state.now) (sym t.is)
-    (stepped_loosely program (work_of vs (works.Evaluate t.spot t.e t.s)) rs c.args.state.now p (stack after) (given after) c.args.state.now tt h)) c.evaluate.ensures
+pub returns-in-On-Evaluate : goal.returns-in-On-Evaluate
+returns-in-On-Evaluate c =
+    let t = c.in-On-Evaluate in
+    proceeds_loosely c.args.table.now c.args.stacks.now.next (works.Evaluate t.spot t.e t.s) c.args.stacks.now.rests c.args.state.now c.evaluate.result c.evaluate.new.stacks.next c.evaluate.new.stacks.rests c.args.state.now (t.is ∙ ap progress.On (rw t.is at t.field-0-is)) tt (λ program. c.evaluate.ensures)
 
-pub returns-in-Decide : goal.returns-in-Decide
-returns-in-Decide c program table =
-    let t = c.in-Decide in
-    let rs = stack c.args.stacks.now.rests.items in
-    let vs = given c.args.stacks.now.rests.items in
-    let after = c.decide.new.stacks.rests.items in
-    let p = c.decide.new.stacks.next in
-    on_ok_weaker c.decide.result (λ h. subst (λ w. Stepped program (work_of vs w) rs c.args.state.now p (stack after) (given after) c.args.state.now) (sym t.is)
-    (stepped program (work_of vs (works.Decide t.spot t.e t.s)) rs c.args.state.now p (stack after) (given after) c.args.state.now tt h)) c.decide.ensures
+pub returns-in-On-Decide : goal.returns-in-On-Decide
+returns-in-On-Decide c =
+    let t = c.in-On-Decide in
+    proceeds_next c.args.table.now c.args.stacks.now.next (works.Decide t.spot t.e t.s) c.args.stacks.now.rests c.args.state.now c.decide.result c.decide.new.stacks.next c.decide.new.stacks.rests c.args.state.now (t.is ∙ ap progress.On (rw t.is at t.field-0-is)) tt (λ program. c.decide.ensures)
 
-pub returns-in-Argue : goal.returns-in-Argue
-returns-in-Argue c program table =
-    let t = c.in-Argue in
-    let rs = stack c.args.stacks.now.rests.items in
-    let vs = given c.args.stacks.now.rests.items in
-    let after = c.argue.new.stacks.rests.items in
-    let p = c.argue.new.stacks.next in
-    on_ok_weaker c.argue.result (λ h. subst (λ w. Stepped program (work_of vs w) rs c.args.state.now p (stack after) (given after) c.args.state.now) (sym t.is)
-    (stepped program (work_of vs (works.Argue t.arguments)) rs c.args.state.now p (stack after) (given after) c.args.state.now tt h)) c.argue.ensures
+pub returns-in-On-Argue : goal.returns-in-On-Argue
+returns-in-On-Argue c =
+    let t = c.in-On-Argue in
+    proceeds_next c.args.table.now c.args.stacks.now.next (works.Argue t.arguments) c.args.stacks.now.rests c.args.state.now c.argue.result c.argue.new.stacks.next c.argue.new.stacks.rests c.args.state.now (t.is ∙ ap progress.On (rw t.is at t.field-0-is)) tt (λ program. c.argue.ensures)
 
-pub returns-in-Store : goal.returns-in-Store
-returns-in-Store c program table =
-    let t = c.in-Store in
-    let rs = stack c.args.stacks.now.rests.items in
-    let vs = given c.args.stacks.now.rests.items in
-    let after = c.store.new.stacks.rests.items in
-    let p = c.store.new.stacks.next in
-    on_ok_weaker c.store.result (λ h. subst (λ w. Stepped program (work_of vs w) rs c.args.state.now p (stack after) (given after) c.store.new.state) (sym t.is)
-    (stepped program (work_of vs (works.Store t.spot t.value t.address t.s)) rs c.args.state.now p (stack after) (given after) c.store.new.state tt h)) c.store.ensures
+pub returns-in-On-Store : goal.returns-in-On-Store
+returns-in-On-Store c =
+    let t = c.in-On-Store in
+    proceeds_next c.args.table.now c.args.stacks.now.next (works.Store t.spot t.value t.address t.s) c.args.stacks.now.rests c.args.state.now c.store.result c.store.new.stacks.next c.store.new.stacks.rests c.store.new.state (t.is ∙ ap progress.On (rw t.is at t.field-0-is)) tt (λ program. c.store.ensures)
 
-pub returns-in-Perform : goal.returns-in-Perform
-returns-in-Perform c program table =
-    let t = c.in-Perform in
-    let rs = stack c.args.stacks.now.rests.items in
-    let vs = given c.args.stacks.now.rests.items in
-    let after = c.perform.new.stacks.rests.items in
-    let p = c.perform.new.stacks.next in
-    on_ok_weaker c.perform.result (λ h. subst (λ w. Stepped program (work_of vs w) rs c.args.state.now p (stack after) (given after) c.perform.new.state) (sym t.is)
-    (stepped_loosely program (work_of vs (works.Perform t.spot t.command t.s)) rs c.args.state.now p (stack after) (given after) c.perform.new.state tt h)) c.perform.ensures
+pub returns-in-On-Perform : goal.returns-in-On-Perform
+returns-in-On-Perform c =
+    let t = c.in-On-Perform in
+    proceeds_loosely c.args.table.now c.args.stacks.now.next (works.Perform t.spot t.command t.s) c.args.stacks.now.rests c.args.state.now c.perform.result c.perform.new.stacks.next c.perform.new.stacks.rests c.perform.new.state (t.is ∙ ap progress.On (rw t.is at t.field-0-is)) tt (λ program. c.perform.ensures)
 
-pub returns-in-While : goal.returns-in-While
-returns-in-While c program table =
-    let t = c.in-While in
-    let rs = stack c.args.stacks.now.rests.items in
-    let vs = given c.args.stacks.now.rests.items in
-    let after = c.while_loop.new.stacks.rests.items in
-    let p = c.while_loop.new.stacks.next in
-    on_ok_weaker c.while_loop.result (λ h. subst (λ w. Stepped program (work_of vs w) rs c.args.state.now p (stack after) (given after) c.while_loop.new.state) (sym t.is)
-    (stepped program (work_of vs (works.While t.spot t.condition t.body t.s)) rs c.args.state.now p (stack after) (given after) c.while_loop.new.state tt h)) c.while_loop.ensures
+pub returns-in-On-While : goal.returns-in-On-While
+returns-in-On-While c =
+    let t = c.in-On-While in
+    proceeds_next c.args.table.now c.args.stacks.now.next (works.While t.spot t.condition t.body t.s) c.args.stacks.now.rests c.args.state.now c.while_loop.result c.while_loop.new.stacks.next c.while_loop.new.stacks.rests c.while_loop.new.state (t.is ∙ ap progress.On (rw t.is at t.field-0-is)) tt (λ program. c.while_loop.ensures)
 
-pub returns-in-Repeat : goal.returns-in-Repeat
-returns-in-Repeat c program table =
-    let t = c.in-Repeat in
-    let rs = stack c.args.stacks.now.rests.items in
-    let vs = given c.args.stacks.now.rests.items in
-    let after = c.repeat.new.stacks.rests.items in
-    let p = c.repeat.new.stacks.next in
-    on_ok_weaker c.repeat.result (λ h. subst (λ w. Stepped program (work_of vs w) rs c.args.state.now p (stack after) (given after) c.args.state.now) (sym t.is)
-    (stepped program (work_of vs (works.Repeat t.spot t.body t.s)) rs c.args.state.now p (stack after) (given after) c.args.state.now tt h)) (c.repeat.ensures c.args.state.now)
+pub returns-in-On-Repeat : goal.returns-in-On-Repeat
+returns-in-On-Repeat c =
+    let t = c.in-On-Repeat in
+    proceeds_next c.args.table.now c.args.stacks.now.next (works.Repeat t.spot t.body t.s) c.args.stacks.now.rests c.args.state.now c.repeat.result c.repeat.new.stacks.next c.repeat.new.stacks.rests c.args.state.now (t.is ∙ ap progress.On (rw t.is at t.field-0-is)) tt (λ program. c.repeat.ensures c.args.state.now)
 
-pub returns-in-RepeatWhile : goal.returns-in-RepeatWhile
-returns-in-RepeatWhile c program table =
-    let t = c.in-RepeatWhile in
-    let rs = stack c.args.stacks.now.rests.items in
-    let vs = given c.args.stacks.now.rests.items in
-    let after = c.repeat_while.new.stacks.rests.items in
-    let p = c.repeat_while.new.stacks.next in
-    on_ok_weaker c.repeat_while.result (λ h. subst (λ w. Stepped program (work_of vs w) rs c.args.state.now p (stack after) (given after) c.args.state.now) (sym t.is)
-    (stepped program (work_of vs (works.RepeatWhile t.spot t.body t.condition t.s)) rs c.args.state.now p (stack after) (given after) c.args.state.now tt h)) (c.repeat_while.ensures c.args.state.now)
+pub returns-in-On-RepeatWhile : goal.returns-in-On-RepeatWhile
+returns-in-On-RepeatWhile c =
+    let t = c.in-On-RepeatWhile in
+    proceeds_next c.args.table.now c.args.stacks.now.next (works.RepeatWhile t.spot t.body t.condition t.s) c.args.stacks.now.rests c.args.state.now c.repeat_while.result c.repeat_while.new.stacks.next c.repeat_while.new.stacks.rests c.args.state.now (t.is ∙ ap progress.On (rw t.is at t.field-0-is)) tt (λ program. c.repeat_while.ensures c.args.state.now)
 
-pub returns-in-Enter : goal.returns-in-Enter
-returns-in-Enter c program table =
-    let t = c.in-Enter in
-    let rs = stack c.args.stacks.now.rests.items in
-    let vs = given c.args.stacks.now.rests.items in
-    let after = c.enter.new.stacks.rests.items in
-    let p = c.enter.new.stacks.next in
-    on_ok_weaker c.enter.result (λ h. subst (λ w. Stepped program (work_of vs w) rs c.args.state.now p (stack after) (given after) c.enter.new.state) (sym t.is)
-    (stepped program (work_of vs (works.Enter t.spot t.block t.s)) rs c.args.state.now p (stack after) (given after) c.enter.new.state tt h)) c.enter.ensures
+pub returns-in-On-Enter : goal.returns-in-On-Enter
+returns-in-On-Enter c =
+    let t = c.in-On-Enter in
+    proceeds_next c.args.table.now c.args.stacks.now.next (works.Enter t.spot t.block t.s) c.args.stacks.now.rests c.args.state.now c.enter.result c.enter.new.stacks.next c.enter.new.stacks.rests c.enter.new.state (t.is ∙ ap progress.On (rw t.is at t.field-0-is)) tt (λ program. c.enter.ensures)
 
-pub returns-in-Declare : goal.returns-in-Declare
-returns-in-Declare c program table =
-    let t = c.in-Declare in
-    let rs = stack c.args.stacks.now.rests.items in
-    let vs = given c.args.stacks.now.rests.items in
-    let after = c.declare.new.stacks.rests.items in
-    let p = c.declare.new.stacks.next in
-    on_ok_weaker c.declare.result (λ h. subst (λ w. Stepped program (work_of vs w) rs c.args.state.now p (stack after) (given after) c.declare.new.state) (sym t.is)
-    (stepped program (work_of vs (works.Declare t.spot t.declarations t.items t.s t.level)) rs c.args.state.now p (stack after) (given after) c.declare.new.state tt h)) c.declare.ensures
+pub returns-in-On-Declare : goal.returns-in-On-Declare
+returns-in-On-Declare c =
+    let t = c.in-On-Declare in
+    proceeds_next c.args.table.now c.args.stacks.now.next (works.Declare t.spot t.declarations t.items t.s t.level) c.args.stacks.now.rests c.args.state.now c.declare.result c.declare.new.stacks.next c.declare.new.stacks.rests c.declare.new.state (t.is ∙ ap progress.On (rw t.is at t.field-0-is)) tt (λ program. c.declare.ensures)
 
-pub returns-in-Initialise : goal.returns-in-Initialise
-returns-in-Initialise c program table =
-    let t = c.in-Initialise in
-    let rs = stack c.args.stacks.now.rests.items in
-    let vs = given c.args.stacks.now.rests.items in
-    let after = c.initialise.new.stacks.rests.items in
-    let p = c.initialise.new.stacks.next in
-    on_ok_weaker c.initialise.result (λ h. subst (λ w. Stepped program (work_of vs w) rs c.args.state.now p (stack after) (given after) c.initialise.new.state) (sym t.is)
-    (stepped program (work_of vs (works.Initialise t.spot t.variables t.k t.s)) rs c.args.state.now p (stack after) (given after) c.initialise.new.state tt h)) c.initialise.ensures
+pub returns-in-On-Initialise : goal.returns-in-On-Initialise
+returns-in-On-Initialise c =
+    let t = c.in-On-Initialise in
+    proceeds_next c.args.table.now c.args.stacks.now.next (works.Initialise t.spot t.variables t.k t.s) c.args.stacks.now.rests c.args.state.now c.initialise.result c.initialise.new.stacks.next c.initialise.new.stacks.rests c.initialise.new.state (t.is ∙ ap progress.On (rw t.is at t.field-0-is)) tt (λ program. c.initialise.ensures)
 
-pub returns-in-Listing : goal.returns-in-Listing
-returns-in-Listing c program table =
-    let t = c.in-Listing in
-    let rs = stack c.args.stacks.now.rests.items in
-    let vs = given c.args.stacks.now.rests.items in
-    let after = c.listing.new.stacks.rests.items in
-    let p = c.listing.new.stacks.next in
-    on_ok_weaker c.listing.result (λ h. subst (λ w. Stepped program (work_of vs w) rs c.args.state.now p (stack after) (given after) c.listing.new.state) (sym t.is)
-    (stepped program (work_of vs (works.Listing t.spot t.items t.s t.entry)) rs c.args.state.now p (stack after) (given after) c.listing.new.state tt h)) c.listing.ensures
+pub returns-in-On-Listing : goal.returns-in-On-Listing
+returns-in-On-Listing c =
+    let t = c.in-On-Listing in
+    proceeds_next c.args.table.now c.args.stacks.now.next (works.Listing t.spot t.items t.s t.entry) c.args.stacks.now.rests c.args.state.now c.listing.result c.listing.new.stacks.next c.listing.new.stacks.rests c.listing.new.state (t.is ∙ ap progress.On (rw t.is at t.field-0-is)) tt (λ program. c.listing.ensures)
 
-pub returns-in-Round : goal.returns-in-Round
-returns-in-Round c program table =
-    let t = c.in-Round in
-    let rs = stack c.args.stacks.now.rests.items in
-    let vs = given c.args.stacks.now.rests.items in
-    let after = c.round.new.stacks.rests.items in
-    let p = c.round.new.stacks.next in
-    on_ok_weaker c.round.result (λ h. subst (λ w. Stepped program (work_of vs w) rs c.args.state.now p (stack after) (given after) c.round.new.state) (sym t.is)
-    (stepped program (work_of vs (works.Round t.spot t.limit t.by t.body t.s)) rs c.args.state.now p (stack after) (given after) c.round.new.state tt h)) c.round.ensures
+pub returns-in-On-Round : goal.returns-in-On-Round
+returns-in-On-Round c =
+    let t = c.in-On-Round in
+    proceeds_next c.args.table.now c.args.stacks.now.next (works.Round t.spot t.limit t.by t.body t.s) c.args.stacks.now.rests c.args.state.now c.round.result c.round.new.stacks.next c.round.new.stacks.rests c.round.new.state (t.is ∙ ap progress.On (rw t.is at t.field-0-is)) tt (λ program. c.round.ensures)
+
+pub returns-in-On-Number : goal.returns-in-On-Number
+returns-in-On-Number c =
+    let t = c.in-On-Number in
+    ran_next c.args.table.now c.args.stacks.now.next (works.Number t.v) c.args.stacks.now.rests c.args.state.now c.give_number.result c.give_number.new.stacks.next c.give_number.new.stacks.rests c.give_number.new.state (t.is ∙ ap progress.On (rw t.is at t.field-0-is)) (ran_once c.args.table.now _ c.args.stacks.now.rests c.args.state.now c.give_number.result c.give_number.new.stacks.next c.give_number.new.stacks.rests c.give_number.new.state c.give_number.ensures)
+
+pub returns-in-On-Verdict : goal.returns-in-On-Verdict
+returns-in-On-Verdict c =
+    let t = c.in-On-Verdict in
+    ran_next c.args.table.now c.args.stacks.now.next (works.Verdict t.t) c.args.stacks.now.rests c.args.state.now c.give_verdict.result c.give_verdict.new.stacks.next c.give_verdict.new.stacks.rests c.give_verdict.new.state (t.is ∙ ap progress.On (rw t.is at t.field-0-is)) (ran_once c.args.table.now _ c.args.stacks.now.rests c.args.state.now c.give_verdict.result c.give_verdict.new.stacks.next c.give_verdict.new.stacks.rests c.give_verdict.new.state c.give_verdict.ensures)
+
+pub returns-in-On-Left : goal.returns-in-On-Left
+returns-in-On-Left c =
+    let t = c.in-On-Left in
+    ran_next c.args.table.now c.args.stacks.now.next (works.Left t.exit) c.args.stacks.now.rests c.args.state.now c.give_exit.result c.give_exit.new.stacks.next c.give_exit.new.stacks.rests c.give_exit.new.state (t.is ∙ ap progress.On (rw t.is at t.field-0-is)) c.give_exit.ensures
+
+pub returns-in-On-Nothing : goal.returns-in-On-Nothing
+returns-in-On-Nothing c =
+    let t = c.in-On-Nothing in
+    ran_next c.args.table.now c.args.stacks.now.next works.Nothing c.args.stacks.now.rests c.args.state.now c.give_nothing.result c.give_nothing.new.stacks.next c.give_nothing.new.stacks.rests c.give_nothing.new.state (t.is ∙ ap progress.On (rw t.is at t.field-0-is))
+    (ran_once c.args.table.now _ c.args.stacks.now.rests c.args.state.now c.give_nothing.result c.give_nothing.new.stacks.next c.give_nothing.new.stacks.rests c.give_nothing.new.state c.give_nothing.ensures)
+
+pub returns-in-Serve : goal.returns-in-Serve
+returns-in-Serve c =
+    let g = c.give_nothing-in-Serve in
+    subst (λ w. RunsOver c.args.table.now (work_of (given c.args.stacks.now.rests.items) w) c.args.stacks.now.rests c.args.state.now g.result g.new.stacks.next g.new.stacks.rests g.new.state)
+    (sym (nothing_next c.args.stacks.now.next c.in-Serve.is))
+    (ran_once c.args.table.now _ c.args.stacks.now.rests c.args.state.now g.result g.new.stacks.next g.new.stacks.rests g.new.state g.ensures)

@@ -1,0 +1,74 @@
+-- For proofs: steps that change no cell and take no turn, one behind another, and a last one behind them.
+use Rattle.std.specs.Prelude.{ℕ, ◌≡◌, ◌<◌, Bool, true, false, List, [], ◌∷◌, ◌++◌, length, Option, Some, None, Vec, Result, OnOk}
+use Rattle.std.specs.declared.alloc.Global.{Global}
+use Rattle.bc_core.specs.Commands.{Items}
+use Rattle.bc_core.specs.Exit as exits
+use Rattle.bc_core.specs.Map.{Placed}
+use Rattle.bc_core.specs.Outcome as outcomes
+use Rattle.bc_interpret_defs.specs.Machine as machine
+use Rattle.bc_interpret_defs.specs.Machine.{step}
+use Rattle.bc_interpret_defs.specs.Running.{Moves}
+use Rattle.bc_interpret_steps.specs.declared.state.State.{State}
+use Rattle.bc_interpret_steps.specs.declared.forms.Exit.{Exit}
+use Rattle.bc_interpret_steps.specs.declared.forms.Work.{Work}
+use Rattle.bc_interpret_steps.specs.declared.forms.Work.TheVariants as works
+use Rattle.bc_interpret_steps.specs.declared.forms.Progress.{Progress}
+use Rattle.bc_interpret_steps.specs.declared.forms.Progress.TheVariants as progress
+use Rattle.bc_interpret_steps.specs.declared.rests.ExitRest.{ExitRest}
+use Rattle.bc_interpret_steps.specs.declared.rests.Rest.{Rest}
+use Rattle.bc_interpret_steps.specs.declared.rests.Rest.TheVariants as rests
+use Rattle.bc_interpret_steps.specs.declared.sections.Callable.{Callable}
+use Rattle.bc_interpret_steps.specs.Code.{exit_of, exit_rest, stack, given}
+use Rattle.bc_interpret_steps.specs.Sections.{IsTable}
+use Rattle.bc_interpret_steps.specs.Stepped.{Stepped}
+
+-- what is done next: nothing is given where nothing else stands
+abbrev pub work_next : Progress → Work
+work_next (progress.On w) = w
+work_next p = works.Nothing
+
+-- such steps lead from here to there, by way of these
+abbrev pub Passes : List Placed → (from : machine.At) → (along : List machine.At) → (to : machine.At) → Type 0
+Passes program from [] to = from ≡ to
+Passes program from (middle ∷ along) to =
+    Passes program from along middle × Moves middle.work middle.rests × ((st : outcomes.State) → step program middle.work middle.rests st ≡ outcomes.Done to st)
+
+-- such steps, and then one of which this came
+pub record Ran (program : List Placed) (from : machine.At) (old : State) (p : Progress) (rs : List machine.Rest) (vs : List ℕ) (new : State) : Type 0 where
+  pub middle : machine.At
+  pub along : List machine.At
+  pub passes : Passes program from along middle
+  pub comes : Stepped program middle.work middle.rests old p rs vs new
+
+abbrev pub RunsOver :
+    {A E : Type 0}
+    → List Callable → machine.Work → (before : Vec Rest Global) → (old : State) → Result A E → Progress → (after : Vec Rest Global) → (new : State) → Type 0
+RunsOver table w before old result p after new =
+    (program : List Placed) → IsTable program table
+    → OnOk result (Ran program (record { work = w; rests = stack before.items }) old p (stack after.items) (given after.items) new)
+
+-- control leaves so what is left to do first
+abbrev pub leaving : exits.Exit → List machine.Rest → machine.At
+leaving x rs = record { work = machine.Give (machine.Left x); rests = rs }
+
+-- it comes to leave so, with this left to do
+abbrev pub PassesOn : exits.Exit → List machine.Rest → exits.Exit → List machine.Rest → Type 0
+PassesOn x rs y rs1 = (program : List Placed) → (along : List machine.At) × Passes program (leaving x rs) along (leaving y rs1)
+
+-- the items behind a command that control leaves so do nothing
+abbrev pub IsLeft : Items → exits.Exit → Bool → Type 0
+IsLeft is x false = Unit {0}
+IsLeft is x true = (E : machine.Spot) (s : ℕ) (rs : List machine.Rest) → PassesOn x (machine.Follows E is s ∷ rs) x rs
+
+-- whatever is behind it
+abbrev pub IsHandedOn : exits.Exit → ExitRest → Option Exit → Type 0
+IsHandedOn x r None = Unit {0}
+IsHandedOn x r (Some y) = (rs : List machine.Rest) → PassesOn x (exit_rest r ∷ rs) (exit_of y) rs
+
+abbrev pub IsPassedBy : exits.Exit → Rest → Exit → Type 0
+IsPassedBy x (rests.Exit r) y = IsHandedOn x r (Some y)
+IsPassedBy x r y = ⊥
+
+abbrev pub IsPassed : exits.Exit → List Rest → Option Exit → Type 0
+IsPassed x all None = Unit {0}
+IsPassed x all (Some y) = (0 < length all) × ((below : List Rest) (top : Rest) → all ≡ below ++ top ∷ [] → IsPassedBy x top y)
