@@ -1,5 +1,5 @@
 -- A run that ended is one that the sections mean.
-use Rattle.std.proofs.Common.{◌≡◌, ◌∙◌, ◌≢◌, ◌⊎◌, inl, inr, ℕ, zero, suc, ◌+◌, ◌≤◌, List, Option, Some, None, refl, sym, ap, subst, arith}
+use Rattle.std.proofs.Common.{◌≡◌, ◌∙◌, ◌≢◌, inl, inr, ℕ, zero, suc, ◌+◌, ◌≤◌, List, Option, Some, None, refl, sym, ap, subst, arith}
 use Rattle.bc_machine_defs.specs.Streams.{Content, HoldBytes}
 use Rattle.bc_machine_defs.specs.StreamCalls.{output_of}
 use Rattle.bc_machine_defs.specs.State.{State}

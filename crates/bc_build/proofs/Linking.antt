@@ -1,14 +1,12 @@
 -- Accepted sections are refused by the linker for a global that is set twice or for their size alone.
-use Rattle.std.proofs.Common.{◌≡◌, ◌∙◌, ℕ, ◌+◌, ◌≤◌, Bool, true, false, cond, List, [], ◌∷◌, map, Option, Some, None, refl, sym, ap, arith}
+use Rattle.std.proofs.Common.{◌≡◌, ◌∙◌, ℕ, ◌+◌, Bool, true, false, cond, List, [], ◌∷◌, map, Option, Some, None, refl, sym, ap, arith}
 use Rattle.std.specs.Option.{option_map}
 use Rattle.bc_text_items.specs.declared.item.Item.{Item}
 use Rattle.bc_parse_tree.specs.Tree.{Declarations}
 use Rattle.bc_lex.specs.Files.{File}
 use Rattle.bc_link.specs.declared.link_error.LinkError.{LinkError}
 use Rattle.bc_link.specs.declared.link_error.LinkError.TheVariants.{LabelUnset, LabelTwice, GlobalTwice, TooLarge, Memory}
-use Rattle.bc_link.specs.Labels.{labels_of, uses_of}
-use Rattle.bc_link.specs.Layout.{stack_base_of}
-use Rattle.bc_link.specs.Refusals.{first_of, first_repeated, first_unset, label_twice_from, label_unset_from, repeated_global_of, global_twice, too_large, refusal_of}
+use Rattle.bc_link.specs.Refusals.{first_of, label_twice_from, label_unset_from, repeated_global_of, global_twice, too_large, refusal_of}
 use Rattle.bc_link.specs.Linked.{IsRefusal}
 use Rattle.bc_run.specs.Runs.{behind}
 use Rattle.bc_rules_defs.specs.declared.rule.Table.TheVariants.{Two}

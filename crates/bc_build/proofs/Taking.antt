@@ -1,6 +1,5 @@
 -- The certificate of a build is taken.
-use Rattle.std.proofs.Common.{◌≡◌, ◌∙◌, ◌⊎◌, inl, inr, ℕ, List, ◌++◌, length, drop, map, Some, Result, Ok, Err, refl, sym, ap, subst}
-use Rattle.std.specs.Prelude.{MatchResult}
+use Rattle.std.proofs.Common.{◌≡◌, ◌∙◌, ◌⊎◌, inl, inr, ℕ, List, length, drop, Some, Result, Ok, Err, refl, sym, ap, subst}
 use Rattle.std.proofs.Math.Seq.{drop-append_seam}
 use Rattle.bc_text_items.specs.declared.item.Item.{Item}
 use Rattle.bc_rules_defs.specs.Entry.{Entry}
@@ -12,12 +11,11 @@ use Rattle.bc_cert_defs.specs.Verdict.{Judged, Verdict}
 use Rattle.bc_cert_defs.specs.View.{verdict}
 use Rattle.bc_cert_defs.specs.Against.{Fit, Misfit, order, outside, differs, later}
 use Rattle.bc_cert_write.specs.Certificate.{certificate}
-use Rattle.bc_cert.specs.Answer.{IsAnswer, IsFault}
+use Rattle.bc_cert.specs.Answer.{IsFault}
 use Rattle.bc_cert_laws.specs.Entries.{Says}
 use Rattle.bc_cert_laws.specs.Laws.{HasOneAnswer, OneAnswer}
-use Rattle.bc_build.specs.Least.{judged, AreLeast}
 use Rattle.bc_build.specs.Certified.{IsCertified}
-use Rattle.bc_build.specs.Taken.{IsWritten, expected, IsCompared, IsTaken, CertificateIsTaken}
+use Rattle.bc_build.specs.Taken.{IsWritten, expected, IsCompared, CertificateIsTaken}
 
 no_misfit : {segments : List (List Item)} {s i n : ℕ} {es : List Judged} {m : Mismatch} → Fit segments s i es → Misfit segments s i n es m → ⊥
 no_misfit fit (order wrong) = wrong fit.0

@@ -1,22 +1,22 @@
 -- The node lines of a derivation of least words, and those of expressions without rules, lead on line by line.
-use Rattle.std.proofs.Common.{◌≡◌, ℕ, ◌+◌, ◌*◌, Bool, true, false, cond, Some, None, List, [], ◌∷◌, ◌++◌, map, flat_map, refl, ap, sym, subst, ◌∙◌, append-nil, append_assoc}
+use Rattle.std.proofs.Common.{◌≡◌, ℕ, ◌+◌, ◌*◌, Bool, true, false, cond, Some, List, [], ◌∷◌, ◌++◌, map, flat_map, refl, ap, sym, subst, ◌∙◌, append-nil, append_assoc}
 use Rattle.std.specs.List.{AllByRecursion}
 use Rattle.std.proofs.lemmas.List.{map-append}
 use Rattle.std.proofs.lemmas.Grind.{flat_map-append}
-use Rattle.bc_word.specs.declared.operator.Op.{Op}
 use Rattle.bc_word.specs.declared.operator.Op.TheVariants as operators
 use Rattle.bc_word.specs.Words.{negated}
 use Rattle.bc_core.specs.Tree.{Exp, Num, Frame, Glob, Place, Load, Neg, Not, Bin, Cond, Call, Valof, Args, no_argument, argument, count}
 use Rattle.bc_rules_defs.specs.declared.rule.Table.{Table}
 use Rattle.bc_rules_defs.specs.declared.rule.Aim.{Aim}
 use Rattle.bc_rules_defs.specs.declared.rule.Rule.{Rule}
-use Rattle.bc_rules_defs.specs.Free.{is_zero, without_zero}
+use Rattle.bc_rules_defs.specs.Free.{is_zero}
 use Rattle.bc_rules_defs.specs.Piece.{w, operand_words}
 use Rattle.bc_rules_defs.specs.Rules.{Derives, v0, v1, v2, v3, v4, v6, v7, v8, v9, v10, v11, v12, v13, v14, v15, v16, v17, v18, v19, v20, v21, v22, v22_valof, j1, j2, j3, j4, j5, j6, j7, j8, j9, DerivesAll, no_more, one_more}
 use Rattle.bc_rules_defs.specs.Code.{cost, all_cost}
 use Rattle.bc_cert_defs.specs.Verdict.{Judged}
 use Rattle.bc_cert_write.specs.Shown.{Shown, ended, below_bare, all_bare, bare, rules_at, below, all_shown as all_of_call, shown}
 use Rattle.bc_cert_write.specs.Lines.{node_line as line_of_node}
+use Rattle.bc_cert_write.proofs.Shapes.{kept}
 use Rattle.bc_cert_defs.specs.declared.head.Head.{Head}
 use Rattle.bc_cert_laws.specs.Entries.{NodeHasRoom}
 use Rattle.bc_cert_laws.specs.Faults.{Grown, all_shown, all_parts, parts, Ends, RulesStand, StandsBy, node, grown, nodes, Reaches, node_line}
@@ -134,21 +134,6 @@ abbrev front : {T : Table} {e : Exp} {aim : Aim} (d : Derives T e aim) (s : ℕ)
 front {T = T} d s room = all_front (NodeHasRoom T) (below d s) _ room
 
 -- of two operands the one beside a 0
-
-kept_of : (y z : Bool) (a b c : Exp) → cond z (Some a) (cond y (Some b) None) ≡ Some c → cond z (Some a) (Some b) ≡ Some c
-kept_of y true a b c h = h
-kept_of true false a b c h = h
-kept_of false false a b c h = cc
-
-kept_left : (z : Bool) (a b c : Exp) → cond z (Some a) None ≡ Some c → cond z (Some a) (Some b) ≡ Some c
-kept_left true a b c h = h
-kept_left false a b c h = cc
-
-kept : (op : Op) (a b c : Exp) → without_zero op a b ≡ Some c → cond (is_zero b) (Some a) (Some b) ≡ Some c
-kept operators.Add a b c h = kept_of (is_zero a) (is_zero b) a b c h
-kept operators.Subtract a b c h = kept_left (is_zero b) a b c h
-kept op a b c h = cc
-
 beside_grows : {T : Table} {c : Exp} {aim : Aim} (d : Derives T c aim) (z : Bool) (a b : Exp) (s : ℕ) → cond z (Some a) (Some b) ≡ Some c → HaveRoom T (cond z (shown d s ++ bare b s) (bare a s ++ shown d s))
     → (HaveRoom T (shown d s) → Grows T ((c, s) ∷ []) (shown d s)) → Grows T ((a, s) ∷ (b, s) ∷ []) (cond z (shown d s ++ bare b s) (bare a s ++ shown d s))
 beside_grows {T = T} {c = c} d true a b s h room grow =

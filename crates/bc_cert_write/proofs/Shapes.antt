@@ -130,7 +130,7 @@ kept_left : (z : Bool) (a b c : Exp) → cond z (Some a) None ≡ Some c → con
 kept_left true a b c h = h
 kept_left false a b c h = cc
 
-kept : (op : Op) (a b c : Exp) → without_zero op a b ≡ Some c → cond (is_zero b) (Some a) (Some b) ≡ Some c
+pub kept : (op : Op) (a b c : Exp) → without_zero op a b ≡ Some c → cond (is_zero b) (Some a) (Some b) ≡ Some c
 kept operators.Add a b c h = kept_of (is_zero a) (is_zero b) a b c h
 kept operators.Subtract a b c h = kept_left (is_zero b) a b c h
 kept op a b c h = cc

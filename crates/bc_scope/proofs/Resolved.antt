@@ -1,5 +1,5 @@
 -- From the first fault and the translation to what resolving answers.
-use Rattle.std.proofs.Common.{◌≡◌, ℕ, ◌+◌, ◌≤◌, ◌<◌, refl, ap, sym, ◌∙◌, suc, List, [], ◌∷◌, length, nat_le, IsTrue, false, Option, Some, None, arith}
+use Rattle.std.proofs.Common.{◌≡◌, ℕ, ◌+◌, ◌≤◌, ◌<◌, refl, ap, sym, ◌∙◌, suc, List, [], ◌∷◌, length, nat_le, IsTrue, Option, Some, None, arith}
 use Rattle.std.proofs.lemmas.List.{length-map}
 use Rattle.bc_core.specs.View.{section, place_of}
 use Rattle.bc_core.specs.WellFormed.{is_core}
@@ -10,6 +10,7 @@ use Rattle.bc_parse_tree.specs.Size.{declarations_size}
 use Rattle.bc_scope_names.specs.declared.error.ScopeError.{ScopeError}
 use Rattle.bc_scope_names.specs.declared.error.ScopeError.TheVariants as code
 use Rattle.bc_scope_faults.specs.Judged.{IsFault}
+use Rattle.bc_scope_faults.proofs.Turns.{stays}
 use Rattle.bc_scope_defs.specs.Scope.{nothing_known}
 use Rattle.bc_scope_defs.specs.Found.{Thing, AValof, ARoutine, Data, section_start, found_in_section}
 use Rattle.bc_scope_defs.specs.Translation.{places_of, core_of}
@@ -28,22 +29,6 @@ grouped (Some f) b c = refl
 
 pub places_last : (ds : Declarations) → section_fault ds ≡ or_else (judged ds) (places_fault (found_in_section ds))
 places_last ds = sym (same_section_fault ds) ∙ grouped (declarations_fault nothing_known section_start ds 0) (frames_fault (found_in_section ds)) (places_fault (found_in_section ds))
-
-first : (a b : Option Fault) (f : Fault) → a ≡ Some f → or_else a b ≡ Some f
-first a b f h = ap (λ x. or_else x b) h
-
-stays : (e : ScopeError) (a b : Option Fault) → IsFault e a → IsFault e (or_else a b)
-stays (code.Undeclared n) a b h = first a b _ h
-stays (code.DeclaredTwice n) a b h = first a b _ h
-stays (code.DynamicFree n) a b h = first a b _ h
-stays code.NotConstant a b h = first a b _ h
-stays (code.GlobalNumber n) a b h = first a b _ h
-stays code.NotAssignable a b h = first a b _ h
-stays code.Misplaced a b h = first a b _ h
-stays code.FrameTooLarge a b h = first a b _ h
-stays code.CaseTwice a b h = first a b _ h
-stays code.TooManyPlaces a b h = first a b _ h
-stays code.Memory a b h = h
 
 pub fault_stays : (e : ScopeError) (ds : Declarations) → IsFault e (judged ds) → IsFault e (section_fault ds)
 fault_stays e ds h = let s = stays e (judged ds) (places_fault (found_in_section ds)) h in rw (places_last ds) s

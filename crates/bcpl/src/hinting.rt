@@ -5,7 +5,7 @@ use bc_build::BuildError;
 use bc_link::LinkError;
 use bc_word::Memory;
 use bcpl_faults::{Cause, Failure};
-use bcpl_files::{Wanted, bare, contents, hint, named_twice};
+use bcpl_files::{Kind, Wanted, bare, contents, hint, kind_of, named_twice};
 use bcpl_words::{BadWords, Guess, guess_of};
 use std::alloc::Global;
 use std::rt::Files;
@@ -61,7 +61,7 @@ fn is_of_two_setters(cause: &Cause) -> bool {
     )
 }
 
-/// The lines on those of these files that look like something else than is wanted.
+/// The lines on those of these files that look like something else than is wanted, or have carriage returns alone.
 fn looks_of<F: Files>(rt: &F, alloc: Global, taken: Taken<'_>) -> Result<String, Memory> {
     let mut lines = String::new(alloc);
     for path in taken.paths {
@@ -71,6 +71,28 @@ fn looks_of<F: Files>(rt: &F, alloc: Global, taken: Taken<'_>) -> Result<String,
         }
     }
     Ok(lines)
+}
+
+/// Whether the file of this path is a source, wanted as one, whose lines end by carriage returns alone.
+fn has_returns_alone<F: Files>(rt: &F, alloc: Global, wanted: Wanted, path: &str) -> bool {
+    let Ok(bytes) = contents(rt, alloc, path) else {
+        return false;
+    };
+    matches!(
+        (kind_of(bytes.as_slice()), wanted),
+        (Some(Kind::Returns), Wanted::Source)
+    )
+}
+
+/// Whether one of these files looks like something else than is wanted, so that no help on what it has is right.
+fn is_other_among<F: Files>(rt: &F, alloc: Global, taken: Taken<'_>) -> bool {
+    for path in taken.paths {
+        let is_told_of = hint_of(rt, alloc, taken.wanted, path).is_some();
+        if is_told_of && !has_returns_alone(rt, alloc, taken.wanted, path) {
+            return true;
+        }
+    }
+    false
 }
 
 /// What was told, without the help at its end, which supposes that the file is of the kind that is wanted.
@@ -83,7 +105,7 @@ fn without_help(told: &str) -> &str {
 }
 
 /// What is told of a refusal of these files: what was told, or where some look like something else than is wanted, that in the place of the
-/// help.
+/// help; of sources with carriage returns alone, that behind it.
 fn lines_on_files<F: Files>(
     rt: &F,
     alloc: Global,
@@ -94,7 +116,12 @@ fn lines_on_files<F: Files>(
     if looks.is_empty() {
         return Ok(String::from_str(alloc, told)?);
     }
-    let mut lines = String::from_str(alloc, without_help(told))?;
+    let kept = if is_other_among(rt, alloc, taken) {
+        without_help(told)
+    } else {
+        told.trim_end_matches('\n')
+    };
+    let mut lines = String::from_str(alloc, kept)?;
     if !lines.is_empty() {
         lines.push_str("\n")?;
     }

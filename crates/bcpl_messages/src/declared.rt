@@ -167,8 +167,28 @@ pub fn declaration_of(
     Ok(first)
 }
 
-/// Where a name is likely declared that has a meaning at the token with this index: the nearest declaration in front of it that its
-/// block has, or else the first behind it. Memory is answered where a growth was refused.
+/// Whether an entry of this kind at a place stands in the list of names that the place where its name is used is in, too.
+fn shares_list(
+    alloc: Global,
+    tokens: &[Token<'_>],
+    declared: usize,
+    used: usize,
+    kind: Kind,
+) -> Result<bool, Memory> {
+    let Kind::Constant = kind else {
+        return Ok(false)
+    };
+    let list = open_before(alloc, tokens, declared)?.pop();
+    let innermost = open_before(alloc, tokens, used)?.pop();
+    Ok(match (list, innermost) {
+        (Some(list), Some(innermost)) => list == innermost,
+        _ => false,
+    })
+}
+
+/// Where a name is likely declared that has a meaning at the token with this index: behind it in the list of names that has the token, or
+/// else the nearest declaration in front of it that its block has, or else the first behind it. Memory is answered where a growth was
+/// refused.
 pub fn meaning_of(
     alloc: Global,
     tokens: &[Token<'_>],
@@ -178,9 +198,12 @@ pub fn meaning_of(
     let mut listed = Listed::Nothing;
     let mut nearest: Option<Declared> = None;
     for (place, token) in tokens.iter().enumerate() {
-        if is_named(token, name) && (place < used || nearest.is_none()) {
+        if is_named(token, name) {
             if let Some(kind) = kind_at(tokens, place, listed) {
-                if encloses(alloc, tokens, place, used, kind)? {
+                let is_nearer = place < used
+                    || nearest.is_none()
+                    || shares_list(alloc, tokens, place, used, kind)?;
+                if is_nearer && encloses(alloc, tokens, place, used, kind)? {
                     nearest = Some(Declared {
                         index: place,
                         sentence: sentence_on(kind, true, place > used),

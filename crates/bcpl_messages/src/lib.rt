@@ -25,4 +25,4 @@ pub use linking::is_set;
 pub use message::{Message, Note, message_of};
 pub use report::{Named, told_lines};
 pub use syntax::span_of;
-pub use words::shown;
+pub use words::{is_at, shown, symbol_at};

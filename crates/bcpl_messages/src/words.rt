@@ -33,10 +33,18 @@ pub fn is_symbol(token: &Token<'_>, symbol: Symbol) -> bool {
     }
 }
 
+/// The symbol that the token at a place is; none where it is none.
+pub fn symbol_at(tokens: &[Token<'_>], place: usize) -> Option<Symbol> {
+    match tokens.get(place)?.kind {
+        TokenKind::Symbol(symbol) => Some(symbol),
+        _ => None,
+    }
+}
+
 /// Whether the token at a place is this symbol.
 pub fn is_at(tokens: &[Token<'_>], place: usize, symbol: Symbol) -> bool {
-    match tokens.get(place) {
-        Some(token) => is_symbol(token, symbol),
+    match symbol_at(tokens, place) {
+        Some(found) => found.is(symbol),
         None => false,
     }
 }

@@ -1,26 +1,6 @@
-use bc_lex_tokens::{Symbol, Token, TokenKind};
+use bc_lex_tokens::{Token, TokenKind};
 use bc_parse_close::{is_symbol_beginning, is_symbol_end};
-
-/// The symbol that the token with this index is; none where it is none.
-pub fn symbol_at(tokens: &[Token<'_>], index: usize) -> Option<Symbol> {
-    match tokens.get(index) {
-        Some(
-            Token {
-                kind: TokenKind::Symbol(symbol),
-                ..
-            },
-        ) => Some(*symbol),
-        _ => None,
-    }
-}
-
-/// Whether the token with this index is this symbol.
-pub fn is_at(tokens: &[Token<'_>], index: usize, symbol: Symbol) -> bool {
-    match symbol_at(tokens, index) {
-        Some(found) => found.is(symbol),
-        None => false,
-    }
-}
+pub use bcpl_messages::{is_at, symbol_at};
 
 /// The name that the token with this index is; none where it is none.
 pub fn name_at<'s>(tokens: &[Token<'s>], index: usize) -> Option<&'s [u8]> {

@@ -1,7 +1,8 @@
 // Calls and parameters among the tokens.
 
-use crate::extent::{Extent, is_at, is_name};
+use crate::extent::{Extent, is_name};
 use bc_lex_tokens::{Symbol, Token};
+use bcpl_messages::is_at;
 
 /// Which of a routine's parameters one is, counted from 1 on, and how many there are.
 #[derive(Clone, Copy)]

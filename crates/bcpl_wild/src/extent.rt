@@ -1,28 +1,13 @@
 // The tokens of an expression, a test or an assignment, and what stands among them.
 
 use bc_lex_tokens::{Symbol, Token, TokenKind};
+use bcpl_messages::{is_at, symbol_at};
 
 /// The tokens of an expression, a test or an assignment, from the first to the last one, by their indexes.
 #[derive(Clone, Copy)]
 pub struct Extent {
     pub first: usize,
     pub last: usize,
-}
-
-/// Whether the token with this index is this symbol.
-pub fn is_at(tokens: &[Token<'_>], index: usize, symbol: Symbol) -> bool {
-    match symbol_at(tokens, index) {
-        Some(found) => found.is(symbol),
-        None => false,
-    }
-}
-
-/// The symbol that the token with this index is; none where it is none.
-fn symbol_at(tokens: &[Token<'_>], index: usize) -> Option<Symbol> {
-    match tokens.get(index)?.kind {
-        TokenKind::Symbol(symbol) => Some(symbol),
-        _ => None,
-    }
 }
 
 /// Whether the token with this index is this name.

@@ -1,14 +1,14 @@
 // Where in the sources a run stands in one of its calls.
 
 use crate::calls::{Call, Parameter, only_call, parameter_at};
-use crate::extent::{Extent, extent_from, is_at};
+use crate::extent::{Extent, extent_from};
 use bc_interpret_trace::Standing;
 use bc_lex::{Source, lex};
 use bc_lex_tokens::{Symbol, Token, TokenKind};
 use bc_machine_image::Image;
 use bc_parse::parse;
 use bc_scope_places::{BodyOf, Sites, sites_of, token_at};
-use bcpl_messages::{Draft, span_of};
+use bcpl_messages::{Draft, is_at, span_of};
 use bcpl_places::Span;
 
 /// What stands at a label: the number of its segment behind that of the primitives, and the label.
