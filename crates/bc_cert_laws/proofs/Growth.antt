@@ -193,8 +193,8 @@ mutual
   below_grows (j5 {a = e} {b = f} a b) s room least = two_grow (e, s + 1) (f, s + 1) _ _ room (λ room. whole_grows a (s + 1) room (by_one a (s + 1) (cost b (s + 1)) (λ o. least (j5 o b))) (below_grows a (s + 1) (front a (s + 1) room) (by_one a (s + 1) (cost b (s + 1)) (λ o. least (j5 o b))))) (λ room. whole_grows b (s + 1) room (by_last b (s + 1) (cost a (s + 1)) (λ o. least (j5 a o))) (below_grows b (s + 1) (front b (s + 1) room) (by_last b (s + 1) (cost a (s + 1)) (λ o. least (j5 a o)))))
   below_grows (j6 h d) s room least = below_grows d s room (by_one d s 2 (λ o. least (j6 h o)))
   below_grows (j7 {T = T}) s room least = no_part_grows T
-  below_grows (j8 {a = a} {b = b} {c = c} h k d) s room least = beside_grows d (is_zero b) a b (s + 1) (kept_of (is_zero a) (is_zero b) a b c k) room (λ room. whole_grows d (s + 1) room (by_one d (s + 1) 2 (λ o. least (j8 h k o))) (below_grows d (s + 1) (front d (s + 1) room) (by_one d (s + 1) 2 (λ o. least (j8 h k o)))))
-  below_grows (j9 {a = a} {b = b} {c = c} h k d) s room least = beside_grows d (is_zero b) a b (s + 1) (kept_of (is_zero a) (is_zero b) a b c k) room (λ room. whole_grows d (s + 1) room (by_one d (s + 1) 2 (λ o. least (j9 h k o))) (below_grows d (s + 1) (front d (s + 1) room) (by_one d (s + 1) 2 (λ o. least (j9 h k o)))))
+  below_grows (j8 {a = a} {b = b} {c = c} h k d) s room least = beside_grows d (is_zero b) a b (s + 1) (kept operators.Add a b c k) room (λ room. whole_grows d (s + 1) room (by_one d (s + 1) 2 (λ o. least (j8 h k o))) (below_grows d (s + 1) (front d (s + 1) room) (by_one d (s + 1) 2 (λ o. least (j8 h k o)))))
+  below_grows (j9 {a = a} {b = b} {c = c} h k d) s room least = beside_grows d (is_zero b) a b (s + 1) (kept operators.Add a b c k) room (λ room. whole_grows d (s + 1) room (by_one d (s + 1) 2 (λ o. least (j9 h k o))) (below_grows d (s + 1) (front d (s + 1) room) (by_one d (s + 1) 2 (λ o. least (j9 h k o)))))
 
   all_grow : {T : Table} {es : Args} (ds : DerivesAll T es) (s : ℕ) → HaveRoom T (all_of_call ds s) → AreFewest ds s → Grows T (all_parts es s) (all_of_call ds s)
   all_grow (no_more {T = T}) s room least = no_part_grows T

@@ -19,7 +19,7 @@ use Rattle.bc_rules_defs.specs.Piece.{w, operand_words}
 use Rattle.bc_select_defs.specs.declared.choice.Choice.{Choice}
 use Rattle.bc_select_defs.specs.declared.choice.Choices.{Choices}
 use Rattle.bc_select_defs.specs.declared.choice.Candidate.{Candidate}
-use Rattle.bc_select_defs.specs.declared.choice.Node as choosing
+use Rattle.bc_select_defs.specs.declared.choice.Asked as choosing
 use Rattle.bc_select_defs.specs.Options.{plus, more, sum, given, operand_cost, words_of as words_in, better, least_from, candidate}
 use Rattle.bc_select_defs.specs.Choices.{words_for, by_value as by_value_choice, number_tests, not_tests, line, zero_number, number_cost, beside, without, mixed, worked, pair_tests, has_tests_of_zero, choices, words_of_all, node_of}
 use Rattle.bc_cert_defs.specs.declared.costs.Costs.{Costs}
@@ -30,7 +30,7 @@ use Rattle.bc_cert_node.specs.declared.recipe.Recipe.{Recipe}
 use Rattle.bc_cert_node.specs.Costs.{cost_of}
 use Rattle.bc_cert_node.specs.Form.{is_plain}
 use Rattle.bc_cert_node.specs.Recipe.{facts_of, words_of_operand, recipe, adding, where_so, less_number, without_zero, zero_test}
-use Rattle.bc_cert_node.specs.Node.{Asked, more_words, words_where, words_by, words_from, lesser, least, by_value, plain_words, pushes_of, values_of, tests_of, least_push, least_any, least_on}
+use Rattle.bc_cert_node.specs.Node.{Node, more_words, words_where, words_by, words_from, lesser, least, by_value, plain_words, pushes_of, values_of, tests_of, least_push, least_any, least_on}
 use Rattle.bc_cert_node.specs.Parts.{AreLeast, AreCallParts, AreParts, form_of, node_over}
 use Rattle.bc_cert_node.proofs.Minima.{lesser_none, lesser_turned, lesser_grouped, least_behind, Give, give_least, better_words}
 
@@ -148,7 +148,7 @@ so_given : (x : Option ℕ) → given true x ≡ x
 unfolding given
 so_given x = refl
 
-any_from : (n : Asked) (push : Option Choice) (cs : List Candidate) → least_push n ≡ words_in push → Give n (Gets Any) (values_of n.form) cs → least_any n ≡ words_in (least_from None (candidate rule.V0 (words_in push) ∷ cs))
+any_from : (n : Node) (push : Option Choice) (cs : List Candidate) → least_push n ≡ words_in push → Give n (Gets Any) (values_of n.form) cs → least_any n ≡ words_in (least_from None (candidate rule.V0 (words_in push) ∷ cs))
 unfolding least_from
 any_from n push cs h g =
     least_behind n (Gets Any) (least_push n) (values_of n.form)
@@ -207,7 +207,7 @@ five a b v e f a1 b1 v1 e1 f1 h i j k m =
     ∙ ap (λ q. lesser (lesser (lesser (lesser a1 b1) v1) e1) q) m
 
 -- a line of choices is what the rules give
-pub record IsLine (n : Asked) (c : Choices) : Type 0 where
+pub record IsLine (n : Node) (c : Choices) : Type 0 where
   pub push : least_push n ≡ words_in c.push
   pub any : least_any n ≡ words_in c.any
   pub on_false : least_on n false ≡ words_in c.on_false
@@ -227,13 +227,13 @@ module _ (T : Table) (a b : Exp) (s : ℕ) (c d : Costs) (h : AreLeast T a (s + 
   abbrev right : Facts
   right = facts_of b (has_call b) d
 
-  abbrev la : choosing.Node
+  abbrev la : choosing.Asked
   la = node_of T a (s + 1)
 
-  abbrev rb : choosing.Node
+  abbrev rb : choosing.Asked
   rb = node_of T b (s + 1)
 
-  abbrev over_pair : Op → Asked
+  abbrev over_pair : Op → Node
   over_pair op = node_over T (Bin op a b) 0 s (left ∷ right ∷ [])
 
   abbrev x_of : Aim → Option ℕ
@@ -363,7 +363,7 @@ module _ (T : Table) (a b : Exp) (s : ℕ) (c d : Costs) (h : AreLeast T a (s + 
   pair_line op = record { push = pair_push op; any = pair_any op; on_false = pair_false op; on_true = pair_true op }
 
 -- the lines of the other forms; a value whose test is made of itself
-tested : (n : Asked) (any : Option Choice) → least_any n ≡ words_in any → is_plain n.form ≡ true → tests_of n.form ≡ [] → (sense : Bool) → least_on n sense ≡ words_in (least_from None (by_value_choice (words_in any) sense))
+tested : (n : Node) (any : Option Choice) → least_any n ≡ words_in any → is_plain n.form ≡ true → tests_of n.form ≡ [] → (sense : Bool) → least_on n sense ≡ words_in (least_from None (by_value_choice (words_in any) sense))
 tested n any h plain none sense =
     ap (λ rs. lesser (by_value n.form (least_any n)) (least n (Jumps sense) None rs)) none
     ∙ lesser_none (by_value n.form (least_any n))

@@ -19,6 +19,7 @@ use bc_word::Memory;
 /// control only leaves one command after the other are taken in one.
 ///
 /// `Memory` comes where an allocation was refused.
+#[inline(always)]
 pub fn step<'c>(
     table: &[Callable<'c>],
     stacks: &mut Stacks<'c>,
