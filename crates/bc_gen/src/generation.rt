@@ -40,8 +40,8 @@ pub struct Generated {
 ///
 /// `TooManyLabels` comes only where the section takes more than 20,000 labels, and such a section gets no items.
 /// `Memory` comes where an allocation was refused, or where an offset of a frame, the number of a global or the
-/// length of a string would be larger than its instruction or its byte allows, or a block's list had 65,536 CASEs:
-/// of a section that `resolve` gives none is, and none has.
+/// length of a string would be larger than its instruction or its byte allows, a block's list had 65,536 CASEs, or
+/// a root had more than 2^32 nodes: of a section that `resolve` gives none is, and none has.
 pub fn generate(alloc: Global, core: &Core) -> Result<Generated, GenError>
     ensures items { IfOk result (λ found. found.items ≡ section_items coding (section core.now)) }
     ensures entries { IfOk result (λ found. map entry_view found.entries.items ≡ section_entries coding (section core.now)) }
