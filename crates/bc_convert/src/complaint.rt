@@ -35,6 +35,8 @@ pub enum Fault {
     Unclosed,
     /// A byte that begins no token.
     UnknownByte,
+    /// A full stop behind a section, with another one behind it.
+    SectionEnd,
     /// A bracket without its partner.
     OpenBracket,
     /// A list of assignments one of which is to a byte.
@@ -76,7 +78,7 @@ pub enum Fault {
 }
 
 /// What is told of each fault, and what is to be done by hand, in their order.
-static WORDS: [(&str, &str); 35] = [
+static WORDS: [(&str, &str); 36] = [
     (
         "no jump leaves a routine here",
         "let each routine on the way back look at a flag, in place of LEVEL and LONGJUMP",
@@ -134,6 +136,10 @@ static WORDS: [(&str, &str); 35] = [
     (
         "no token begins with this byte",
         "remove it, or write what it stands for",
+    ),
+    (
+        "a full stop ends a section, and a file is one section here",
+        "put what stands behind it into a file of its own, and take it out",
     ),
     (
         "no bracket closes this one, or its tag stands at no other",

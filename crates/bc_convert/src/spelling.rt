@@ -41,8 +41,30 @@ fn respell_further(
         Kind::Floating => notes.complain(source, index, Fault::Floating),
         Kind::Foreign => notes.complain(source, index, foreign_fault(source.bytes(index))),
         Kind::Unclosed => notes.complain(source, index, Fault::Unclosed),
-        Kind::Unknown => notes.complain(source, index, Fault::UnknownByte),
+        Kind::Unknown => respell_unknown(source, notes, index),
         _ => respell_sign(source, notes, index, kind, dialect),
+    }
+}
+
+/// The byte with which files of some systems are filled up.
+const FILLER: &[u8] = b"\x1a";
+
+/// Whether from the token at an index on the text has nothing but fillers.
+fn is_filled_up(source: TokenizedText<'_>, index: usize) -> bool {
+    (index..source.tokens.len()).all(|at| source.bytes(at) == FILLER)
+}
+
+/// What becomes of a byte that begins no token. Fillers behind the text are taken out, and so is the full stop behind its last section; one
+/// at the end of a line ends another section.
+fn respell_unknown(source: TokenizedText<'_>, notes: &mut Notes, index: usize) {
+    let next = index.saturating_add(1);
+    let is_stop = source.bytes(index) == b".".as_slice();
+    if is_filled_up(source, index) || is_stop && is_filled_up(source, next) {
+        notes.replace(index, b"");
+    } else if is_stop && source.gap(next).contains(&b'\n') {
+        notes.complain(source, index, Fault::SectionEnd);
+    } else {
+        notes.complain(source, index, Fault::UnknownByte);
     }
 }
 

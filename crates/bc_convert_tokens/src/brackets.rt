@@ -14,6 +14,7 @@ fn tag<'s>(text: &'s [u8], token: &Token) -> &'s [u8] {
 fn is_closed_by(text: &[u8], opening: &Token, closing: &Token) -> bool {
     match closing.kind {
         Kind::CloseRound => opening.kind == Kind::OpenRound,
+        Kind::CloseSquare => opening.kind == Kind::OpenSquare,
         _ => opening.kind == Kind::OpenSection
             && (tag(text, closing).is_empty() || tag(text, opening) == tag(text, closing)),
     }
@@ -64,8 +65,8 @@ pub fn partners(alloc: Global, source: TokenizedText<'_>) -> Result<Vec<usize>, 
     let mut open = Vec::new(alloc);
     for (index, token) in source.tokens.iter().enumerate() {
         match token.kind {
-            Kind::OpenRound | Kind::OpenSection => open.push(index)?,
-            Kind::CloseRound | Kind::CloseSection => {
+            Kind::OpenRound | Kind::OpenSquare | Kind::OpenSection => open.push(index)?,
+            Kind::CloseRound | Kind::CloseSquare | Kind::CloseSection => {
                 if closes_any(source, open.as_slice(), token) {
                     close(source, &mut open, partners.as_mut_slice(), index, token);
                 }

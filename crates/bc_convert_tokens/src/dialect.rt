@@ -11,7 +11,7 @@ pub struct Dialect {
     pub has_small_words: bool,
     /// Names of the library stand in small letters.
     pub has_small_library: bool,
-    /// `*` and a round bracket right behind it are a subscript.
+    /// `*` and a round or square bracket right behind it are a subscript.
     pub has_star_subscripts: bool,
 }
 
@@ -20,8 +20,8 @@ impl Dialect {
     ///
     /// Reserved words stand in small letters where the source begins with one, or where `let` and a word stand side by side,
     /// which is no part of a source in this dialect. The library's names stand in small letters where these do, where the
-    /// library's header does behind GET, or where `start` is declared and START isn't. `*(` is a subscript where something is
-    /// assigned to one.
+    /// library's header does behind GET, or where `start` is declared and START isn't. `*(` and `*[` are subscripts where something
+    /// is assigned to one.
     pub fn of(source: TokenizedText<'_>) -> Dialect {
         let has_small_words = begins_small(source) || has_small_let(source);
         Dialect {
@@ -87,19 +87,20 @@ fn has_small_library(source: TokenizedText<'_>) -> bool {
     gets_header || declares_routine(source, b"start") && !declares_routine(source, b"START")
 }
 
-/// Whether a `*` and a round bracket stand side by side, without a blank between them.
+/// Whether a `*` and a round or square bracket stand side by side, without a blank between them.
 fn is_star_subscript(source: TokenizedText<'_>, star: usize) -> bool {
+    let bracket = star.saturating_add(1);
     source.kind(star) == Kind::Star
-        && source.kind(star.saturating_add(1)) == Kind::OpenRound
-        && source.end(star) == source.start(star.saturating_add(1))
+        && matches!(source.kind(bracket), Kind::OpenRound | Kind::OpenSquare)
+        && source.end(star) == source.start(bracket)
 }
 
-/// Whether a command assigns to what `*(` begins the subscript of.
+/// Whether a command assigns to what `*(` or `*[` begins the subscript of.
 fn assigns_to_star(source: TokenizedText<'_>) -> bool {
     for star in 1..source.tokens.len() {
         let closing = source.partner(star.saturating_add(1));
         if is_star_subscript(source, star)
-            && source.kind(closing) == Kind::CloseRound
+            && matches!(source.kind(closing), Kind::CloseRound | Kind::CloseSquare)
             && matches!(
                 source.kind(closing.saturating_add(1)),
                 Kind::Assign | Kind::Underline

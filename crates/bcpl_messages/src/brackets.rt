@@ -1,7 +1,9 @@
 use crate::draft::Draft;
-use crate::words::is_symbol;
-use bc_lex_tokens::{Symbol, Token};
+use crate::trial::{Change, Reach, reached};
+use crate::words::{is_at, is_symbol};
+use bc_lex_tokens::{Symbol, Token, TokenKind};
 use bc_word::Memory;
+use bcpl_places::Span;
 use std::alloc::Global;
 
 /// The tag of a section bracket: what stands behind its two signs.
@@ -45,4 +47,50 @@ pub fn open_before(alloc: Global, tokens: &[Token<'_>], end: usize) -> Result<Ve
 pub fn open_at(draft: &mut Draft, tokens: &[Token<'_>], end: usize) -> Vec<usize> {
     let alloc = draft.alloc();
     draft.found(open_before(alloc, tokens, end), Vec::new(alloc))
+}
+
+/// The innermost round bracket that is open in front of a place.
+fn open_round(tokens: &[Token<'_>], index: usize) -> Option<usize> {
+    let mut closed: usize = 0;
+    for (place, token) in tokens.get(..index)?.iter().enumerate().rev() {
+        if is_symbol(token, Symbol::CloseBracket) {
+            closed = closed.saturating_add(1);
+        } else if is_symbol(token, Symbol::OpenBracket) {
+            match closed.checked_sub(1) {
+                Some(fewer) => closed = fewer,
+                None => return Some(place),
+            }
+        }
+    }
+    None
+}
+
+/// Whether more is read than the token at a place with a `)` in front of it, and what is refused then is no further `)`.
+fn lacks_round(draft: &mut Draft, tokens: &[Token<'_>], index: usize) -> bool {
+    let change = Change::Insert(TokenKind::Symbol(Symbol::CloseBracket));
+    let reach = reached(draft, tokens, index, change);
+    let is_closed_twice = match reach {
+        Reach::Behind(next) => is_at(tokens, next, Symbol::CloseBracket),
+        Reach::Before | Reach::End => false,
+    };
+    reach.is_behind(index) && !is_closed_twice
+}
+
+/// What is said where a `(` is open in front of a place that is refused, and a `)` helps there: the `(` is told.
+pub fn help_for_round(
+    draft: &mut Draft,
+    tokens: &[Token<'_>],
+    index: usize,
+) -> Option<&'static str> {
+    let open = *tokens.get(open_round(tokens, index)?)?;
+    if !lacks_round(draft, tokens, index) {
+        return None;
+    }
+    let span = Span {
+        file: open.file,
+        start: open.start,
+        end: open.end,
+    };
+    draft.note(span, "this ( is not closed", &[]);
+    Some("write the ) that closes it")
 }

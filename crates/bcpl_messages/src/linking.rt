@@ -118,11 +118,32 @@ pub fn is_set(
     Ok(!setters_of(alloc, sources, mains, number)?.is_empty())
 }
 
+/// Whether a main is the library's.
+fn is_library_main(sources: &[Source<'_>], main: usize) -> bool {
+    match sources.get(main) {
+        Some(source) => source.name == b"BLIB".as_slice() || source.name == b"EXTLIB".as_slice(),
+        None => false,
+    }
+}
+
+/// What is to be done where a routine sets a global that another one sets: one of the library, perhaps, and of the same name.
+fn help_for_twice(is_of_library: bool, is_of_name: bool) -> &'static str {
+    match (is_of_library, is_of_name) {
+        (true, true) => {
+            "the library has a routine of this name: give yours another one, where it is declared and where it is called"
+        }
+        (true, false) => "the number is that of a routine of the library: from 100 on all are free",
+        (false, _) => {
+            "a routine that is declared while its name means a global sets that global; one of all files does so"
+        }
+    }
+}
+
 /// Tells of a global that two routines set.
 fn tell_twice(draft: &mut Draft, sources: &[Source<'_>], mains: &[usize], number: u16) {
     let alloc = draft.alloc();
     let found = draft.found(setters_of(alloc, sources, mains, number), Vec::new(alloc));
-    let (Some((_, first)), Some((main, second))) = (found.first(), found.get(1)) else {
+    let (Some((other, first)), Some((main, second))) = (found.first(), found.get(1)) else {
         return;
     };
     draft.set_main(*main);
@@ -132,8 +153,9 @@ fn tell_twice(draft: &mut Draft, sources: &[Source<'_>], mains: &[usize], number
         &[Fill::Shown(second.name), Fill::Number(u64::from(number))],
     );
     draft.note(first.span, "the other routine", &[]);
+    let is_of_name = first.name == second.name;
     draft.help(
-        "a routine that is declared while its name means a global sets that global; one of all files does so",
+        help_for_twice(is_library_main(sources, *other), is_of_name),
         &[],
     );
 }

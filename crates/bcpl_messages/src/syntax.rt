@@ -1,15 +1,15 @@
 ghost use Rattle.std.specs.Prelude.{slice_get};
 ghost use Rattle.bcpl_messages.specs.Spans.{IsSpanOf};
 
-use crate::brackets::{open_at, tag};
+use crate::brackets::{help_for_round, open_at, tag};
 use crate::draft::{Draft, Fill};
 use crate::likeness::reserved_word;
 use crate::neighbours::{help_for_name, help_for_neighbours, help_for_token};
 use crate::read::Read;
 use crate::sides::says_sides;
 use crate::trial::{Change, reached};
-use crate::wanted::{could_be, say_wanted};
-use crate::words::{back, is_at, is_symbol};
+use crate::wanted::{could_be, could_be_name, say_wanted};
+use crate::words::{back, is_at, is_symbol, symbol_at};
 use bc_lex::{Source, lex};
 use bc_lex_tokens::{Symbol, Token, TokenKind};
 use bc_parse::ParseError;
@@ -119,6 +119,8 @@ enum Site {
     OnLine,
     /// The same, and a name in front.
     OnLineBehindName,
+    /// DEFAULT in front, or CASE and a constant of one token.
+    BehindCase,
 }
 
 /// What is tried with the parser.
@@ -144,7 +146,7 @@ struct Guess {
 }
 
 /// The guesses, in the order in which they are tried.
-const GUESSES: [Guess; 8] = [
+const GUESSES: [Guess; 12] = [
     Guess {
         site: Site::At(Symbol::Do),
         trial: Trial::Stands(Symbol::Return),
@@ -185,6 +187,26 @@ const GUESSES: [Guess; 8] = [
         trial: Trial::StandsOutside,
         help: "outside routines stand declarations alone; commands stand in a routine, as in LET START() BE $( .. $)",
     },
+    Guess {
+        site: Site::OnLine,
+        trial: Trial::Behind(Symbol::Comma),
+        help: "arguments, names and values stand apart by commas, as in F(A, B)",
+    },
+    Guess {
+        site: Site::Any,
+        trial: Trial::Stands(Symbol::To),
+        help: "FOR counts from one value to another, as in FOR I = 1 TO 9 DO .. or FOR I = 9 TO 1 BY -1 DO ..",
+    },
+    Guess {
+        site: Site::Any,
+        trial: Trial::Stands(Symbol::Be),
+        help: "a routine is declared by LET F(X) BE .., and one that gives a value by LET F(X) = E",
+    },
+    Guess {
+        site: Site::BehindCase,
+        trial: Trial::Behind(Symbol::Colon),
+        help: "a colon stands behind it, as in CASE 1: WRITES(\"A\")",
+    },
 ];
 
 /// Whether a name stands in front of a place.
@@ -193,6 +215,19 @@ fn is_behind_name(tokens: &[Token<'_>], index: usize) -> bool {
         Some(token) => matches!(token.kind, TokenKind::Name(_)),
         None => false,
     }
+}
+
+/// Whether DEFAULT stands in front of a place, or CASE and one token.
+fn is_behind_case(tokens: &[Token<'_>], index: usize) -> bool {
+    let is_default = match back(tokens, index, 1) {
+        Some(token) => is_symbol(token, Symbol::Default),
+        None => false,
+    };
+    is_default
+        || match back(tokens, index, 2) {
+            Some(token) => is_symbol(token, Symbol::Case),
+            None => false,
+        }
 }
 
 /// Whether a token stands at a place, and another one in front of it on its line.
@@ -211,6 +246,7 @@ fn is_site(tokens: &[Token<'_>], index: usize, site: Site) -> bool {
         Site::BehindName => is_behind_name(tokens, index),
         Site::OnLine => is_on_line(tokens, index),
         Site::OnLineBehindName => is_on_line(tokens, index) && is_behind_name(tokens, index),
+        Site::BehindCase => is_behind_case(tokens, index),
     }
 }
 
@@ -322,6 +358,37 @@ fn says_word(draft: &mut Draft, token: Option<&Token<'_>>, is_first: bool) -> bo
     }
 }
 
+/// Whether a reserved word stands at a place, behind something on its line.
+fn is_word_on_line(tokens: &[Token<'_>], index: usize) -> bool {
+    let begins_word = match tokens.get(index) {
+        Some(token) => token
+            .text
+            .first()
+            .is_some_and(|byte| byte.is_ascii_alphabetic()),
+        None => false,
+    };
+    begins_word && symbol_at(tokens, index).is_some() && is_on_line(tokens, index)
+}
+
+/// Says so of a reserved word that stands where a name is wanted, and with a name more is read; whether that is so.
+fn says_reserved(draft: &mut Draft, tokens: &[Token<'_>], index: usize) -> bool {
+    let Some(token) = tokens.get(index) else {
+        return false;
+    };
+    let name = Change::Replace(TokenKind::Name(b"N"));
+    if !is_word_on_line(tokens, index)
+        || !could_be_name(draft, tokens, index)
+        || !gets_further(draft, tokens, index, name)
+    {
+        return false;
+    }
+    draft.help(
+        "{} is a reserved word, and can't be a name: write another one",
+        &[Fill::Shown(token.text)],
+    );
+    true
+}
+
 /// Whether what is said of the token at a place by itself comes before all guesses.
 fn says_all(tokens: &[Token<'_>], index: usize) -> bool {
     is_at(tokens, index, Symbol::Else) || is_at(tokens, index, Symbol::And)
@@ -348,12 +415,16 @@ fn guessed(draft: &mut Draft, tokens: &[Token<'_>], index: usize) -> Option<&'st
     if help.is_some() {
         return help;
     }
+    let help = help_for_round(draft, tokens, index);
+    if help.is_some() {
+        return help;
+    }
     help_for_place(draft, tokens, index)
 }
 
 /// Says what may have been meant, where no known mistake stands around the place.
 fn help_by_trying(draft: &mut Draft, tokens: &[Token<'_>], index: usize) {
-    if says_sides(draft, tokens, index) {
+    if says_reserved(draft, tokens, index) || says_sides(draft, tokens, index) {
         return;
     }
     if let Some(help) = help_in_words(draft, tokens, index) {
@@ -401,6 +472,46 @@ fn say_unclosed(draft: &mut Draft, bracket: Option<&Token<'_>>, count: usize) {
     draft.say(sentence, &[Fill::Shown(text), Fill::Number(others as u64)]);
 }
 
+/// Whether a token begins its line, with nothing in front of it.
+fn is_at_margin(read: Read<'_, '_>, token: &Token<'_>) -> bool {
+    match read.sources.get(token.file) {
+        Some(source) => match token.start.checked_sub(1) {
+            Some(before) => source.text.get(before).is_some_and(|byte| *byte == b'\n'),
+            None => true,
+        },
+        None => false,
+    }
+}
+
+/// Whether the heading of a routine begins with the token at a place: LET or AND, a name and a bracket.
+fn is_heading(tokens: &[Token<'_>], index: usize) -> bool {
+    let bracket = index.saturating_add(2);
+    (is_at(tokens, index, Symbol::Let) || is_at(tokens, index, Symbol::And))
+        && is_behind_name(tokens, bracket)
+        && is_at(tokens, bracket, Symbol::OpenBracket)
+}
+
+/// The first routine behind a place whose heading begins at the margin.
+fn routine_at_margin(read: Read<'_, '_>, place: usize) -> Option<usize> {
+    for (index, token) in read.tokens.iter().enumerate() {
+        if index > place && is_heading(read.tokens, index) && is_at_margin(read, token) {
+            return Some(index);
+        }
+    }
+    None
+}
+
+/// Tells of the routine that likely shall not stand in the section which this bracket opens, if there is one.
+fn note_routine(draft: &mut Draft, read: Read<'_, '_>, outermost: usize) {
+    if let Some(index) = routine_at_margin(read, outermost) {
+        draft.note(
+            read.place(index),
+            "a routine begins here, within it: perhaps a $) is missing in front of this line",
+            &[],
+        );
+    }
+}
+
 /// Tells of sections that are open at the end.
 fn tell_unclosed(draft: &mut Draft, read: Read<'_, '_>) {
     let end = read.tokens.len();
@@ -409,10 +520,11 @@ fn tell_unclosed(draft: &mut Draft, read: Read<'_, '_>) {
     let count = open.len();
     draft.place(read.place(innermost));
     say_unclosed(draft, read.tokens.get(innermost), count);
+    let outermost = open.first().copied().unwrap_or(end);
     if count > 1 {
-        let outermost = open.first().copied().unwrap_or(end);
         draft.note(read.place(outermost), "the outermost that is open", &[]);
     }
+    note_routine(draft, read, outermost);
     draft.help(
         "an untagged $) closes the innermost $( , and one with a tag all up to the $( with that tag",
         &[],

@@ -40,6 +40,13 @@ pub fn could_be(draft: &mut Draft, tokens: &[Token<'_>], index: usize, symbol: S
     could_stand(draft, tokens, index, TokenKind::Symbol(symbol))
 }
 
+/// Whether a name could stand in front of the token at the place, and no other expression and no command.
+pub fn could_be_name(draft: &mut Draft, tokens: &[Token<'_>], index: usize) -> bool {
+    could_stand(draft, tokens, index, TokenKind::Name(b"N"))
+        && !could_stand(draft, tokens, index, TokenKind::Number(0))
+        && !could_be(draft, tokens, index, Symbol::Return)
+}
+
 /// The kinds of constructs that could begin at a place.
 #[derive(Clone, Copy)]
 struct Beginnings {

@@ -28,7 +28,7 @@ pub fn is_changed(tokens: &[Token<'_>], index: usize) -> bool {
 }
 
 /// How many arguments stand behind the bracket with this index; none where it is not closed.
-fn arguments_behind(tokens: &[Token<'_>], open: usize) -> Option<usize> {
+pub fn arguments_behind(tokens: &[Token<'_>], open: usize) -> Option<usize> {
     let mut depth: usize = 0;
     let mut commas: usize = 0;
     let mut arrows: usize = 0;

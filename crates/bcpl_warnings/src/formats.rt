@@ -1,7 +1,7 @@
-use crate::arguments::is_called;
+use crate::arguments::{arguments_behind, is_called};
 use crate::declared::Declarations;
-use crate::tokens::name_at;
-use bc_lex_tokens::{Token, TokenKind};
+use crate::tokens::{is_at, name_at};
+use bc_lex_tokens::{Symbol, Token, TokenKind};
 
 /// The letters of formats that the routine of LIBHDR knows.
 const BASIC: &[u8] = b"NSC";
@@ -61,14 +61,14 @@ fn string_at<'s>(tokens: &[Token<'s>], index: usize) -> Option<&'s [u8]> {
     }
 }
 
-/// The letter behind `%` that WRITEF doesn't know in the format that it is called with by the token in front of the one with this index,
-/// and whether it is the further library's WRITEF. The first `library` sources are the library's.
-pub fn unknown_format(
-    tokens: &[Token<'_>],
+/// The format that WRITEF is called with, and whether it is the further library's WRITEF, where the token with this index is one. The first
+/// `library` sources are the library's.
+fn format_at<'s>(
+    tokens: &[Token<'s>],
     declarations: &Declarations<'_>,
     library: usize,
     index: usize,
-) -> Option<(u8, bool)> {
+) -> Option<(&'s [u8], bool)> {
     let format = string_at(tokens, index)?;
     let routine = index.checked_sub(2)?;
     if !is_called(tokens, routine) || name_at(tokens, routine)? != b"WRITEF".as_slice() {
@@ -78,6 +78,67 @@ pub fn unknown_format(
     if tokens.get(declared)?.file >= library {
         return None;
     }
-    let is_further = number == Some(FURTHER_NUMBER);
+    Some((format, number == Some(FURTHER_NUMBER)))
+}
+
+/// The letter behind `%` that WRITEF doesn't know in the format that it is called with by the token in front of the one with this index,
+/// and whether it is the further library's WRITEF. The first `library` sources are the library's.
+pub fn unknown_format(
+    tokens: &[Token<'_>],
+    declarations: &Declarations<'_>,
+    library: usize,
+    index: usize,
+) -> Option<(u8, bool)> {
+    let (format, is_further) = format_at(tokens, declarations, library, index)?;
     Some((unknown_letter(format, is_further)?, is_further))
+}
+
+/// How many arguments a format takes whose letters are all known; none where a sign of the further library goes over an argument or back to
+/// one, or has texts of its own behind it.
+fn taken_by(format: &[u8], is_further: bool) -> Option<usize> {
+    let mut reading = Reading::Plain;
+    let mut count: usize = 0;
+    for byte in format {
+        reading = match (reading, *byte) {
+            (Reading::Escape, _) => Reading::Plain,
+            (_, b'*') => Reading::Escape,
+            (Reading::Plain, b'%') => Reading::Percent,
+            (Reading::Percent, b'P' | b'p' | b'+' | b'-') if is_further => return None,
+            (Reading::Percent, letter) if letter.is_ascii_alphabetic() => {
+                count = count.saturating_add(1);
+                Reading::Plain
+            }
+            (Reading::Plain | Reading::Percent | Reading::Width, _) => Reading::Plain,
+        };
+    }
+    Some(count)
+}
+
+/// A format behind which fewer arguments stand than it takes.
+#[derive(Clone, Copy)]
+pub struct Lacking {
+    pub taken: usize,
+    pub given: usize,
+}
+
+/// How many arguments the format that is the token with this index takes, and how many stand behind it, where these are fewer. Its letters
+/// are known. The first `library` sources are the library's.
+pub fn lacking_arguments(
+    tokens: &[Token<'_>],
+    declarations: &Declarations<'_>,
+    library: usize,
+    index: usize,
+) -> Option<Lacking> {
+    let (format, is_further) = format_at(tokens, declarations, library, index)?;
+    let next = index.saturating_add(1);
+    if !is_at(tokens, next, Symbol::Comma) && !is_at(tokens, next, Symbol::CloseBracket) {
+        return None;
+    }
+    let given = arguments_behind(tokens, index.checked_sub(1)?)?.saturating_sub(1);
+    let taken = taken_by(format, is_further)?;
+    if given < taken {
+        Some(Lacking { taken, given })
+    } else {
+        None
+    }
 }

@@ -1,4 +1,4 @@
-use crate::tokens::{can_end, is_at, is_line_start};
+use crate::tokens::{can_end, is_at, is_line_start, is_separated, name_at, symbol_at};
 use bc_lex::Source;
 use bc_lex_tokens::{Symbol, Token};
 use bcpl_places::line_at;
@@ -68,6 +68,51 @@ pub fn misread(sources: &[Source<'_>], tokens: &[Token<'_>], index: usize) -> Op
         }
     } else if is_bracket || own > before {
         Some(Looks::Together)
+    } else {
+        None
+    }
+}
+
+/// Whether the token with this index ends the head of a loop or of a choice, behind which a command stands.
+fn ends_head(tokens: &[Token<'_>], index: usize) -> bool {
+    is_at(tokens, index, Symbol::Do) || is_at(tokens, index, Symbol::Else)
+}
+
+/// Whether the token with this index begins the head of a loop or of a choice.
+fn begins_head(tokens: &[Token<'_>], index: usize) -> bool {
+    match symbol_at(tokens, index) {
+        Some(symbol) => matches!(
+            symbol,
+            Symbol::While
+                | Symbol::Until
+                | Symbol::For
+                | Symbol::If
+                | Symbol::Unless
+                | Symbol::Test
+                | Symbol::Else
+        ),
+        None => false,
+    }
+}
+
+/// The word that begins a loop or a choice whose body is the one command of the line before, where the line that begins with the token with
+/// this index is a command of its own and stands below that body.
+pub fn seeming_head<'s>(
+    sources: &[Source<'_>],
+    tokens: &[Token<'s>],
+    index: usize,
+) -> Option<&'s [u8]> {
+    let last = index.checked_sub(1)?;
+    let body = line_start(tokens, last);
+    let sign = body.checked_sub(1)?;
+    if !is_separated(tokens, index) || name_at(tokens, body).is_none() || !ends_head(tokens, sign) {
+        return None;
+    }
+    let head = first_behind_bracket(tokens, sign);
+    let own = indented(sources, tokens, index);
+    let is_below = own == indented(sources, tokens, body) && own > indented(sources, tokens, head);
+    if is_below && begins_head(tokens, head) {
+        Some(tokens.get(head)?.text)
     } else {
         None
     }

@@ -1,9 +1,9 @@
 use crate::arguments::{Missing, missing_arguments};
 use crate::declared::Declarations;
-use crate::formats::unknown_format;
+use crate::formats::{Lacking, lacking_arguments, unknown_format};
 use crate::globals::{is_library_assigned, library_global, number_twice};
 use crate::routines::Routines;
-use crate::separated::{Looks, misread};
+use crate::separated::{Looks, misread, seeming_head};
 use crate::starts::{Likeness, likeness_at};
 use crate::strings::has_backslash;
 use crate::unreachable::unreached;
@@ -188,6 +188,36 @@ fn warns_of_format(draft: &mut Draft, main: &Main<'_, '_, '_>, at: usize) -> boo
     true
 }
 
+/// Says so where the token with this index is a format behind which fewer arguments stand than it takes; whether it is.
+fn warns_of_lacking(draft: &mut Draft, main: &Main<'_, '_, '_>, at: usize) -> bool {
+    let lacking = lacking_arguments(main.tokens, main.declarations, main.library, at);
+    let Some(Lacking { taken, given }) = lacking else {
+        return false;
+    };
+    begin(draft, main.tokens, at);
+    draft.say(
+        if taken == 1 {
+            "this format takes {} argument"
+        } else {
+            "this format takes {} arguments"
+        },
+        &[Fill::Number(taken as u64)],
+    );
+    draft.say(
+        match given {
+            0 => ", and none stands behind it",
+            1 => ", and {} stands behind it",
+            _ => ", and {} stand behind it",
+        },
+        &[Fill::Number(given as u64)],
+    );
+    draft.help(
+        "each % with its letter writes the next argument; one that isn't there has no value",
+        &[],
+    );
+    true
+}
+
 /// Says so where the value of a routine of BE is used at the token with this index; whether it is.
 fn warns_of_value(draft: &mut Draft, main: &Main<'_, '_, '_>, at: usize) -> bool {
     if !is_used(main.tokens, main.routines, at) {
@@ -233,6 +263,20 @@ fn warns_of_backslash(draft: &mut Draft, main: &Main<'_, '_, '_>, at: usize) -> 
     true
 }
 
+/// Says so where a line that begins with the token with this index stands below the one command of a body; whether it does.
+fn warns_of_body(draft: &mut Draft, main: &Main<'_, '_, '_>, at: usize) -> bool {
+    let Some(word) = seeming_head(main.sources, main.tokens, at) else {
+        return false;
+    };
+    begin(draft, main.tokens, at);
+    draft.say(
+        "this line stands behind the {} above, not in it: the line before is the one command of its body",
+        &[Fill::Shown(word)],
+    );
+    draft.help("a body of several commands is written $( .. $)", &[]);
+    true
+}
+
 /// Says so where a line that begins with the token with this index looks otherwise than it is read.
 fn warn_of_line(draft: &mut Draft, main: &Main<'_, '_, '_>, at: usize) {
     let (sentence, help) = match misread(main.sources, main.tokens, at) {
@@ -259,6 +303,7 @@ fn warns_of_use(draft: &mut Draft, main: &Main<'_, '_, '_>, at: usize) -> bool {
         || warns_of_assignment(draft, main, at)
         || warns_of_arguments(draft, main, at)
         || warns_of_format(draft, main, at)
+        || warns_of_lacking(draft, main, at)
 }
 
 /// Says what is likely wrong at the token with this index.
@@ -266,7 +311,8 @@ fn warn_at(draft: &mut Draft, main: &Main<'_, '_, '_>, at: usize) {
     let is_told = warns_of_use(draft, main, at)
         || warns_of_value(draft, main, at)
         || warns_of_unreached(draft, main, at)
-        || warns_of_backslash(draft, main, at);
+        || warns_of_backslash(draft, main, at)
+        || warns_of_body(draft, main, at);
     if !is_told {
         warn_of_line(draft, main, at);
     }

@@ -50,9 +50,16 @@ fn say_unset(draft: &mut Draft, known: Known<'_>, address: u16) {
     draft.say(sentence, &[Fill::Text(known.place())]);
 }
 
+/// Whether a call of this value, which is no routine, is the run's first one, that of global 1: each call that the run is in is of this value.
+fn is_first_call(met: &Met<'_>, value: u16) -> bool {
+    met.standings
+        .iter()
+        .all(|standing| standing.routine == value)
+}
+
 /// Says that what is no routine is called.
 fn say_no_routine(draft: &mut Draft, met: &Met<'_>, known: Known<'_>, value: u16) {
-    let sentence = if met.standings.is_empty() {
+    let sentence = if is_first_call(met, value) {
         "no routine sets global 1, so the run has nothing to call"
     } else {
         "the value {} is called {}, and no routine has that address"
@@ -170,8 +177,8 @@ pub fn help(met: &Met<'_>, known: Known<'_>) -> Option<&'static str> {
         Cause::Dead(_) | Cause::NoCell(_) => Some(
             "VEC n has the cells 0 to n, and they and all variables are gone once their block or routine is left",
         ),
-        Cause::NotRoutine(0) if met.standings.is_empty() => Some(
-            "a run begins with START: GET \"LIBHDR\", and declare it in capitals",
+        Cause::NotRoutine(0) if is_first_call(met, 0) => Some(
+            "a run begins with START, in capitals: GET \"LIBHDR\", and declare it by LET START() BE ..",
         ),
         Cause::NotRoutine(0) => Some(
             "a global that no routine sets is 0; is a file of the program missing?",
