@@ -1,5 +1,5 @@
 -- The labels that stand in the code of a derivation are its own, each once.
-use Rattle.std.proofs.Common.{◌≡◌, ◌∙◌, refl, ap, sym, ℕ, ◌+◌, List, [], ◌∷◌, ◌++◌, arith}
+use Rattle.std.proofs.Common.{◌≡◌, ap, ℕ, ◌+◌, List, ◌∷◌, arith}
 use Rattle.bc_core.specs.Tree.{Exp, Root}
 use Rattle.bc_rules_defs.specs.declared.rule.Table.{Table}
 use Rattle.bc_rules_defs.specs.declared.rule.Aim.{Aim}
@@ -10,7 +10,7 @@ use Rattle.bc_rules_laws.specs.Layers.{Layer, code_of}
 use Rattle.bc_rules_laws.specs.Made.{Here, Own, number, Claim, Stand, done, piece, own_label, a_body, a_part, Made}
 use Rattle.bc_rules_laws.proofs.Layers.{code_is, root_code_is}
 use Rattle.bc_rules_laws.proofs.Made.{by_parts, root_stands}
-use Rattle.bc_gen_labels.proofs.Counts.{at, below, next_below, standing, standing_both}
+use Rattle.bc_gen_labels.proofs.Counts.{below, next_below, standing, standing_both}
 
 -- the labels from f to g - 1 stand among pieces, each once, and no others
 abbrev pub Standing : (f g : ℕ) → List Piece → Type 0

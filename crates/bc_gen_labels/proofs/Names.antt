@@ -1,11 +1,10 @@
 -- The code of a derivation speaks of its own labels, of its target and of those that its expression names.
-use Rattle.std.proofs.Common.{◌≡◌, ℕ, ◌+◌, ◌≤◌, ◌<◌, ◌&&◌, Bool, true, false, not, cond, Option, Some, None, List, [], ◌∷◌, sym, subst, arith}
+use Rattle.std.proofs.Common.{◌≡◌, ℕ, ◌+◌, ◌≤◌, ◌<◌, ◌&&◌, Bool, true, false, cond, Option, Some, None, List, ◌∷◌, sym, subst, arith}
 use Rattle.std.specs.Prelude.{nat_le}
 use Rattle.std.proofs.lemmas.Bool.Decides.{nat_tests}
 use Rattle.bc_word.specs.declared.operator.Op.{Op}
 use Rattle.bc_word.specs.declared.operator.Op.TheVariants as operators
 use Rattle.bc_text_items.specs.declared.item.Function.{Function}
-use Rattle.bc_text_items.specs.declared.item.Function.TheVariants as functions
 use Rattle.bc_text_items.specs.declared.item.Base.TheVariants.{Label}
 use Rattle.bc_text_items.specs.declared.item.Item.TheVariants as items
 use Rattle.bc_core.specs.declared.operands.Operand.{Operand}

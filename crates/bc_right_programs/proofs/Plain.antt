@@ -1,9 +1,8 @@
 -- The code of routines holds no byte, and sets no global.
 use Rattle.std.proofs.Common.{ℕ, ◌+◌, ◌==◌, Bool, true, false, not, List, [], ◌∷◌, ◌++◌}
-use Rattle.std.specs.Prelude.{cond}
 use Rattle.bc_text_items.specs.declared.item.Item.{Item}
 use Rattle.bc_text_items.specs.declared.item.Item.TheVariants.{Label, Data, DataLabel, Byte, Operation, Global}
-use Rattle.bc_core.specs.Tree.{Exp, Args, count, Frame, Root, Value, Test, Assign}
+use Rattle.bc_core.specs.Tree.{Frame, Root, Value, Test, Assign}
 use Rattle.bc_core.specs.Commands.{Variable, Initial, Vector, Command, Block, block, Items, no_item, command, case, default, label, Body, Gives, Does, Valof, Place}
 use Rattle.bc_core.specs.Commands as commands
 use Rattle.bc_core.specs.Command.{step_of_for}

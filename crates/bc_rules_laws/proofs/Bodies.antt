@@ -1,6 +1,6 @@
 -- The bodies of VALOFs in the code of a derivation: wherever the code stands they are the same, and they are those in its
 -- expression.
-use Rattle.std.proofs.Common.{◌≡◌, ◌∙◌, ℕ, ◌+◌, Bool, true, false, cond, Some, List, [], ◌∷◌, ◌++◌, refl, ap, sym, arith, append_assoc}
+use Rattle.std.proofs.Common.{◌≡◌, ◌∙◌, ℕ, ◌+◌, Bool, true, false, cond, Some, List, [], ◌∷◌, ◌++◌, refl, ap, sym, arith}
 use Rattle.bc_word.specs.declared.operator.Op.{Op}
 use Rattle.bc_word.specs.declared.operator.Op.TheVariants.{Add, Subtract, Equal, NotEqual}
 use Rattle.bc_core.specs.declared.operands.Operand.{Operand}

@@ -3,12 +3,11 @@ use Rattle.std.proofs.Common.{◌≡◌, ℕ, ◌+◌, Bool, true, false, cond, 
 use Rattle.bc_core.specs.Tree.{Exp, Args, count, Root}
 use Rattle.bc_rules_defs.specs.declared.rule.Table.{Table}
 use Rattle.bc_rules_defs.specs.declared.rule.Aim.{Aim}
-use Rattle.bc_rules_defs.specs.declared.piece.Piece.{Piece}
 use Rattle.bc_rules_defs.specs.Free.{jumps_at}
 use Rattle.bc_rules_defs.specs.Piece.{SP, K, J}
 use Rattle.bc_rules_defs.specs.Rules.{Derives, v22, j7, DerivesAll, no_more, one_more, RootDerives, value, test}
 use Rattle.bc_rules_defs.specs.Code.{labels, all_labels, code, all_code, root_code}
-use Rattle.bc_rules_laws.specs.Layers.{Layer, own, body, part, layers, argument_layers, root_layers, code_of}
+use Rattle.bc_rules_laws.specs.Layers.{Layer, own, part, layers, argument_layers, root_layers, code_of}
 use Rattle.bc_rules_laws.specs.Laws.{CodeIsThatOfLayers}
 
 arguments_code : {T : Table} {es : Args} (ds : DerivesAll T es) (ls : List (Layer T)) (s t f : ℕ) → all_code ds s t f ++ code_of ls ≡ code_of (argument_layers ds s t f ++ ls)

@@ -1,5 +1,5 @@
 -- The layers of each derivation stand as `Made` says: one line a rule.
-use Rattle.std.proofs.Common.{◌≡◌, ℕ, ◌+◌, ◌≤◌, Bool, true, false, not, cond, Option, Some, None, List, [], ◌∷◌, ◌++◌, refl, sym, ap, subst, arith}
+use Rattle.std.proofs.Common.{◌≡◌, ℕ, ◌+◌, ◌≤◌, Bool, true, false, not, cond, Some, None, List, [], ◌∷◌, ◌++◌, refl, ap, subst, arith}
 use Rattle.bc_word.specs.declared.operator.Op.{Op}
 use Rattle.bc_word.specs.declared.operator.Op.TheVariants as operators
 use Rattle.bc_word.specs.Words.{number_of}
@@ -10,13 +10,13 @@ use Rattle.bc_core.specs.Tree.{Exp, Bin, Args, count, Root}
 use Rattle.bc_core.specs.Operand.{operand_of}
 use Rattle.bc_rules_defs.specs.declared.rule.Table.{Table}
 use Rattle.bc_rules_defs.specs.declared.rule.Aim.{Aim}
-use Rattle.bc_rules_defs.specs.declared.rule.Aim.TheVariants.{Gets, Jumps}
+use Rattle.bc_rules_defs.specs.declared.rule.Aim.TheVariants.{Jumps}
 use Rattle.bc_rules_defs.specs.Free.{is_zero, without_zero, jumps_at}
 use Rattle.bc_rules_defs.specs.Piece.{J, jump_if}
 use Rattle.bc_rules_defs.specs.Rules.{Derives, v0, v1, v2, v3, v4, v6, v7, v8, v9, v10, v11, v12, v13, v14, v15, v16, v17, v18, v19, v20, v21, v22, v22_valof, j1, j2, j3, j4, j5, j6, j7, j8, j9, DerivesAll, no_more, one_more, RootDerives, value, test, a1, a2, a3}
 use Rattle.bc_rules_defs.specs.Code.{labels, all_labels, root_labels}
-use Rattle.bc_rules_laws.specs.Layers.{Layer, own, part, argument_layers, layers, root_layers}
-use Rattle.bc_rules_laws.specs.Made.{Among, first, later, Within, itself, loaded, negated, inverted, left, right, condition, this, that, an_argument, routine, Side, the_value, the_test, assigned, address, Here, Own, number, frame, cell, next_cell, cell_of_part, operand, to_target, to_own, Aimed, a_value, same_target, own_target, Claim, Stand, done, piece, own_label, a_body, a_part, here, Made, at_root}
+use Rattle.bc_rules_laws.specs.Layers.{Layer, own, argument_layers, root_layers}
+use Rattle.bc_rules_laws.specs.Made.{Among, first, later, Within, itself, loaded, negated, inverted, left, right, condition, this, that, an_argument, routine, the_value, the_test, assigned, address, Here, number, frame, cell, next_cell, cell_of_part, operand, to_target, to_own, a_value, same_target, own_target, Claim, Stand, done, piece, own_label, a_body, a_part, here, Made, at_root}
 
 operator_small : (op : Op) → number_of op ≤ 65535
 operator_small operators.Multiply = omega arith

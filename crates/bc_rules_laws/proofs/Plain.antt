@@ -1,5 +1,5 @@
 -- The code of derivations is made of operations, labels and bodies: it has no bytes, no data, and sets no global.
-use Rattle.std.proofs.Common.{◌≡◌, ℕ, List, [], ◌∷◌, ◌++◌, sym, subst}
+use Rattle.std.proofs.Common.{ℕ, List, [], ◌∷◌, ◌++◌, sym, subst}
 use Rattle.bc_text_items.specs.declared.item.Item.TheVariants as items
 use Rattle.bc_core.specs.Tree.{Exp, Root}
 use Rattle.bc_rules_defs.specs.declared.rule.Table.{Table}

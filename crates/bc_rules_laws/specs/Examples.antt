@@ -1,7 +1,7 @@
 -- Worked examples of layers; each is proved by computing.
-use Rattle.std.specs.Prelude.{◌≡◌, refl, true, false, List, [], ◌∷◌}
+use Rattle.std.specs.Prelude.{◌≡◌, refl, true, false, [], ◌∷◌}
 use Rattle.bc_word.specs.declared.operator.Op.TheVariants.{Multiply, Or}
-use Rattle.bc_core.specs.Tree.{Exp, Num, Frame, Load, Bin, Valof}
+use Rattle.bc_core.specs.Tree.{Num, Frame, Load, Bin, Valof}
 use Rattle.bc_rules_defs.specs.declared.rule.Table.TheVariants.{One}
 use Rattle.bc_rules_defs.specs.declared.rule.Mode.TheVariants.{Any, Push}
 use Rattle.bc_rules_defs.specs.declared.rule.Aim.TheVariants.{Gets, Jumps}

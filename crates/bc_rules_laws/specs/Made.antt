@@ -17,9 +17,9 @@ use Rattle.bc_rules_defs.specs.declared.rule.Mode.TheVariants.{Any}
 use Rattle.bc_rules_defs.specs.declared.piece.Piece.{Piece}
 use Rattle.bc_rules_defs.specs.declared.piece.Piece.TheVariants.{Item}
 use Rattle.bc_rules_defs.specs.Piece.{on, K, J, label}
-use Rattle.bc_rules_defs.specs.Rules.{Derives, RootDerives}
-use Rattle.bc_rules_defs.specs.Code.{labels, root_labels}
-use Rattle.bc_rules_laws.specs.Layers.{Layer, own, body, part, layers, root_layers}
+use Rattle.bc_rules_defs.specs.Rules.{Derives}
+use Rattle.bc_rules_defs.specs.Code.{labels}
+use Rattle.bc_rules_laws.specs.Layers.{Layer, own, body, part, layers}
 
 -- an argument with its level, an expression itself or a part of it, and a side of a root
 pub data Among : Args → ℕ → Exp → ℕ → Type 0 where
