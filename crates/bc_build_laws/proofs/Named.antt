@@ -1,22 +1,18 @@
 -- The bodies that the code of a derivation names are those of VALOFs of its root.
-use Rattle.std.proofs.Common.{◌≡◌, ℕ, ◌+◌, ◌≤◌, Bool, true, false, cond, Some, None, List, [], ◌∷◌, ◌++◌, not, ap, subst}
-use Rattle.std.specs.Prelude.{is_some}
-use Rattle.bc_word.specs.declared.operator.Op.{Op}
-use Rattle.bc_word.specs.declared.operator.Op.TheVariants as operators
+use Rattle.std.proofs.Common.{ℕ, ◌≤◌, List, [], ◌∷◌, ◌++◌, sym, subst}
 use Rattle.bc_text_items.specs.declared.item.Item.{Item}
-use Rattle.bc_core.specs.Tree.{Exp, Args, count, Root}
-use Rattle.bc_core.specs.declared.operands.Operand.{Operand}
-use Rattle.bc_core.specs.Level.{side_level}
-use Rattle.bc_core.specs.Operand.{operand_of}
+use Rattle.bc_core.specs.Tree.{Exp, Args, Root}
 use Rattle.bc_core.specs.Layout.{Bodies}
 use Rattle.bc_rules_defs.specs.declared.rule.Table.{Table}
 use Rattle.bc_rules_defs.specs.declared.rule.Aim.{Aim}
 use Rattle.bc_rules_defs.specs.declared.piece.Piece.{Piece}
 use Rattle.bc_rules_defs.specs.declared.piece.Piece.TheVariants as pieces
-use Rattle.bc_rules_defs.specs.Free.{is_zero, without_zero, jumps_at}
-use Rattle.bc_rules_defs.specs.Piece.{J, jump_if}
-use Rattle.bc_rules_defs.specs.Rules.{Derives, v0, v1, v2, v3, v4, v6, v7, v8, v9, v10, v11, v12, v13, v14, v15, v16, v17, v18, v19, v20, v21, v22, v22_valof, j1, j2, j3, j4, j5, j6, j7, j8, j9, DerivesAll, no_more, one_more, RootDerives, value, test, a1, a2, a3}
-use Rattle.bc_rules_defs.specs.Code.{code, all_code, labels, all_labels, root_code}
+use Rattle.bc_rules_defs.specs.Rules.{Derives, RootDerives}
+use Rattle.bc_rules_defs.specs.Code.{code, root_code}
+use Rattle.bc_rules_laws.specs.Layers.{Layer, code_of}
+use Rattle.bc_rules_laws.specs.Made.{Among, first, later, Within, itself, loaded, negated, inverted, left, right, condition, this, that, an_argument, routine, Side, the_value, the_test, assigned, address, Here, Own, number, Claim, Stand, done, piece, own_label, a_body, a_part, Made}
+use Rattle.bc_rules_laws.proofs.Layers.{code_is, root_code_is}
+use Rattle.bc_rules_laws.proofs.Made.{by_parts, root_stands}
 use Rattle.bc_build_laws.proofs.Frames.{most, Fits, AllFit, RootFits}
 
 abbrev pub AllNamed : (ℕ → Type 0) → List Piece → Type 0
@@ -45,84 +41,50 @@ item h = record { all = h.all }
 body : {P : ℕ → Type 0} {n : ℕ} {ps : List Piece} → P n → Names P ps → Names P (pieces.Body n ∷ ps)
 body p h = record { all = (p, h.all) }
 
-jump_names : {P : ℕ → Type 0} (sense : Bool) (t : ℕ) → Names P (jump_if sense t ∷ [])
-jump_names true t = item nothing
-jump_names false t = item nothing
+own_names : {P : ℕ → Type 0} {H : Here} {p : Piece} {ps : List Piece} → Own H p → Names P ps → Names P (p ∷ ps)
+own_names (number h) i = item i
+own_names o i = item i
 
-number_names : {P : ℕ → Type 0} (jumps : Bool) (t : ℕ) → Names P (cond jumps (J t ∷ []) [])
-number_names true t = item nothing
-number_names false t = nothing
+argument_fits : (V : Bodies) {es : Args} {e : Exp} {s u : ℕ} → Among es s e u → AllFit V es s → Fits V e u
+argument_fits V first h = h.0
+argument_fits V (later o) h = argument_fits V o h.1
 
--- what stands beside a 0 is one of the two sides
-beside_fits : (V : Bodies) (a b c : Exp) (s : ℕ) (here there : Bool) → cond here (Some a) (cond there (Some b) None) ≡ Some c → Fits V a s → Fits V b s → Fits V c s
-beside_fits V a b c s true there e ha hb = let same : a ≡ c = cc in subst (λ z. Fits V z s) same ha
-beside_fits V a b c s false true e ha hb = let same : b ≡ c = cc in subst (λ z. Fits V z s) same hb
-beside_fits V a b c s false false e ha hb = absurd (let f : None ≡ Some c = e in cc)
+part_fits : (V : Bodies) {a e : Exp} {s u : ℕ} → Within a s e u → Fits V a s → Fits V e u
+part_fits V itself h = h
+part_fits V loaded h = h.1
+part_fits V negated h = h.1
+part_fits V inverted h = h.1
+part_fits V left h = h.1
+part_fits V right h = h.2
+part_fits V condition h = h.1
+part_fits V this h = h.2
+part_fits V that h = h.3
+part_fits V (an_argument o) h = argument_fits V o h.1
+part_fits V routine h = h.2
 
-without_fits : (V : Bodies) (op : Op) (a b c : Exp) (s : ℕ) → without_zero op a b ≡ Some c → Fits V a s → Fits V b s → Fits V c s
-without_fits V operators.Add a b c s e ha hb = beside_fits V a b c s (is_zero b) (is_zero a) e ha hb
-without_fits V operators.Subtract a b c s e ha hb = beside_fits V a b c s (is_zero b) false e ha hb
-without_fits V _ a b c s e ha hb = absurd (let f : None ≡ Some c = e in cc)
-
--- the sides of an assignment
-at_operand : (a : Exp) (s : ℕ) {o : Operand} → operand_of a ≡ Some o → side_level a s ≡ s
-at_operand a s e = ap (λ z. cond (is_some z) s (s + 1)) e
-
-above : (a : Exp) (s : ℕ) → operand_of a ≡ None → side_level a s ≡ s + 1
-above a s e = ap (λ z. cond (is_some z) s (s + 1)) e
+side_fits : (V : Bodies) {r : Root} {e : Exp} {u : ℕ} → Side r e u → RootFits V r → Fits V e u
+side_fits V the_value h = h
+side_fits V the_test h = h
+side_fits V (assigned {v = v} i) h = subst (λ k. Fits V v k) i h.0
+side_fits V (address {a = a} i) h = subst (λ k. Fits V a k) i h.1
 
 -- of each VALOF that fits P is known
 module _ (V : Bodies) (P : ℕ → Type 0) (known : (n s : ℕ) → s ≤ most → V n s ≤ most → P n) where
-  mutual
-    names : {T : Table} {e : Exp} {aim : Aim} (d : Derives T e aim) (s t f : ℕ) → Fits V e s → Names P (code d s t f)
-    names (v0 d) s t f h = names d s t f h
-    names (v1 o) s t f h = item nothing
-    names (v2 d) s t f h = both (names d s t f h.1) (item nothing)
-    names (v3 d) s t f h = both (names d s t f h.1) (item nothing)
-    names (v4 d) s t f h = both (names d s t f h.1) (item nothing)
-    names (v6 o a) s t f h = both (names a (s + 1) t f h.1) (item nothing)
-    names (v7 o free b) s t f h = both (names b (s + 1) t f h.2) (item nothing)
-    names (v8 {op = op} {a = a} {b = b} {c = c} k d) s t f h = names d (s + 1) t f (without_fits V op a b c (s + 1) k h.1 h.2)
-    names (v9 a) s t f h = both (names a (s + 1) t f h.1) (item nothing)
-    names (v10 o a) s t f h = both (names a (s + 1) t f h.1) (item (item (item nothing)))
-    names (v11 o free b) s t f h = both (names b (s + 1) t f h.2) (item (item nothing))
-    names (v12 a b) s t f h = both (both (names a (s + 1) t f h.1) (names b (s + 1) t (f + labels a) h.2)) (item nothing)
-    names (v13 q free b a) s t f h = both (both (names b (s + 1) t f h.2) (names a (s + 1) t (f + labels b) h.1)) (item nothing)
-    names (v14 free b a) s t f h = both (both (names b (s + 1) t f h.2) (names a (s + 1) t (f + labels b) h.1)) (item (item nothing))
-    names (v15 q a b) s t f h = both (both (names a (s + 1) t f h.1) (item (names b (s + 1) t (f + labels a) h.2))) (item (item nothing))
-    names (v16 free b a) s t f h = both (both (names b (s + 1) t f h.2) (item (names a (s + 1) t (f + labels b) h.1))) (item (item nothing))
-    names (v17 a b) s t f h = both (both (names a (s + 1) t f h.1) (item (names b (s + 1) t (f + labels a) h.2))) (item (item (item (item nothing))))
-    names (v18 a b) s t f h = both (both (names a (s + 1) t f h.1) (item (names b (s + 1) t (f + labels a) h.2))) (item nothing)
-    names (v19 a b) s t f h = both (both (names a (s + 1) t f h.1) (item (names b (s + 1) t (f + labels a) h.2))) (item (item nothing))
-    names (v20 c x y) s t f h =
-        both (both (both (names c s f (f + 2) h.1) (names x s t (f + 2 + labels c) h.2)) (item (item (names y s t (f + 2 + labels c + labels x) h.3)))) (item nothing)
-    names (v21 c y x) s t f h =
-        both (both (both (names c s f (f + 2) h.1) (names y s t (f + 2 + labels c) h.3)) (item (item (names x s t (f + 2 + labels c + labels y) h.2)))) (item nothing)
-    names (v22 {es = es} ds r) s t f h = both (both (all_name ds (s + 2) t f h.1) (names r (s + 2 + count es) t (f + all_labels ds) h.2)) (item nothing)
-    names (v22_valof {n = n}) s t f h = body (known n s h.0 h.1) (item nothing)
-    names (j1 d) s t f h = names d s t f h.1
-    names (j2 a b) s t f h = both (names a (s + 1) t f h.1) (names b (s + 1) t (f + labels a) h.2)
-    names (j3 a b) s t f h = both (both (names a (s + 1) f (f + 1) h.1) (names b (s + 1) t (f + 1 + labels a) h.2)) (item nothing)
-    names (j4 a b) s t f h = both (names a (s + 1) t f h.1) (names b (s + 1) t (f + labels a) h.2)
-    names (j5 a b) s t f h = both (both (names a (s + 1) f (f + 1) h.1) (names b (s + 1) t (f + 1 + labels a) h.2)) (item nothing)
-    names (j6 {sense = sense} k d) s t f h = both (names d s t f h) (jump_names sense t)
-    names (j7 {n = n} {sense = sense}) s t f h = number_names (jumps_at sense n) t
-    names (j8 {a = a} {b = b} {c = c} {sense = sense} two k d) s t f h =
-        both (names d (s + 1) t f (beside_fits V a b c (s + 1) (is_zero b) (is_zero a) k h.1 h.2)) (jump_names (not sense) t)
-    names (j9 {a = a} {b = b} {c = c} {sense = sense} two k d) s t f h =
-        both (names d (s + 1) t f (beside_fits V a b c (s + 1) (is_zero b) (is_zero a) k h.1 h.2)) (jump_names sense t)
+  abbrev AreNamed : (T : Table) → Claim T
+  AreNamed T e aim d s t f = Fits V e s → Names P (code d s t f)
 
-    all_name : {T : Table} {es : Args} (ds : DerivesAll T es) (s t f : ℕ) → AllFit V es s → Names P (all_code ds s t f)
-    all_name no_more s t f h = nothing
-    all_name (one_more d ds) s t f h = both (names d s t f h.0) (item (all_name ds (s + 1) t (f + labels d) h.1))
+  layers_name : {T : Table} {H : Here} {k m : ℕ} {ls : List (Layer T)} → ((e : Exp) (u : ℕ) → H.sees e u → Fits V e u) → Stand (AreNamed T) H k m ls → Names P (code_of ls)
+  layers_name fits (done h i) = nothing
+  layers_name fits (piece o h) = own_names o (layers_name fits h)
+  layers_name fits (own_label h) = item (layers_name fits h)
+  layers_name {H = H} fits (a_body {n = n} o h) = let k = fits _ _ o in body (known n H.level k.0 k.1) (item (layers_name fits h))
+  layers_name fits (a_part {e = e} {u = u} o a c h) = both (c (fits e u o)) (layers_name fits h)
+
+  step : {T : Table} (e : Exp) (aim : Aim) (d : Derives T e aim) → ((s t f : ℕ) → Made (AreNamed T) e aim d s t f) → (s t f : ℕ) → AreNamed T e aim d s t f
+  step e aim d all s t f h = let made = all s t f in subst (Names P) (sym (code_is d s t f)) (layers_name (λ a u o. part_fits V o h) made.stand)
+
+  names : {T : Table} (e : Exp) (aim : Aim) (d : Derives T e aim) (s t f : ℕ) → AreNamed T e aim d s t f
+  names {T = T} e aim d s t f = by_parts (AreNamed T) (λ e aim d all s t f. step e aim d all s t f) d s t f
 
   pub root_names : {T : Table} {r : Root} (d : RootDerives T r) (t f : ℕ) → RootFits V r → Names P (root_code d t f)
-  root_names (value {s = s} d) t f h = names d s t f h
-  root_names (test {s = s} d) t f h = names d s t f h
-  root_names (a1 {s = s} {v = v} {a = a} o d) t f h = both (names d s t f (subst (λ k. Fits V v k) (at_operand a s o) h.0)) (item nothing)
-  root_names (a2 {s = s} {v = v} {a = a} o free x d) t f h =
-      let up = above a s o in
-      both (both (names x (s + 1) t f (subst (λ k. Fits V a k) up h.1)) (item (names d (s + 1) t (f + labels x) (subst (λ k. Fits V v k) up h.0)))) (item nothing)
-  root_names (a3 {s = s} {v = v} {a = a} o d x) t f h =
-      let up = above a s o in
-      both (both (names d (s + 1) t f (subst (λ k. Fits V v k) up h.0)) (item (names x (s + 1) t (f + labels d) (subst (λ k. Fits V a k) up h.1)))) (item (item (item nothing)))
+  root_names {T = T} d t f h = subst (Names P) (sym (root_code_is d t f)) (layers_name (λ a u o. side_fits V o h) (root_stands (AreNamed T) names d t f))

@@ -1,11 +1,11 @@
 -- The code of a derivation speaks of its own labels, of its target and of those that its expression names.
-use Rattle.std.proofs.Common.{◌≡◌, ℕ, ◌+◌, ◌≤◌, ◌<◌, ◌&&◌, Bool, true, false, not, cond, Option, Some, None, subst, arith}
+use Rattle.std.proofs.Common.{◌≡◌, ℕ, ◌+◌, ◌≤◌, ◌<◌, ◌&&◌, Bool, true, false, cond, Option, Some, None, List, ◌∷◌, sym, subst, arith}
 use Rattle.std.specs.Prelude.{nat_le}
 use Rattle.std.proofs.lemmas.Bool.Decides.{nat_tests}
 use Rattle.bc_word.specs.declared.operator.Op.{Op}
 use Rattle.bc_word.specs.declared.operator.Op.TheVariants as operators
 use Rattle.bc_text_items.specs.declared.item.Function.{Function}
-use Rattle.bc_text_items.specs.declared.item.Function.TheVariants as functions
+use Rattle.bc_text_items.specs.declared.item.Base.TheVariants.{Label}
 use Rattle.bc_text_items.specs.declared.item.Item.TheVariants as items
 use Rattle.bc_core.specs.declared.operands.Operand.{Operand}
 use Rattle.bc_core.specs.Tree.{Exp, Num, Frame, Glob, Place, Load, Neg, Not, Bin, Cond, Call, Valof, Args, no_argument, argument, count, Root, Value, Test, Assign}
@@ -15,12 +15,17 @@ use Rattle.bc_core.specs.WellFormed.{Around, exp_fits, args_fit}
 use Rattle.bc_rules_defs.specs.declared.rule.Table.{Table}
 use Rattle.bc_rules_defs.specs.declared.rule.Aim.{Aim}
 use Rattle.bc_rules_defs.specs.declared.rule.Aim.TheVariants.{Gets, Jumps}
-use Rattle.bc_rules_defs.specs.Free.{is_zero, without_zero, jumps_at}
-use Rattle.bc_rules_defs.specs.Rules.{Derives, v0, v1, v2, v3, v4, v6, v7, v8, v9, v10, v11, v12, v13, v14, v15, v16, v17, v18, v19, v20, v21, v22, v22_valof, j1, j2, j3, j4, j5, j6, j7, j8, j9, DerivesAll, no_more, one_more, RootDerives, value, test, a1, a2, a3}
-use Rattle.bc_rules_defs.specs.Code.{labels, all_labels, code, all_code, root_labels, root_code}
+use Rattle.bc_rules_defs.specs.declared.piece.Piece.{Piece}
+use Rattle.bc_rules_defs.specs.Rules.{Derives, RootDerives}
+use Rattle.bc_rules_defs.specs.Code.{labels, code, root_labels, root_code}
+use Rattle.bc_rules_laws.specs.Layers.{Layer, code_of}
+use Rattle.bc_rules_laws.specs.Made.{Among, first, later, Within, itself, loaded, negated, inverted, left, right, condition, this, that, an_argument, routine, Side, the_value, the_test, assigned, address, Here, Own, number, frame, cell, next_cell, cell_of_part, operand, to_target, to_own, Aimed, a_value, same_target, own_target, Claim, Stand, done, own_label, a_body, a_part, here, Made, aim_of_root, at_root}
+use Rattle.bc_rules_laws.specs.Made as stand
+use Rattle.bc_rules_laws.proofs.Layers.{code_is, root_code_is}
+use Rattle.bc_rules_laws.proofs.Made.{by_parts, root_stands, in_bounds}
 use Rattle.bc_link.specs.Labels.{use_of}
 use Rattle.bc_gen_labels.proofs.Fresh.{left_true, right_true}
-use Rattle.bc_gen_labels.proofs.Speaking.{In, Known, PiecesSpeak, pieces_both, no_piece, piece, body, jump_speaks, number_speaks, BaseKnown, operation_known}
+use Rattle.bc_gen_labels.proofs.Speaking.{In, Known, PiecesSpeak, pieces_both, no_piece, piece, body, BaseKnown, operation_known}
 
 -- an expression that names the places 1 to n - 1 alone
 abbrev mutual
@@ -135,139 +140,79 @@ all_operands n (Valof m) h = tt
 operand_known : (n : ℕ) (function : Function) (e : Exp) (o : Operand) → operand_of e ≡ Some o → Names n e → Known n (use_of (items.Operation function (cond o.direct false true) o.base o.n))
 operand_known n function e o h k = operation_known n function (cond o.direct false true) o.base o.n (subst (OperandKnown n) h (all_operands n e k))
 
--- what stands beside a 0 is one of the two sides
-beside_names : (n : ℕ) (a b c : Exp) (here there : Bool) → cond here (Some a) (cond there (Some b) None) ≡ Some c → Names n a → Names n b → Names n c
-beside_names n a b c true there e ha hb = let same : a ≡ c = cc in subst (Names n) same ha
-beside_names n a b c false true e ha hb = let same : b ≡ c = cc in subst (Names n) same hb
-beside_names n a b c false false e ha hb = absurd (let f : None ≡ Some c = e in cc)
-
-without_names : (n : ℕ) (op : Op) (a b c : Exp) → without_zero op a b ≡ Some c → Names n a → Names n b → Names n c
-without_names n operators.Add a b c e ha hb = beside_names n a b c (is_zero b) (is_zero a) e ha hb
-without_names n operators.Subtract a b c e ha hb = beside_names n a b c (is_zero b) false e ha hb
-without_names n _ a b c e ha hb = absurd (let f : None ≡ Some c = e in cc)
-
 -- a derivation that jumps has a target
 abbrev Aims : ℕ → Aim → ℕ → Type 0
 Aims n (Gets m) t = Unit {0}
 Aims n (Jumps sense) t = In n t
 
-left_of : (f a b n : ℕ) → f + (a + b) ≤ n → f + a ≤ n
-left_of f a b n h = omega arith
+argument_names : (n : ℕ) {es : Args} {e : Exp} {s u : ℕ} → Among es s e u → AllName n es → Names n e
+argument_names n first h = h.0
+argument_names n (later o) h = argument_names n o h.1
 
-right_of : (f a b n : ℕ) → f + (a + b) ≤ n → f + a + b ≤ n
-right_of f a b n h = omega arith
+part_names : (n : ℕ) {a e : Exp} {s u : ℕ} → Within a s e u → Names n a → Names n e
+part_names n itself h = h
+part_names n loaded h = h
+part_names n negated h = h
+part_names n inverted h = h
+part_names n left h = h.0
+part_names n right h = h.1
+part_names n condition h = h.0
+part_names n this h = h.1
+part_names n that h = h.2
+part_names n (an_argument o) h = argument_names n o h.0
+part_names n routine h = h.1
 
-up : (f a : ℕ) → 1 ≤ f → 1 ≤ f + a
-up f a h = omega arith
-
-own : (f a n : ℕ) → 1 ≤ f → f + (1 + a) ≤ n → In n f
-own f a n l u = (l, omega arith)
-
-own_of_two : (f a b n : ℕ) → 1 ≤ f → f + (1 + a + b) ≤ n → In n f
-own_of_two f a b n l u = (l, omega arith)
-
-left_of_test : (f a b n : ℕ) → f + (1 + a + b) ≤ n → f + 1 + a ≤ n
-left_of_test f a b n h = omega arith
-
-right_of_test : (f a b n : ℕ) → f + (1 + a + b) ≤ n → f + 1 + a + b ≤ n
-right_of_test f a b n h = omega arith
-
-first_of_three : (f a b c n : ℕ) → 1 ≤ f → f + (2 + a + b + c) ≤ n → In n f
-first_of_three f a b c n l u = (l, omega arith)
-
-second_of_three : (f a b c n : ℕ) → 1 ≤ f → f + (2 + a + b + c) ≤ n → In n (f + 1)
-second_of_three f a b c n l u = (omega arith, omega arith)
-
-test_of_three : (f a b c n : ℕ) → f + (2 + a + b + c) ≤ n → f + 2 + a ≤ n
-test_of_three f a b c n u = omega arith
-
-one_of_three : (f a b c n : ℕ) → f + (2 + a + b + c) ≤ n → f + 2 + a + b ≤ n
-one_of_three f a b c n u = omega arith
-
-last_of_three : (f a b c n : ℕ) → f + (2 + a + b + c) ≤ n → f + 2 + a + b + c ≤ n
-last_of_three f a b c n u = omega arith
+side_names : (n : ℕ) {r : Root} {e : Exp} {u : ℕ} → Side r e u → NamesOfRoot n r → Names n e
+side_names n the_value h = h
+side_names n the_test h = h
+side_names n (assigned i) h = h.0
+side_names n (address i) h = h.1
 
 module _ (n : ℕ) where
-  mutual
-    code_speaks : {T : Table} {e : Exp} {aim : Aim} (d : Derives T e aim) (s t f : ℕ) → Names n e → Aims n aim t → 1 ≤ f → f + labels d ≤ n → PiecesSpeak n (code d s t f)
-    code_speaks (v0 d) s t f h g l u = code_speaks d s t f h tt l u
-    code_speaks (v1 {e = e} {o = o} k) s t f h g l u = piece (operand_known n functions.Load e o k h) no_piece
-    code_speaks (v2 d) s t f h g l u = pieces_both (code_speaks d s t f h tt l u) (piece tt no_piece)
-    code_speaks (v3 d) s t f h g l u = pieces_both (code_speaks d s t f h tt l u) (piece tt no_piece)
-    code_speaks (v4 d) s t f h g l u = pieces_both (code_speaks d s t f h tt l u) (piece tt no_piece)
-    code_speaks (v6 {b = b} {o = o} k d) s t f h g l u = pieces_both (code_speaks d (s + 1) t f h.0 tt l u) (piece (operand_known n functions.Add b o k h.1) no_piece)
-    code_speaks (v7 {a = a} {o = o} k free d) s t f h g l u = pieces_both (code_speaks d (s + 1) t f h.1 tt l u) (piece (operand_known n functions.Add a o k h.0) no_piece)
-    code_speaks (v8 {op = op} {a = a} {b = b} {c = c} k d) s t f h g l u = code_speaks d (s + 1) t f (without_names n op a b c k h.0 h.1) tt l u
-    code_speaks (v9 d) s t f h g l u = pieces_both (code_speaks d (s + 1) t f h.0 tt l u) (piece tt no_piece)
-    code_speaks (v10 {b = b} {o = o} k d) s t f h g l u = pieces_both (code_speaks d (s + 1) t f h.0 tt l u) (piece tt (piece (operand_known n functions.Add b o k h.1) (piece tt no_piece)))
-    code_speaks (v11 {a = a} {o = o} k free d) s t f h g l u = pieces_both (code_speaks d (s + 1) t f h.1 tt l u) (piece tt (piece (operand_known n functions.Add a o k h.0) no_piece))
-    code_speaks (v12 a b) s t f h g l u =
-        pieces_both (pieces_both (code_speaks a (s + 1) t f h.0 tt l (left_of f (labels a) (labels b) n u))
-        (code_speaks b (s + 1) t (f + labels a) h.1 tt (up f (labels a) l) (right_of f (labels a) (labels b) n u))) (piece tt no_piece)
-    code_speaks (v13 k free b a) s t f h g l u =
-        pieces_both (pieces_both (code_speaks b (s + 1) t f h.1 tt l (left_of f (labels b) (labels a) n u))
-        (code_speaks a (s + 1) t (f + labels b) h.0 tt (up f (labels b) l) (right_of f (labels b) (labels a) n u))) (piece tt no_piece)
-    code_speaks (v14 free b a) s t f h g l u =
-        pieces_both (pieces_both (code_speaks b (s + 1) t f h.1 tt l (left_of f (labels b) (labels a) n u))
-        (code_speaks a (s + 1) t (f + labels b) h.0 tt (up f (labels b) l) (right_of f (labels b) (labels a) n u))) (piece tt (piece tt no_piece))
-    code_speaks (v15 k a b) s t f h g l u =
-        pieces_both (pieces_both (code_speaks a (s + 1) t f h.0 tt l (left_of f (labels a) (labels b) n u))
-        (piece tt (code_speaks b (s + 1) t (f + labels a) h.1 tt (up f (labels a) l) (right_of f (labels a) (labels b) n u)))) (piece tt (piece tt no_piece))
-    code_speaks (v16 free b a) s t f h g l u =
-        pieces_both (pieces_both (code_speaks b (s + 1) t f h.1 tt l (left_of f (labels b) (labels a) n u))
-        (piece tt (code_speaks a (s + 1) t (f + labels b) h.0 tt (up f (labels b) l) (right_of f (labels b) (labels a) n u)))) (piece tt (piece tt no_piece))
-    code_speaks (v17 a b) s t f h g l u =
-        pieces_both (pieces_both (code_speaks a (s + 1) t f h.0 tt l (left_of f (labels a) (labels b) n u))
-        (piece tt (code_speaks b (s + 1) t (f + labels a) h.1 tt (up f (labels a) l) (right_of f (labels a) (labels b) n u)))) (piece tt (piece tt (piece tt (piece tt no_piece))))
-    code_speaks (v18 a b) s t f h g l u =
-        pieces_both (pieces_both (code_speaks a (s + 1) t f h.0 tt l (left_of f (labels a) (labels b) n u))
-        (piece tt (code_speaks b (s + 1) t (f + labels a) h.1 tt (up f (labels a) l) (right_of f (labels a) (labels b) n u)))) (piece tt no_piece)
-    code_speaks (v19 a b) s t f h g l u =
-        pieces_both (pieces_both (code_speaks a (s + 1) t f h.0 tt l (left_of f (labels a) (labels b) n u))
-        (piece tt (code_speaks b (s + 1) t (f + labels a) h.1 tt (up f (labels a) l) (right_of f (labels a) (labels b) n u)))) (piece tt (piece tt no_piece))
-    code_speaks (v20 c x y) s t f h g l u =
-        let i = first_of_three f (labels c) (labels x) (labels y) n l u in
-        let j = second_of_three f (labels c) (labels x) (labels y) n l u in
-        pieces_both (pieces_both (pieces_both (code_speaks c s f (f + 2) h.0 i (up f 2 l) (test_of_three f (labels c) (labels x) (labels y) n u))
-        (code_speaks x s t (f + 2 + labels c) h.1 tt (up (f + 2) (labels c) (up f 2 l)) (one_of_three f (labels c) (labels x) (labels y) n u)))
-        (piece j (piece tt (code_speaks y s t (f + 2 + labels c + labels x) h.2 tt (up (f + 2 + labels c) (labels x) (up (f + 2) (labels c) (up f 2 l))) (last_of_three f (labels c) (labels x) (labels y) n u)))))
-        (piece tt no_piece)
-    code_speaks (v21 c y x) s t f h g l u =
-        let i = first_of_three f (labels c) (labels y) (labels x) n l u in
-        let j = second_of_three f (labels c) (labels y) (labels x) n l u in
-        pieces_both (pieces_both (pieces_both (code_speaks c s f (f + 2) h.0 i (up f 2 l) (test_of_three f (labels c) (labels y) (labels x) n u))
-        (code_speaks y s t (f + 2 + labels c) h.2 tt (up (f + 2) (labels c) (up f 2 l)) (one_of_three f (labels c) (labels y) (labels x) n u)))
-        (piece j (piece tt (code_speaks x s t (f + 2 + labels c + labels y) h.1 tt (up (f + 2 + labels c) (labels y) (up (f + 2) (labels c) (up f 2 l))) (last_of_three f (labels c) (labels y) (labels x) n u)))))
-        (piece tt no_piece)
-    code_speaks (v22 {es = es} ds r) s t f h g l u =
-        pieces_both (pieces_both (all_speak ds (s + 2) t f h.0 l (left_of f (all_labels ds) (labels r) n u))
-        (code_speaks r (s + 2 + count es) t (f + all_labels ds) h.1 tt (up f (all_labels ds) l) (right_of f (all_labels ds) (labels r) n u))) (piece tt no_piece)
-    code_speaks v22_valof s t f h g l u = body (own f 0 n l u) (piece tt no_piece)
-    code_speaks (j1 d) s t f h g l u = code_speaks d s t f h g l u
-    code_speaks (j2 a b) s t f h g l u =
-        pieces_both (code_speaks a (s + 1) t f h.0 g l (left_of f (labels a) (labels b) n u))
-        (code_speaks b (s + 1) t (f + labels a) h.1 g (up f (labels a) l) (right_of f (labels a) (labels b) n u))
-    code_speaks (j3 a b) s t f h g l u =
-        pieces_both (pieces_both (code_speaks a (s + 1) f (f + 1) h.0 (own_of_two f (labels a) (labels b) n l u) (up f 1 l) (left_of_test f (labels a) (labels b) n u))
-        (code_speaks b (s + 1) t (f + 1 + labels a) h.1 g (up (f + 1) (labels a) (up f 1 l)) (right_of_test f (labels a) (labels b) n u))) (piece tt no_piece)
-    code_speaks (j4 a b) s t f h g l u =
-        pieces_both (code_speaks a (s + 1) t f h.0 g l (left_of f (labels a) (labels b) n u))
-        (code_speaks b (s + 1) t (f + labels a) h.1 g (up f (labels a) l) (right_of f (labels a) (labels b) n u))
-    code_speaks (j5 a b) s t f h g l u =
-        pieces_both (pieces_both (code_speaks a (s + 1) f (f + 1) h.0 (own_of_two f (labels a) (labels b) n l u) (up f 1 l) (left_of_test f (labels a) (labels b) n u))
-        (code_speaks b (s + 1) t (f + 1 + labels a) h.1 g (up (f + 1) (labels a) (up f 1 l)) (right_of_test f (labels a) (labels b) n u))) (piece tt no_piece)
-    code_speaks (j6 {sense = sense} k d) s t f h g l u = pieces_both (code_speaks d s t f h tt l u) (jump_speaks sense t g)
-    code_speaks (j7 {n = m} {sense = sense}) s t f h g l u = number_speaks (jumps_at sense m) t g
-    code_speaks (j8 {a = a} {b = b} {c = c} {sense = sense} two k d) s t f h g l u =
-        pieces_both (code_speaks d (s + 1) t f (beside_names n a b c (is_zero b) (is_zero a) k h.0 h.1) tt l u) (jump_speaks (not sense) t g)
-    code_speaks (j9 {a = a} {b = b} {c = c} {sense = sense} two k d) s t f h g l u =
-        pieces_both (code_speaks d (s + 1) t f (beside_names n a b c (is_zero b) (is_zero a) k h.0 h.1) tt l u) (jump_speaks sense t g)
+  abbrev Speaks : (T : Table) → Claim T
+  Speaks T e aim d s t f = Names n e → Aims n aim t → 1 ≤ f → f + labels d ≤ n → PiecesSpeak n (code d s t f)
 
-    all_speak : {T : Table} {es : Args} (ds : DerivesAll T es) (s t f : ℕ) → AllName n es → 1 ≤ f → f + all_labels ds ≤ n → PiecesSpeak n (all_code ds s t f)
-    all_speak no_more s t f h l u = no_piece
-    all_speak (one_more d ds) s t f h l u =
-        pieces_both (code_speaks d s t f h.0 tt l (left_of f (labels d) (all_labels ds) n u))
-        (piece tt (all_speak ds (s + 1) t (f + labels d) h.1 (up f (labels d) l) (right_of f (labels d) (all_labels ds) n u)))
+  -- what layers see names known places, they jump to known labels, and their labels are among the known ones
+  record Knows (H : Here) : Type 0 where
+    sees : (e : Exp) (u : ℕ) → H.sees e u → Names n e
+    target : (sense : Bool) → H.aim ≡ Jumps sense → In n H.target
+    first : 1 ≤ H.first
+    parts : H.parts ≤ n
+    end : H.end ≤ n
+
+  own_known : {H : Here} {p : Piece} {ps : List Piece} → Knows H → Own H p → PiecesSpeak n ps → PiecesSpeak n (p ∷ ps)
+  own_known K (number h) i = piece tt i
+  own_known K frame i = piece tt i
+  own_known K cell i = piece tt i
+  own_known K next_cell i = piece tt i
+  own_known K (cell_of_part o) i = piece tt i
+  own_known K (operand {i = function} {a = a} {u = u} {o = o} x h) i = piece (operand_known n function a o h (K.sees a u x)) i
+  own_known K (to_target {i = function} {sense = sense} h) i = piece (operation_known n function false Label _ (K.target sense h)) i
+  own_known K (to_own h k) i = let l = K.first in let u = K.parts in piece (omega arith, omega arith) i
+
+  aimed : {H : Here} {aim : Aim} {v : ℕ} → Knows H → Aimed H aim v → Aims n aim v
+  aimed K a_value = tt
+  aimed K (same_target {a = a} h) = K.target a h
+  aimed K (own_target h k) = let l = K.first in let u = K.parts in (omega arith, omega arith)
+
+  layers_speak : {T : Table} {H : Here} {k m : ℕ} {ls : List (Layer T)} → Knows H → 1 ≤ k → 1 ≤ m → Stand (Speaks T) H k m ls → PiecesSpeak n (code_of ls)
+  layers_speak K l p (done h i) = no_piece
+  layers_speak K l p (stand.piece o h) = own_known K o (layers_speak K l p h)
+  layers_speak K l p (own_label h) = piece tt (layers_speak K (omega arith) p h)
+  layers_speak K l p (a_body o h) = let b = in_bounds h in let x = b.0 in let u = K.parts in body (l, omega arith) (piece tt (layers_speak K (omega arith) p h))
+  layers_speak K l p (a_part {e = e} {u = u} o a c h) =
+      let b = in_bounds h in let x = b.1 in let y = K.end in
+      pieces_both (c (K.sees e u o) (aimed K a) p (omega arith)) (layers_speak K l (omega arith) h)
+
+  step : {T : Table} (e : Exp) (aim : Aim) (d : Derives T e aim) → ((s t f : ℕ) → Made (Speaks T) e aim d s t f) → (s t f : ℕ) → Speaks T e aim d s t f
+  step e aim d all s t f h g l u =
+      let made = all s t f in
+      let b = in_bounds made.stand in let x = b.0 in let y = b.1 in
+      let K : Knows (here e aim s t f made.parts (f + labels d)) = record { sees = λ a k o. part_names n o h; target = λ sense e. subst (λ a. Aims n a t) e g; first = l; parts = omega arith; end = u } in
+      subst (PiecesSpeak n) (sym (code_is d s t f)) (layers_speak K l (omega arith) made.stand)
+
+  speaks : {T : Table} (e : Exp) (aim : Aim) (d : Derives T e aim) (s t f : ℕ) → Speaks T e aim d s t f
+  speaks {T = T} e aim d s t f = by_parts (Speaks T) (λ e aim d all s t f. step e aim d all s t f) d s t f
 
   -- the target of a test
   abbrev pub AimsOfRoot : Root → ℕ → Type 0
@@ -275,13 +220,13 @@ module _ (n : ℕ) where
   AimsOfRoot (Test s sense e) t = In n t
   AimsOfRoot (Assign s v a) t = Unit {0}
 
+  root_aims : (r : Root) (t : ℕ) → AimsOfRoot r t → Aims n (aim_of_root r) t
+  root_aims (Value s e) t g = tt
+  root_aims (Test s sense e) t g = g
+  root_aims (Assign s v a) t g = tt
+
   pub root_speaks : {T : Table} {r : Root} (d : RootDerives T r) (t f : ℕ) → NamesOfRoot n r → AimsOfRoot r t → 1 ≤ f → f + root_labels d ≤ n → PiecesSpeak n (root_code d t f)
-  root_speaks (value {s = s} d) t f h g l u = code_speaks d s t f h tt l u
-  root_speaks (test {s = s} d) t f h g l u = code_speaks d s t f h g l u
-  root_speaks (a1 {s = s} {a = a} {o = o} k v) t f h g l u = pieces_both (code_speaks v s t f h.0 tt l u) (piece (operand_known n functions.Store a o k h.1) no_piece)
-  root_speaks (a2 {s = s} k free a v) t f h g l u =
-      pieces_both (pieces_both (code_speaks a (s + 1) t f h.1 tt l (left_of f (labels a) (labels v) n u))
-      (piece tt (code_speaks v (s + 1) t (f + labels a) h.0 tt (up f (labels a) l) (right_of f (labels a) (labels v) n u)))) (piece tt no_piece)
-  root_speaks (a3 {s = s} k v a) t f h g l u =
-      pieces_both (pieces_both (code_speaks v (s + 1) t f h.0 tt l (left_of f (labels v) (labels a) n u))
-      (piece tt (code_speaks a (s + 1) t (f + labels v) h.1 tt (up f (labels v) l) (right_of f (labels v) (labels a) n u)))) (piece tt (piece tt (piece tt no_piece)))
+  root_speaks {T = T} {r = r} d t f h g l u =
+      let stand = root_stands (Speaks T) speaks d t f in
+      let K : Knows (at_root r t f (f + root_labels d)) = record { sees = λ a k o. side_names n o h; target = λ sense e. subst (λ a. Aims n a t) e (root_aims r t g); first = l; parts = omega arith; end = u } in
+      subst (PiecesSpeak n) (sym (root_code_is d t f)) (layers_speak K l l stand)

@@ -1,5 +1,5 @@
 -- Of which labels items and pieces speak.
-use Rattle.std.proofs.Common.{◌≡◌, ℕ, ◌≤◌, ◌<◌, Bool, true, false, cond, Option, Some, None, List, [], ◌∷◌, ◌++◌, refl, sym, subst, arith}
+use Rattle.std.proofs.Common.{◌≡◌, ℕ, ◌≤◌, ◌<◌, Bool, Option, Some, None, List, [], ◌∷◌, ◌++◌, refl, sym, subst, arith}
 use Rattle.bc_text_items.specs.declared.item.Item.{Item}
 use Rattle.bc_text_items.specs.declared.item.Item.TheVariants as items
 use Rattle.bc_text_items.specs.declared.item.Base.{Base}
@@ -7,7 +7,6 @@ use Rattle.bc_text_items.specs.declared.item.Base.TheVariants as bases
 use Rattle.bc_text_items.specs.declared.item.Function.{Function}
 use Rattle.bc_rules_defs.specs.declared.piece.Piece.{Piece}
 use Rattle.bc_rules_defs.specs.declared.piece.Piece.TheVariants as pieces
-use Rattle.bc_rules_defs.specs.Piece.{J, jump_if}
 use Rattle.bc_gen_defs.specs.Bodies.{label_ahead}
 use Rattle.bc_link.specs.Labels.{use_of}
 
@@ -76,14 +75,6 @@ piece u h = record { all = (u, h.all) }
 
 pub body : {n m : ℕ} {ps : List Piece} → In n (label_ahead ps) → PiecesSpeak n ps → PiecesSpeak n (pieces.Body m ∷ ps)
 body u h = record { all = (u, h.all) }
-
-pub jump_speaks : {n : ℕ} (sense : Bool) (t : ℕ) → In n t → PiecesSpeak n (jump_if sense t ∷ [])
-jump_speaks true t h = piece h no_piece
-jump_speaks false t h = piece h no_piece
-
-pub number_speaks : {n : ℕ} (jumps : Bool) (t : ℕ) → In n t → PiecesSpeak n (cond jumps (J t ∷ []) [])
-number_speaks true t h = piece h no_piece
-number_speaks false t h = no_piece
 
 -- an address that is no label of others
 abbrev pub BaseKnown : ℕ → Base → ℕ → Type 0

@@ -3,10 +3,11 @@ use Rattle.std.proofs.Common.{◌≡◌, ◌∙◌, ℕ, ◌+◌, Bool, true, fa
 use Rattle.bc_word.specs.declared.operator.Op.{Op}
 use Rattle.bc_word.specs.declared.operator.Op.TheVariants as operators
 use Rattle.bc_core.specs.declared.operands.Operand.{Operand}
-use Rattle.bc_core.specs.Tree.{Exp, Num, Frame, Glob, Place, Load, Bin}
+use Rattle.bc_core.specs.Tree.{Exp, Num, Frame, Glob, Place, Load, Bin, Root, Value, Test, Assign}
 use Rattle.bc_core.specs.Operand.{constant_of, moved, first_some, operand_of_operator, content_of, operand_of}
 use Rattle.bc_rules_defs.specs.Free.{is_zero, beside_zero, without_zero}
-use Rattle.bc_gen_defs.specs.Size.{words_within}
+use Rattle.bc_rules_laws.proofs.Bodies.{Weighing, of_root}
+use Rattle.bc_gen_defs.specs.Size.{words_within, words_within_args, words_within_root}
 
 abbrev Nothing : (ℕ → ℕ) → Exp → Type 0
 Nothing B e = words_within B e ≡ 0
@@ -66,3 +67,27 @@ pub without_zero_within : (B : ℕ → ℕ) (op : Op) (a b c : Exp) → without_
 without_zero_within B operators.Add a b c h = beside_zero_within B a b c h
 without_zero_within B operators.Subtract a b c h = minus_within B a b c (is_zero b) refl h
 without_zero_within B _ a b c h = absurd (cc)
+
+-- so the words of the bodies in an expression are a weight of it
+abbrev pub within : (ℕ → ℕ) → Weighing
+within B = record {
+  of = words_within B;
+  of_all = words_within_args B;
+  load = λ e. refl;
+  neg = λ e. refl;
+  inverse = λ e. refl;
+  operator = λ op a b. refl;
+  condition = λ c x y. refl;
+  call = λ es f. refl;
+  no_argument = refl;
+  arguments = λ e es. refl;
+  constant = λ n. refl;
+  operand = no_operand_body B;
+  beside = beside_zero_within B;
+  without = without_zero_within B;
+}
+
+pub root_within : (B : ℕ → ℕ) (r : Root) → of_root (within B) r ≡ words_within_root B r
+root_within B (Value s e) = refl
+root_within B (Test s sense e) = refl
+root_within B (Assign s v a) = refl

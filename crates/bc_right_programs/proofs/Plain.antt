@@ -1,22 +1,18 @@
 -- The code of routines holds no byte, and sets no global.
 use Rattle.std.proofs.Common.{ℕ, ◌+◌, ◌==◌, Bool, true, false, not, List, [], ◌∷◌, ◌++◌}
-use Rattle.std.specs.Prelude.{cond}
 use Rattle.bc_text_items.specs.declared.item.Item.{Item}
 use Rattle.bc_text_items.specs.declared.item.Item.TheVariants.{Label, Data, DataLabel, Byte, Operation, Global}
-use Rattle.bc_core.specs.Tree.{Exp, Args, count, Frame, Root, Value, Test, Assign}
+use Rattle.bc_core.specs.Tree.{Frame, Root, Value, Test, Assign}
 use Rattle.bc_core.specs.Commands.{Variable, Initial, Vector, Command, Block, block, Items, no_item, command, case, default, label, Body, Gives, Does, Valof, Place}
 use Rattle.bc_core.specs.Commands as commands
 use Rattle.bc_core.specs.Command.{step_of_for}
 use Rattle.bc_core.specs.Level.{cells_of, cells_of_all, cells_declared, level_in_for, level_behind_parameters}
 use Rattle.bc_rules_defs.specs.declared.rule.Table.{Table}
-use Rattle.bc_rules_defs.specs.declared.rule.Aim.{Aim}
 use Rattle.bc_rules_defs.specs.declared.piece.Piece.{Piece}
 use Rattle.bc_rules_defs.specs.declared.piece.Piece.TheVariants as pieces
-use Rattle.bc_rules_defs.specs.Free.{jumps_at}
-use Rattle.bc_rules_defs.specs.Piece.{S, A, A_number, SP, LIP, AIP, SIP, X, K, J, jump_if, label as label_piece}
-use Rattle.bc_word.specs.Words.{number_of, negated}
-use Rattle.bc_rules_defs.specs.Rules.{Derives, v0, v1, v2, v3, v4, v6, v7, v8, v9, v10, v11, v12, v13, v14, v15, v16, v17, v18, v19, v20, v21, v22, v22_valof, j1, j2, j3, j4, j5, j6, j7, j8, j9, DerivesAll, no_more, one_more, RootDerives, value, test, a1, a2, a3}
-use Rattle.bc_rules_defs.specs.Code.{code, all_code, root_code, labels, all_labels}
+use Rattle.bc_rules_defs.specs.Rules.{RootDerives}
+use Rattle.bc_rules_defs.specs.Code.{root_code}
+use Rattle.bc_rules_laws.proofs.Plain.{ArePlain, root_plain as code_of_root_plain}
 use Rattle.bc_gen_defs.specs.Emit.{Exits, jump, execute, zero_item, cases_in, labelled, labels_in, defaulted, entries_in, table_of, emit_variable, emit_variables, emit_declarations, end_of_for, emit, emit_block, emit_items}
 use Rattle.bc_gen_defs.specs.Bodies.{Choice, label_ahead, fill, over, coding_of, body_exits, bodies_from, emit_body}
 use Rattle.bc_gen_defs.specs.Section.{emit_routines}
@@ -46,64 +42,15 @@ PlainPieces [] = Unit {0}
 PlainPieces (pieces.Item i ∷ ps) = Plain (i ∷ []) × PlainPieces ps
 PlainPieces (pieces.Body n ∷ ps) = PlainPieces ps
 
-pieces_both : (ps qs : List Piece) → PlainPieces ps → PlainPieces qs → PlainPieces (ps ++ qs)
-pieces_both [] qs h k = k
-pieces_both (pieces.Item i ∷ ps) qs h k = (h.0, pieces_both ps qs h.1 k)
-pieces_both (pieces.Body n ∷ ps) qs h k = pieces_both ps qs h k
-
-jump_plain : (sense : Bool) (t : ℕ) → PlainPieces (jump_if sense t ∷ [])
-jump_plain true t = (tt, tt)
-jump_plain false t = (tt, tt)
-
-number_plain : (jumps : Bool) (t : ℕ) → PlainPieces (cond jumps (J t ∷ []) [])
-number_plain true t = (tt, tt)
-number_plain false t = tt
-
-mutual
-  code_plain : {T : Table} {e : Exp} {aim : Aim} (d : Derives T e aim) (s t f : ℕ) → PlainPieces (code d s t f)
-  code_plain (v0 d) s t f = code_plain d s t f
-  code_plain (v1 {o = o} h) s t f = (tt, tt)
-  code_plain (v2 d) s t f = pieces_both (code d s t f) (X 1 ∷ []) (code_plain d s t f) (tt, tt)
-  code_plain (v3 d) s t f = pieces_both (code d s t f) (X 2 ∷ []) (code_plain d s t f) (tt, tt)
-  code_plain (v4 d) s t f = pieces_both (code d s t f) (X 3 ∷ []) (code_plain d s t f) (tt, tt)
-  code_plain (v6 {o = o} h a) s t f = pieces_both (code a (s + 1) t f) (A o ∷ []) (code_plain a (s + 1) t f) (tt, tt)
-  code_plain (v7 {o = o} h free b) s t f = pieces_both (code b (s + 1) t f) (A o ∷ []) (code_plain b (s + 1) t f) (tt, tt)
-  code_plain (v8 h c) s t f = code_plain c (s + 1) t f
-  code_plain (v9 {n = n} a) s t f = pieces_both (code a (s + 1) t f) (A_number (negated n) ∷ []) (code_plain a (s + 1) t f) (tt, tt)
-  code_plain (v10 {o = o} h a) s t f = pieces_both (code a (s + 1) t f) (X 2 ∷ A o ∷ X 2 ∷ []) (code_plain a (s + 1) t f) (tt, (tt, (tt, tt)))
-  code_plain (v11 {o = o} h free b) s t f = pieces_both (code b (s + 1) t f) (X 2 ∷ A o ∷ []) (code_plain b (s + 1) t f) (tt, (tt, tt))
-  code_plain (v12 {op = op} a b) s t f = pieces_both (code a (s + 1) t f ++ code b (s + 1) t (f + labels a)) (X (number_of op) ∷ []) (pieces_both (code a (s + 1) t f) (code b (s + 1) t (f + labels a)) (code_plain a (s + 1) t f) (code_plain b (s + 1) t (f + labels a))) (tt, tt)
-  code_plain (v13 {q = q} h free b a) s t f = pieces_both (code b (s + 1) t f ++ code a (s + 1) t (f + labels b)) (X (number_of q) ∷ []) (pieces_both (code b (s + 1) t f) (code a (s + 1) t (f + labels b)) (code_plain b (s + 1) t f) (code_plain a (s + 1) t (f + labels b))) (tt, tt)
-  code_plain (v14 free b a) s t f = pieces_both (code b (s + 1) t f ++ code a (s + 1) t (f + labels b)) (X 9 ∷ X 2 ∷ []) (pieces_both (code b (s + 1) t f) (code a (s + 1) t (f + labels b)) (code_plain b (s + 1) t f) (code_plain a (s + 1) t (f + labels b))) (tt, (tt, tt))
-  code_plain (v15 {q = q} h a b) s t f = pieces_both (code a (s + 1) t f ++ SP s ∷ code b (s + 1) t (f + labels a)) (LIP s ∷ X (number_of q) ∷ []) (pieces_both (code a (s + 1) t f) (SP s ∷ code b (s + 1) t (f + labels a)) (code_plain a (s + 1) t f) (tt, code_plain b (s + 1) t (f + labels a))) (tt, (tt, tt))
-  code_plain (v16 {op = op} free b a) s t f = pieces_both (code b (s + 1) t f ++ SP s ∷ code a (s + 1) t (f + labels b)) (LIP s ∷ X (number_of op) ∷ []) (pieces_both (code b (s + 1) t f) (SP s ∷ code a (s + 1) t (f + labels b)) (code_plain b (s + 1) t f) (tt, code_plain a (s + 1) t (f + labels b))) (tt, (tt, tt))
-  code_plain (v17 {op = op} a b) s t f = pieces_both (code a (s + 1) t f ++ SP s ∷ code b (s + 1) t (f + labels a)) (SP (s + 1) ∷ LIP s ∷ LIP (s + 1) ∷ X (number_of op) ∷ []) (pieces_both (code a (s + 1) t f) (SP s ∷ code b (s + 1) t (f + labels a)) (code_plain a (s + 1) t f) (tt, code_plain b (s + 1) t (f + labels a))) (tt, (tt, (tt, (tt, tt))))
-  code_plain (v18 a b) s t f = pieces_both (code a (s + 1) t f ++ SP s ∷ code b (s + 1) t (f + labels a)) (AIP s ∷ []) (pieces_both (code a (s + 1) t f) (SP s ∷ code b (s + 1) t (f + labels a)) (code_plain a (s + 1) t f) (tt, code_plain b (s + 1) t (f + labels a))) (tt, tt)
-  code_plain (v19 a b) s t f = pieces_both (code a (s + 1) t f ++ SP s ∷ code b (s + 1) t (f + labels a)) (X 2 ∷ AIP s ∷ []) (pieces_both (code a (s + 1) t f) (SP s ∷ code b (s + 1) t (f + labels a)) (code_plain a (s + 1) t f) (tt, code_plain b (s + 1) t (f + labels a))) (tt, (tt, tt))
-  code_plain (v20 c x y) s t f = pieces_both (code c s f (f + 2) ++ code x s t (f + 2 + labels c) ++ J (f + 1) ∷ label_piece f ∷ code y s t (f + 2 + labels c + labels x)) (label_piece (f + 1) ∷ []) (pieces_both (code c s f (f + 2) ++ code x s t (f + 2 + labels c)) (J (f + 1) ∷ label_piece f ∷ code y s t (f + 2 + labels c + labels x)) (pieces_both (code c s f (f + 2)) (code x s t (f + 2 + labels c)) (code_plain c s f (f + 2)) (code_plain x s t (f + 2 + labels c))) (tt, (tt, code_plain y s t (f + 2 + labels c + labels x)))) (tt, tt)
-  code_plain (v21 c y x) s t f = pieces_both (code c s f (f + 2) ++ code y s t (f + 2 + labels c) ++ J (f + 1) ∷ label_piece f ∷ code x s t (f + 2 + labels c + labels y)) (label_piece (f + 1) ∷ []) (pieces_both (code c s f (f + 2) ++ code y s t (f + 2 + labels c)) (J (f + 1) ∷ label_piece f ∷ code x s t (f + 2 + labels c + labels y)) (pieces_both (code c s f (f + 2)) (code y s t (f + 2 + labels c)) (code_plain c s f (f + 2)) (code_plain y s t (f + 2 + labels c))) (tt, (tt, code_plain x s t (f + 2 + labels c + labels y)))) (tt, tt)
-  code_plain (v22 {es = es} ds r) s t f = pieces_both (all_code ds (s + 2) t f ++ code r (s + 2 + count es) t (f + all_labels ds)) (K s ∷ []) (pieces_both (all_code ds (s + 2) t f) (code r (s + 2 + count es) t (f + all_labels ds)) (all_plain ds (s + 2) t f) (code_plain r (s + 2 + count es) t (f + all_labels ds))) (tt, tt)
-  code_plain (v22_valof {n = n}) s t f = (tt, tt)
-  code_plain (j1 d) s t f = code_plain d s t f
-  code_plain (j2 a b) s t f = pieces_both (code a (s + 1) t f) (code b (s + 1) t (f + labels a)) (code_plain a (s + 1) t f) (code_plain b (s + 1) t (f + labels a))
-  code_plain (j3 a b) s t f = pieces_both (code a (s + 1) f (f + 1) ++ code b (s + 1) t (f + 1 + labels a)) (label_piece f ∷ []) (pieces_both (code a (s + 1) f (f + 1)) (code b (s + 1) t (f + 1 + labels a)) (code_plain a (s + 1) f (f + 1)) (code_plain b (s + 1) t (f + 1 + labels a))) (tt, tt)
-  code_plain (j4 a b) s t f = pieces_both (code a (s + 1) t f) (code b (s + 1) t (f + labels a)) (code_plain a (s + 1) t f) (code_plain b (s + 1) t (f + labels a))
-  code_plain (j5 a b) s t f = pieces_both (code a (s + 1) f (f + 1) ++ code b (s + 1) t (f + 1 + labels a)) (label_piece f ∷ []) (pieces_both (code a (s + 1) f (f + 1)) (code b (s + 1) t (f + 1 + labels a)) (code_plain a (s + 1) f (f + 1)) (code_plain b (s + 1) t (f + 1 + labels a))) (tt, tt)
-  code_plain (j6 {sense = sense} h d) s t f = pieces_both (code d s t f) (jump_if sense t ∷ []) (code_plain d s t f) (jump_plain sense t)
-  code_plain (j7 {n = n} {sense = sense}) s t f = number_plain (jumps_at sense n) t
-  code_plain (j8 {sense = sense} h k c) s t f = pieces_both (code c (s + 1) t f) (jump_if (not sense) t ∷ []) (code_plain c (s + 1) t f) (jump_plain (not sense) t)
-  code_plain (j9 {sense = sense} h k c) s t f = pieces_both (code c (s + 1) t f) (jump_if sense t ∷ []) (code_plain c (s + 1) t f) (jump_plain sense t)
-
-  all_plain : {T : Table} {es : Args} (ds : DerivesAll T es) (s t f : ℕ) → PlainPieces (all_code ds s t f)
-  all_plain no_more s t f = tt
-  all_plain (one_more d ds) s t f = pieces_both (code d s t f) (SP s ∷ all_code ds (s + 1) t (f + labels d)) (code_plain d s t f) (tt, all_plain ds (s + 1) t (f + labels d))
+are_so : (ps : List Piece) → ArePlain ps → PlainPieces ps
+are_so [] h = tt
+are_so (pieces.Item (Operation f i b n) ∷ ps) h = (tt, are_so ps h.1)
+are_so (pieces.Item (Label n) ∷ ps) h = (tt, are_so ps h.1)
+are_so (pieces.Item i ∷ ps) h = absurd h.0
+are_so (pieces.Body n ∷ ps) h = are_so ps h.1
 
 root_plain : {T : Table} {r : Root} (d : RootDerives T r) (t f : ℕ) → PlainPieces (root_code d t f)
-root_plain (value {s = s} d) t f = code_plain d s t f
-root_plain (test {s = s} d) t f = code_plain d s t f
-root_plain (a1 {s = s} {o = o} h v) t f = pieces_both (code v s t f) (S o ∷ []) (code_plain v s t f) (tt, tt)
-root_plain (a2 {s = s} h free a v) t f = pieces_both (code a (s + 1) t f ++ SP s ∷ code v (s + 1) t (f + labels a)) (SIP s ∷ []) (pieces_both (code a (s + 1) t f) (SP s ∷ code v (s + 1) t (f + labels a)) (code_plain a (s + 1) t f) (tt, code_plain v (s + 1) t (f + labels a))) (tt, tt)
-root_plain (a3 {s = s} h v a) t f = pieces_both (code v (s + 1) t f ++ SP s ∷ code a (s + 1) t (f + labels v)) (SP (s + 1) ∷ LIP s ∷ SIP (s + 1) ∷ []) (pieces_both (code v (s + 1) t f) (SP s ∷ code a (s + 1) t (f + labels v)) (code_plain v (s + 1) t f) (tt, code_plain a (s + 1) t (f + labels v))) (tt, (tt, (tt, tt)))
+root_plain d t f = are_so (root_code d t f) (code_of_root_plain d t f)
 
 -- and so with the bodies of VALOFs filled in
 filled_plain : (levels : ℕ → ℕ) (bodies : BodiesCode) → ((n s l f : ℕ) → Plain (bodies n s l f).0) → (ps : List Piece) (g : ℕ) → PlainPieces ps → Plain (fill (λ i. i) levels bodies ps g).0

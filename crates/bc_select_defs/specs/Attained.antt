@@ -1,5 +1,5 @@
 -- For proofs: each choice is the words and the rule of a derivation, whose parts are the choices' own.
-use Rattle.std.proofs.Common.{◌≡◌, ℕ, ◌+◌, ◌*◌, ◌==◌, ◌≤◌, List, [], ◌∷◌, Bool, true, false, not, Option, Some, None, IsTrue, cond, refl, ap, sym, subst, ◌∙◌, arith}
+use Rattle.std.proofs.Common.{◌≡◌, ℕ, ◌+◌, ◌*◌, ◌==◌, ◌≤◌, List, [], ◌∷◌, ◌++◌, Bool, true, false, not, Option, Some, None, IsTrue, cond, refl, ap, sym, subst, ◌∙◌, arith}
 use Rattle.std.specs.Prelude.{is_some}
 use Rattle.std.proofs.lemmas.Bool.{cond-true, cond-false, eqb-true}
 use Rattle.bc_word.specs.declared.operator.Op.{Op}
@@ -19,13 +19,16 @@ use Rattle.bc_rules_defs.specs.declared.rule.Aim.TheVariants.{Gets, Jumps}
 use Rattle.bc_rules_defs.specs.declared.rule.Rule.{Rule}
 use Rattle.bc_rules_defs.specs.declared.rule.Rule.TheVariants as rule
 use Rattle.bc_rules_defs.specs.Rules.{Derives, v0, v1, v2, v3, v4, v6, v7, v8, v9, v10, v11, v12, v13, v14, v15, v16, v17, v18, v19, v20, v21, v22, v22_valof, j1, j2, j3, j4, j5, j6, j7, j8, j9, DerivesAll, no_more, one_more, Tree, Trees, by, no_part, part, one, two, three, end_with, shape, shapes}
-use Rattle.bc_rules_defs.specs.Code.{cost, all_cost}
-use Rattle.bc_rules_defs.specs.Free.{are_free, is_plain, is_zero, beside_zero, without_zero, is_plain_operator}
-use Rattle.bc_rules_defs.specs.Piece.{w, operand_words}
+use Rattle.bc_rules_defs.specs.Code.{labels, cost, all_cost}
+use Rattle.bc_rules_laws.specs.Layers.{Layer, argument_layers}
+use Rattle.bc_rules_laws.specs.Layers as layer
+use Rattle.bc_rules_defs.specs.Free.{are_free, is_plain, is_zero, beside_zero, without_zero, is_plain_operator, jumps_at}
+use Rattle.bc_rules_defs.specs.Piece.{w, operand_words, J}
 use Rattle.bc_select_defs.specs.declared.choice.Choice.{Choice}
 use Rattle.bc_select_defs.specs.declared.choice.Choices.{Choices}
 use Rattle.bc_select_defs.specs.declared.choice.Candidate.{Candidate}
-use Rattle.bc_select_defs.specs.Least.{top, first_rule, IsLeast, HasLeastParts, HaveLeastParts}
+use Rattle.bc_select_defs.specs.Least.{top, first_rule, IsLeast, HasLeastParts, AreLeastParts, none}
+use Rattle.bc_select_defs.specs.Least as least
 use Rattle.bc_rules_defs.specs.Names.{rule_number}
 use Rattle.bc_rules_defs.specs.Takes.{beside}
 use Rattle.bc_select_defs.specs.Options.{plus, more, sum, only, operand_cost, words_of, candidate, least_from}
@@ -48,6 +51,10 @@ pub record IsPart {T : Table} {e : Exp} {aim : Aim} (s : ℕ) (t : Tree) (d : De
 
 pub least_parts : {T : Table} {e : Exp} {aim : Aim} {s : ℕ} {t : Tree} {d : Derives T e aim} → IsPart s t d → IsLeast d s × HasLeastParts d s
 least_parts h = (h.least, h.parts)
+
+pub least_part : {T : Table} {e : Exp} {aim : Aim} {d : Derives T e aim} {s t f : ℕ} {ls : List (Layer T)} → IsLeast d s × HasLeastParts d s → AreLeastParts ls
+    → AreLeastParts (layer.part d s t f ∷ ls)
+least_part h i = least.part h.0 h.1 i
 
 abbrev pub Part : Table → Exp → Aim → ℕ → Tree → Option ℕ → Type 0
 Part T e aim s t x = Makes (Derives T e aim) (λ d. cost d s) (λ d. IsPart s t d) x
@@ -113,14 +120,14 @@ attains_line :
     → Attains T e s (line (operand_of e) pushes values tests) (read_line (line (operand_of e) pushes values tests) own)
 attains_line T e s pushes values tests own low hp hv ht =
     let by_operand : Whole T e (Gets Push) s (by rule.V1 no_part) (operand_cost (operand_of e)) =
-    makes_map _ _ _ _ _ _ _ (λ q. v1 q.1) (λ q. refl) (λ q h. record { shape_is = refl; parts = tt }) (makes_operand (operand_of e)) in
+    makes_map _ _ _ _ _ _ _ (λ q. v1 q.1) (λ q. refl) (λ q h. record { shape_is = refl; parts = least.own none }) (makes_operand (operand_of e)) in
     let push = part_of T e (Gets Push) s (push_parts (own (Gets Push))) (candidate rule.V1 (operand_cost (operand_of e)) ∷ pushes) (by_operand, hp)
     (low (Gets Push)) in
     let c = line (operand_of e) pushes values tests in
     let r = read_line c own in
     let by_push : Whole T e (Gets Any) s (by rule.V0 (one r.push)) (words_of c.push) =
     makes_map _ _ _ _ _ _ _ (λ d. v0 d) (λ d. refl)
-    (λ d h. record { shape_is = ap (λ y. by rule.V0 (one y)) h.shape_is; parts = least_parts h }) push in
+    (λ d h. record { shape_is = ap (λ y. by rule.V0 (one y)) h.shape_is; parts = least_part (least_parts h) none }) push in
     let any = part_of T e (Gets Any) s (value_parts r.push (own (Gets Any))) (candidate rule.V0 (words_of c.push) ∷ values) (by_push, hv r.push)
     (low (Gets Any)) in
     record {
@@ -136,7 +143,8 @@ attains_line T e s pushes values tests own low hp hv ht =
 test_of_value : (T : Table) (e : Exp) (s : ℕ) (any : Option ℕ) (t : Tree) (sense : Bool) → IsTrue (is_plain e) → Part T e (Gets Any) s t any
     → Whole T e (Jumps sense) s (by rule.J6 (one t)) (plus any 2)
 test_of_value T e s any t sense p h =
-    makes_map _ _ _ _ _ _ _ (λ d. j6 p d) (λ d. refl) (λ d i. record { shape_is = ap (λ y. by rule.J6 (one y)) i.shape_is; parts = least_parts i })
+    makes_map _ _ _ _ _ _ _ (λ d. j6 p d) (λ d. refl)
+    (λ d i. record { shape_is = ap (λ y. by rule.J6 (one y)) i.shape_is; parts = least_part (least_parts i) (least.own none) })
     (makes_plus _ _ _ any 2 h)
 
 -- one part, with a word more
@@ -225,7 +233,7 @@ of_beside T a b aim s ra rb x y ha hb = makes_beside T (beside_zero a b) a b aim
 by_v8 : (T : Table) (op : Op) (a b : Exp) (m : Mode) (s : ℕ) (t : Tree) (x : Option ℕ) → Makes (Beside T (without_zero op a b) (Gets m))
     (λ q. cost q.derivation (s + 1)) (λ q. IsPart (s + 1) t q.derivation) x → Whole T (Bin op a b) (Gets m) s (by rule.V8 (one t)) x
 by_v8 T op a b m s t x h = makes_map _ _ _ _ _ _ _ (λ q. v8 q.is q.derivation) (λ q. refl)
-    (λ q i. record { shape_is = ap (λ y. by rule.V8 (one y)) i.shape_is; parts = least_parts i }) h
+    (λ q i. record { shape_is = ap (λ y. by rule.V8 (one y)) i.shape_is; parts = least_part (least_parts i) none }) h
 
 without_0 : (T : Table) (op : Op) (a b : Exp) (m : Mode) (s : ℕ) (ca cb : Choices) (ra rb : Readings) (x y : Option ℕ)
     → Part T a (Gets m) (s + 1) (tree_for (Gets m) ra) x → Part T b (Gets m) (s + 1) (tree_for (Gets m) rb) y
@@ -279,22 +287,22 @@ with_operand_more T e m s k p x t h = makes_sum _ _ _ _ _ _ x (more k (operand_c
 by_v6 : (T : Table) (a b : Exp) (m : Mode) (s : ℕ) (x : Option ℕ) (t : Tree) → Part T a (Gets m) (s + 1) t x
     → Whole T (Bin operators.Add a b) (Gets m) s (by rule.V6 (one t)) (sum x (operand_cost (operand_of b)))
 by_v6 T a b m s x t h = beside_operand T a (Bin operators.Add a b) m s (operand_of b) rule.V6 x _ t _ (λ q. v6 q.1.1 q.0) (λ q. refl) (λ q. refl)
-    (λ q i. i) (with_operand T a m s (operand_of b) x t h)
+    (λ q i. least_part i (least.own none)) (with_operand T a m s (operand_of b) x t h)
 
 by_v7 : (T : Table) (a b : Exp) (m : Mode) (s : ℕ) (x : Option ℕ) (t : Tree) → IsTrue (are_free a b) → Part T b (Gets m) (s + 1) t x
     → Whole T (Bin operators.Add a b) (Gets m) s (by rule.V7 (one t)) (sum x (operand_cost (operand_of a)))
 by_v7 T a b m s x t free h = beside_operand T b (Bin operators.Add a b) m s (operand_of a) rule.V7 x _ t _ (λ q. v7 q.1.1 free q.0) (λ q. refl) (λ q. refl)
-    (λ q i. i) (with_operand T b m s (operand_of a) x t h)
+    (λ q i. least_part i (least.own none)) (with_operand T b m s (operand_of a) x t h)
 
 by_v10 : (T : Table) (a b : Exp) (m : Mode) (s : ℕ) (x : Option ℕ) (t : Tree) → Part T a (Gets m) (s + 1) t x
     → Whole T (Bin operators.Subtract a b) (Gets m) s (by rule.V10 (one t)) (sum x (more 2 (operand_cost (operand_of b))))
 by_v10 T a b m s x t h = beside_operand T a (Bin operators.Subtract a b) m s (operand_of b) rule.V10 x _ t _ (λ q. v10 q.1.1 q.0) (λ q. refl) (λ q. refl)
-    (λ q i. i) (with_operand_more T a m s 2 (operand_of b) x t h)
+    (λ q i. least_part i (least.own (least.own (least.own none)))) (with_operand_more T a m s 2 (operand_of b) x t h)
 
 by_v11 : (T : Table) (a b : Exp) (m : Mode) (s : ℕ) (x : Option ℕ) (t : Tree) → IsTrue (are_free a b) → Part T b (Gets m) (s + 1) t x
     → Whole T (Bin operators.Subtract a b) (Gets m) s (by rule.V11 (one t)) (sum x (more 1 (operand_cost (operand_of a))))
 by_v11 T a b m s x t free h = beside_operand T b (Bin operators.Subtract a b) m s (operand_of a) rule.V11 x _ t _ (λ q. v11 q.1.1 free q.0) (λ q. refl)
-    (λ q. refl) (λ q i. i) (with_operand_more T b m s 1 (operand_of a) x t h)
+    (λ q. refl) (λ q i. least_part i (least.own (least.own none))) (with_operand_more T b m s 1 (operand_of a) x t h)
 
 -- a - n: the second operand is the number
 abbrev pub NumberOf : Exp → Type 0
@@ -325,7 +333,7 @@ lessened T a b m s t n d e =
     subst P (sym e) (record {
       derivation = v9 d;
       words = refl;
-      whole = λ i. record { shape_is = ap (λ y. by rule.V9 (one y)) i.shape_is; parts = least_parts i };
+      whole = λ i. record { shape_is = ap (λ y. by rule.V9 (one y)) i.shape_is; parts = least_part (least_parts i) (least.own none) };
     })
 
 by_v9 : (T : Table) (a b : Exp) (m : Mode) (s : ℕ) (x : Option ℕ) (t : Tree) → Part T a (Gets m) (s + 1) t x
@@ -393,31 +401,34 @@ worked_attained T op a b s ca cb ra rb ha hb =
     let first = λ (k : ℕ). both_parts T a b (Gets Any) (Gets Any) (s + 1) ra.any rb.any k (words_of ca.any) (words_of cb.any) ha.any hb.any in
     let second = λ (k : ℕ). both_parts T b a (Gets Any) (Gets Any) (s + 1) rb.any ra.any k (words_of cb.any) (words_of ca.any) hb.any ha.any in
     let pushed = λ (k : ℕ). both_parts T b a (Gets Any) (Gets Push) (s + 1) rb.any ra.push k (words_of cb.any) (words_of ca.push) hb.any ha.push in (
-      of_both T a b e _ _ _ s (s + 1) _ _ 1 rule.V12 _ (λ q. v12 q.0 q.1) (λ q. refl) (λ q. refl) (λ q i. i)
+      of_both T a b e _ _ _ s (s + 1) _ _ 1 rule.V12 _ (λ q. v12 q.0 q.1) (λ q. refl) (λ q. refl) (λ q i. least_part i.0 (least_part i.1 (least.own none)))
           (both_parts T a b (Gets Any) (Gets Push) (s + 1) ra.any rb.push 1 (words_of ca.any) (words_of cb.push) ha.any hb.push),
       (
         makes_given _ _ _ (is_some (mirror_of op)) _ (λ m. let q = some_operator (mirror_of op) m in
             makes_given _ _ _ (are_free a b) _ (λ free. of_both T b a e _ _ _ s (s + 1) _ _ 1 rule.V13 _ (λ p. v13 q.1 free p.0 p.1) (λ p. refl)
-            (λ p. refl) (λ p i. i) (pushed 1))),
+            (λ p. refl) (λ p i. least_part i.0 (least_part i.1 (least.own none))) (pushed 1))),
         (
           makes_only T op operators.Subtract a b (Gets Any) s _ _
               (makes_given _ _ _ (are_free a b) _ (λ free. of_both T b a (Bin operators.Subtract a b) _ _ _ s (s + 1) _ _ 2 rule.V14 _
-              (λ p. v14 free p.0 p.1) (λ p. refl) (λ p. refl) (λ p i. i) (pushed 2))),
+              (λ p. v14 free p.0 p.1) (λ p. refl) (λ p. refl) (λ p i. least_part i.0 (least_part i.1 (least.own (least.own none)))) (pushed 2))),
           (
             makes_given _ _ _ (is_some (mirror_of op)) _ (λ m. let q = some_operator (mirror_of op) m in
-                of_both T a b e _ _ _ s (s + 1) _ _ held rule.V15 _ (λ p. v15 q.1 p.0 p.1) (λ p. refl) (λ p. refl) (λ p i. i) (first held)),
+                of_both T a b e _ _ _ s (s + 1) _ _ held rule.V15 _ (λ p. v15 q.1 p.0 p.1) (λ p. refl) (λ p. refl)
+                (λ p i. least_part i.0 (least.own (least_part i.1 (least.own (least.own none))))) (first held)),
             (
               makes_given _ _ _ (are_free a b) _ (λ free. of_both T b a e _ _ _ s (s + 1) _ _ held rule.V16 _ (λ p. v16 free p.0 p.1) (λ p. refl)
-                  (λ p. refl) (λ p i. i) (second held)),
+                  (λ p. refl) (λ p i. least_part i.0 (least.own (least_part i.1 (least.own (least.own none))))) (second held)),
               (
-                of_both T a b e _ _ _ s (s + 1) _ _ (held + 2 * w (s + 1)) rule.V17 _ (λ p. v17 p.0 p.1) (λ p. refl) (λ p. refl) (λ p i. i)
+                of_both T a b e _ _ _ s (s + 1) _ _ (held + 2 * w (s + 1)) rule.V17 _ (λ p. v17 p.0 p.1) (λ p. refl) (λ p. refl)
+                    (λ p i. least_part i.0 (least.own (least_part i.1 (least.own (least.own (least.own (least.own none)))))))
                     (first (held + 2 * w (s + 1))),
                 (
                   makes_only T op operators.Add a b (Gets Any) s _ _ (of_both T a b (Bin operators.Add a b) _ _ _ s (s + 1) _ _ (2 * w s) rule.V18 _
-                      (λ p. v18 p.0 p.1) (λ p. refl) (λ p. refl) (λ p i. i) (first (2 * w s))),
+                      (λ p. v18 p.0 p.1) (λ p. refl) (λ p. refl) (λ p i. least_part i.0 (least.own (least_part i.1 (least.own none)))) (first (2 * w s))),
                   (
                     makes_only T op operators.Subtract a b (Gets Any) s _ _ (of_both T a b (Bin operators.Subtract a b) _ _ _ s (s + 1) _ _ held rule.V19 _
-                        (λ p. v19 p.0 p.1) (λ p. refl) (λ p. refl) (λ p i. i) (first held)),
+                        (λ p. v19 p.0 p.1) (λ p. refl) (λ p. refl)
+                        (λ p i. least_part i.0 (least.own (least_part i.1 (least.own (least.own none))))) (first held)),
                     tt,
                   ),
                 ),
@@ -465,23 +476,23 @@ tests_attained T op a b s ca cb ra rb ha hb any t h false =
     let zero = of_beside T a b (Gets Any) (s + 1) ra rb (words_of ca.any) (words_of cb.any) ha.any hb.any in (
       makes_only T op operators.And a b (Jumps false) s _ _
           (test_of_both T a b (Bin operators.And a b) (Jumps false) (Jumps false) (Jumps false) s _ _ rule.J2 _ _ (λ q. j2 q.0 q.1) (λ q. refl) (λ q. refl)
-          (λ q i. i) ha.on_false hb.on_false),
+          (λ q i. least_part i.0 (least_part i.1 none)) ha.on_false hb.on_false),
       (
         makes_only T op operators.Or a b (Jumps false) s _ _
             (test_of_both T a b (Bin operators.Or a b) (Jumps true) (Jumps false) (Jumps false) s _ _ rule.J5 _ _ (λ q. j5 q.0 q.1) (λ q. refl) (λ q. refl)
-            (λ q i. i) ha.on_true hb.on_false),
+            (λ q i. least_part i.0 (least_part i.1 (least.own none))) ha.on_true hb.on_false),
         (
           makes_given _ _ _ (is_plain_operator op) _ (λ p. test_of_value T (Bin op a b) s any t false p h),
           (
             makes_given _ _ _ (has_tests_of_zero T) _
                 (λ k. makes_only T op operators.Equal a b (Jumps false) s _ _
                 (test_of_zero T a b (Bin operators.Equal a b) (Jumps false) s _ _ rule.J8 _ taken (λ q. j8 (table_two T k) q.is q.derivation) (λ q. refl)
-                (λ q. refl) (λ q i. i) zero)),
+                (λ q. refl) (λ q i. least_part i (least.own none)) zero)),
             (
               makes_given _ _ _ (has_tests_of_zero T) _
                   (λ k. makes_only T op operators.NotEqual a b (Jumps false) s _ _
                   (test_of_zero T a b (Bin operators.NotEqual a b) (Jumps false) s _ _ rule.J9 _ taken (λ q. j9 (table_two T k) q.is q.derivation) (λ q. refl)
-                  (λ q. refl) (λ q i. i) zero)),
+                  (λ q. refl) (λ q i. least_part i (least.own none)) zero)),
               tt,
             ),
           ),
@@ -493,23 +504,23 @@ tests_attained T op a b s ca cb ra rb ha hb any t h true =
     let zero = of_beside T a b (Gets Any) (s + 1) ra rb (words_of ca.any) (words_of cb.any) ha.any hb.any in (
       makes_only T op operators.And a b (Jumps true) s _ _
           (test_of_both T a b (Bin operators.And a b) (Jumps false) (Jumps true) (Jumps true) s _ _ rule.J3 _ _ (λ q. j3 q.0 q.1) (λ q. refl) (λ q. refl)
-          (λ q i. i) ha.on_false hb.on_true),
+          (λ q i. least_part i.0 (least_part i.1 (least.own none))) ha.on_false hb.on_true),
       (
         makes_only T op operators.Or a b (Jumps true) s _ _
             (test_of_both T a b (Bin operators.Or a b) (Jumps true) (Jumps true) (Jumps true) s _ _ rule.J4 _ _ (λ q. j4 q.0 q.1) (λ q. refl) (λ q. refl)
-            (λ q i. i) ha.on_true hb.on_true),
+            (λ q i. least_part i.0 (least_part i.1 none)) ha.on_true hb.on_true),
         (
           makes_given _ _ _ (is_plain_operator op) _ (λ p. test_of_value T (Bin op a b) s any t true p h),
           (
             makes_given _ _ _ (has_tests_of_zero T) _
                 (λ k. makes_only T op operators.Equal a b (Jumps true) s _ _
                 (test_of_zero T a b (Bin operators.Equal a b) (Jumps true) s _ _ rule.J8 _ taken (λ q. j8 (table_two T k) q.is q.derivation) (λ q. refl)
-                (λ q. refl) (λ q i. i) zero)),
+                (λ q. refl) (λ q i. least_part i (least.own none)) zero)),
             (
               makes_given _ _ _ (has_tests_of_zero T) _
                   (λ k. makes_only T op operators.NotEqual a b (Jumps true) s _ _
                   (test_of_zero T a b (Bin operators.NotEqual a b) (Jumps true) s _ _ rule.J9 _ taken (λ q. j9 (table_two T k) q.is q.derivation) (λ q. refl)
-                  (λ q. refl) (λ q i. i) zero)),
+                  (λ q. refl) (λ q i. least_part i (least.own none)) zero)),
               tt,
             ),
           ),
@@ -520,7 +531,7 @@ tests_attained T op a b s ca cb ra rb ha hb any t h true =
 -- the arguments of a call
 pub record AreParts {T : Table} {es : Args} (s : ℕ) (ts : Trees) (ds : DerivesAll T es) : Type 0 where
   pub shapes_are : shapes ds ≡ ts
-  pub parts : HaveLeastParts ds s
+  pub parts : (t f : ℕ) (ls : List (Layer T)) → AreLeastParts ls → AreLeastParts (argument_layers ds s t f ++ ls)
 
 abbrev pub AllParts : Table → Args → ℕ → Trees → Option ℕ → Type 0
 AllParts T es s ts x = Makes (DerivesAll T es) (λ ds. all_cost ds s) (λ ds. AreParts s ts ds) x
@@ -529,7 +540,10 @@ one_argument : (T : Table) (e : Exp) (es : Args) (s : ℕ) (t : Tree) (ts : Tree
     → AllParts T (argument e es) s (part t ts) (sum (plus x (w s)) y)
 one_argument T e es s t ts x y h i =
     makes_map _ _ _ _ _ _ _ (λ q. one_more q.0 q.1) (λ q. refl)
-    (λ q j. record { shapes_are = ap (λ z. part z (shapes q.1)) j.0.shape_is ∙ ap (part t) j.1.shapes_are; parts = (least_parts j.0, j.1.parts) })
+    (λ q j. record {
+      shapes_are = ap (λ z. part z (shapes q.1)) j.0.shape_is ∙ ap (part t) j.1.shapes_are;
+      parts = λ t f ls h. least_part (least_parts j.0) (least.own (j.1.parts t (f + labels q.0) ls h));
+    })
     (makes_sum _ _ _ _ _ _ (plus x (w s)) y (makes_plus _ _ _ x (w s) h) i)
 
 by_v22 : (T : Table) (es : Args) (f : Exp) (s : ℕ) (ts : Trees) (u : Tree) (x y : Option ℕ) → AllParts T es (s + 2) ts x
@@ -538,7 +552,7 @@ by_v22 T es f s ts u x y h i =
     makes_map _ _ _ _ _ _ _ (λ q. v22 q.0 q.1) (λ q. refl)
     (λ q j. record {
       shape_is = ap (λ z. by rule.V22 (end_with z (shape q.1))) j.0.shapes_are ∙ ap (λ z. by rule.V22 (end_with ts z)) j.1.shape_is;
-      parts = (j.0.parts, least_parts j.1);
+      parts = j.0.parts 0 0 _ (least_part (least_parts j.1) (least.own none));
     })
     (makes_plus _ _ _ (sum x y) (w s) (makes_sum _ _ _ _ _ _ x y h i))
 
@@ -549,8 +563,7 @@ by_v20 T c x y s t u v k m n hc hx hy =
     (λ q i. record {
       shape_is = ap (λ z. by rule.V20 (three z (shape q.0.1) (shape q.1))) i.0.0.shape_is
           ∙ ap (λ z. by rule.V20 (three t z (shape q.1))) i.0.1.shape_is ∙ ap (λ z. by rule.V20 (three t u z)) i.1.shape_is;
-      parts =
-          (least_parts i.0.0, least_parts i.0.1, least_parts i.1);
+      parts = least_part (least_parts i.0.0) (least_part (least_parts i.0.1) (least.own (least.own (least_part (least_parts i.1) (least.own none)))));
     })
     (makes_plus _ _ _ (sum (sum k m) n) 2 (makes_sum _ _ _ _ _ _ (sum k m) n (makes_sum _ _ _ _ _ _ k m hc hx) hy))
 
@@ -561,8 +574,7 @@ by_v21 T c x y s t u v k m n hc hy hx =
     (λ q i. record {
       shape_is = ap (λ z. by rule.V21 (three z (shape q.0.1) (shape q.1))) i.0.0.shape_is
           ∙ ap (λ z. by rule.V21 (three t z (shape q.1))) i.0.1.shape_is ∙ ap (λ z. by rule.V21 (three t u z)) i.1.shape_is;
-      parts =
-          (least_parts i.0.0, least_parts i.0.1, least_parts i.1);
+      parts = least_part (least_parts i.0.0) (least_part (least_parts i.0.1) (least.own (least.own (least_part (least_parts i.1) (least.own none)))));
     })
     (makes_plus _ _ _ (sum (sum k m) n) 2 (makes_sum _ _ _ _ _ _ (sum k m) n (makes_sum _ _ _ _ _ _ k m hc hy) hx))
 
@@ -573,16 +585,20 @@ Tests T e s tests own = (any : Option ℕ) (t : Tree) → Part T e (Gets Any) s 
 value_tests : (T : Table) (e : Exp) (s : ℕ) (own : Aim → Rule → Trees) → IsTrue (is_plain e) → Tests T e s by_value own
 value_tests T e s own p any t h sense = (test_of_value T e s any t sense p h, tt)
 
+number_layers : (T : Table) (b : Bool) → AreLeastParts (cond b (layer.own {T = T} (J 0) ∷ []) [])
+number_layers T true = least.own none
+number_layers T false = none
+
 number_tests_attained : (T : Table) (n s : ℕ) → Tests T (Num n) s (number_tests n) leaf_parts
 number_tests_attained T n s any t h sense =
-    (test_of_value T (Num n) s any t sense refl h, (makes_some _ _ _ j7 _ refl (record { shape_is = refl; parts = tt }), tt))
+    (test_of_value T (Num n) s any t sense refl h, (makes_some _ _ _ j7 _ refl (record { shape_is = refl; parts = number_layers T (jumps_at sense n) }), tt))
 
 turned_part : {T : Table} {e : Exp} {s : ℕ} {c : Choices} {r : Readings} → Attains T e s c r → (sense : Bool)
     → Whole T (Not e) (Jumps sense) s (by rule.J1 (one (tree_for (Jumps (not sense)) r))) (words_for (Jumps (not sense)) c)
 turned_part h true = makes_map _ _ _ _ _ _ _ (λ d. j1 {sense = true} d) (λ d. refl)
-    (λ d i. record { shape_is = ap (λ y. by rule.J1 (one y)) i.shape_is; parts = least_parts i }) h.on_false
+    (λ d i. record { shape_is = ap (λ y. by rule.J1 (one y)) i.shape_is; parts = least_part (least_parts i) none }) h.on_false
 turned_part h false = makes_map _ _ _ _ _ _ _ (λ d. j1 {sense = false} d) (λ d. refl)
-    (λ d i. record { shape_is = ap (λ y. by rule.J1 (one y)) i.shape_is; parts = least_parts i }) h.on_true
+    (λ d i. record { shape_is = ap (λ y. by rule.J1 (one y)) i.shape_is; parts = least_part (least_parts i) none }) h.on_true
 
 low_of : (T : Table) (e : Exp) (s : ℕ) → Low T e s (choices T e s)
 low_of T e s aim d = lower d s
@@ -597,20 +613,20 @@ mutual
   attained T (Load e) s =
       let h = attained T e s in
       attains_line T (Load e) s _ _ by_value (part_parts (readings T e s)) (low_of T (Load e) s)
-      (unary_push T e (Load e) Push s rule.V2 _ _ (λ d. v2 d) (λ d. refl) (λ d. refl) (λ d i. i) h.push, tt)
-      (λ t. (unary_push T e (Load e) Any s rule.V2 _ _ (λ d. v2 d) (λ d. refl) (λ d. refl) (λ d i. i) h.any, tt))
+      (unary_push T e (Load e) Push s rule.V2 _ _ (λ d. v2 d) (λ d. refl) (λ d. refl) (λ d i. least_part i (least.own none)) h.push, tt)
+      (λ t. (unary_push T e (Load e) Any s rule.V2 _ _ (λ d. v2 d) (λ d. refl) (λ d. refl) (λ d i. least_part i (least.own none)) h.any, tt))
       (value_tests T (Load e) s (part_parts (readings T e s)) refl)
   attained T (Neg e) s =
       let h = attained T e s in
       attains_line T (Neg e) s _ _ by_value (part_parts (readings T e s)) (low_of T (Neg e) s)
-      (unary_push T e (Neg e) Push s rule.V3 _ _ (λ d. v3 d) (λ d. refl) (λ d. refl) (λ d i. i) h.push, tt)
-      (λ t. (unary_push T e (Neg e) Any s rule.V3 _ _ (λ d. v3 d) (λ d. refl) (λ d. refl) (λ d i. i) h.any, tt))
+      (unary_push T e (Neg e) Push s rule.V3 _ _ (λ d. v3 d) (λ d. refl) (λ d. refl) (λ d i. least_part i (least.own none)) h.push, tt)
+      (λ t. (unary_push T e (Neg e) Any s rule.V3 _ _ (λ d. v3 d) (λ d. refl) (λ d. refl) (λ d i. least_part i (least.own none)) h.any, tt))
       (value_tests T (Neg e) s (part_parts (readings T e s)) refl)
   attained T (Not e) s =
       let h = attained T e s in
       attains_line T (Not e) s _ _ (not_tests (choices T e s)) (part_parts (readings T e s)) (low_of T (Not e) s)
-      (unary_push T e (Not e) Push s rule.V4 _ _ (λ d. v4 d) (λ d. refl) (λ d. refl) (λ d i. i) h.push, tt)
-      (λ t. (unary_push T e (Not e) Any s rule.V4 _ _ (λ d. v4 d) (λ d. refl) (λ d. refl) (λ d i. i) h.any, tt))
+      (unary_push T e (Not e) Push s rule.V4 _ _ (λ d. v4 d) (λ d. refl) (λ d. refl) (λ d i. least_part i (least.own none)) h.push, tt)
+      (λ t. (unary_push T e (Not e) Any s rule.V4 _ _ (λ d. v4 d) (λ d. refl) (λ d. refl) (λ d i. least_part i (least.own none)) h.any, tt))
       (λ any t p sense. (turned_part h sense, tt))
   attained T (Bin op a b) s =
       let ha = attained T a (s + 1) in
@@ -644,9 +660,9 @@ mutual
       (value_tests T (Call es f) s own refl)
   attained T (Valof n) s =
       attains_line T (Valof n) s [] _ by_value leaf_parts (low_of T (Valof n) s) tt
-      (λ t. (makes_some _ _ _ v22_valof 0 refl (record { shape_is = refl; parts = tt }), tt))
+      (λ t. (makes_some _ _ _ v22_valof 0 refl (record { shape_is = refl; parts = least.body none }), tt))
       (value_tests T (Valof n) s leaf_parts refl)
 
   pub all_attained : (T : Table) (es : Args) (s : ℕ) → AllParts T es s (readings_of_all T es s) (words_of_all T es s)
-  all_attained T no_argument s = makes_some _ _ _ no_more 0 refl (record { shapes_are = refl; parts = tt })
+  all_attained T no_argument s = makes_some _ _ _ no_more 0 refl (record { shapes_are = refl; parts = λ t f ls h. h })
   all_attained T (argument e es) s = one_argument T e es s _ _ _ _ (attained T e s).any (all_attained T es (s + 1))

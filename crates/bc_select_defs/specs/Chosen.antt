@@ -20,7 +20,8 @@ use Rattle.bc_rules_defs.specs.Rules.{Derives, v0, v1, v2, v3, v4, v17, v20, v22
 use Rattle.bc_rules_defs.specs.Code.{cost, root_cost}
 use Rattle.bc_select_defs.specs.declared.choice.Choice.{Choice}
 use Rattle.bc_select_defs.specs.declared.choice.Asked.{Asked}
-use Rattle.bc_select_defs.specs.Least.{top, first_rule, RootIsLeast, RootHasLeastParts, AreLeastWords}
+use Rattle.bc_select_defs.specs.Least.{top, first_rule, RootIsLeast, RootHasLeastParts, none, AreLeastWords}
+use Rattle.bc_select_defs.specs.Least as least
 use Rattle.bc_rules_defs.specs.Names.{rule_number}
 use Rattle.bc_select_defs.specs.Options.{plus, sum, given, words_of, candidate, least_from}
 use Rattle.bc_select_defs.specs.Choices.{choice_for, words_for, free, choices, node_of}
@@ -28,7 +29,7 @@ use Rattle.bc_select_defs.specs.Folds.{Chooses, AtMost, by_rule, words}
 use Rattle.bc_select_defs.specs.Lower.{both, more_words, by_given, lower}
 use Rattle.bc_select_defs.specs.Readings.{Readings, tree_for, tree_of, two_taken, readings}
 use Rattle.bc_select_defs.specs.Makes.{Made, Makes, makes_none, makes_some, makes_map, makes_plus, makes_sum, makes_given, Chosen, chosen_least}
-use Rattle.bc_select_defs.specs.Attained.{IsPart, Part, least_parts, part_for, attained}
+use Rattle.bc_select_defs.specs.Attained.{IsPart, Part, least_parts, least_part, part_for, attained}
 
 -- the choice of an assignment, from its address's operand
 abbrev pub assign_choice : Option Operand → (value address : Asked) → ℕ → Option Choice
@@ -109,7 +110,8 @@ AssignPart T v a s p = Chosen (RootDerives T (Assign s v a)) (λ d. root_cost d)
 assign_attained : (T : Table) (v a : Exp) (s : ℕ) (p : Option Operand) → operand_of a ≡ p → AssignPart T v a s p
 assign_attained T v a s (Some o) h =
     chosen_least _ _ _ _ (
-      makes_map _ _ _ _ _ _ _ (λ d. a1 h d) (λ d. refl) (λ d i. record { shape_is = ap (λ y. by rule.A1 (one y)) i.shape_is; parts = least_parts i })
+      makes_map _ _ _ _ _ _ _ (λ d. a1 h d) (λ d. refl)
+          (λ d i. record { shape_is = ap (λ y. by rule.A1 (one y)) i.shape_is; parts = least_part (least_parts i) (least.own none) })
           (makes_plus _ _ _ _ (operand_words o) (attained T v s).any),
       tt,
     )
@@ -122,7 +124,7 @@ assign_attained T v a s None h =
           (λ q i. record {
             shape_is = ap (λ y. by rule.A2 (two y (shape q.1))) i.0.shape_is
                 ∙ ap (λ y. by rule.A2 (two (readings T a (s + 1)).any y)) i.1.shape_is;
-            parts = (least_parts i.0, least_parts i.1);
+            parts = least_part (least_parts i.0) (least.own (least_part (least_parts i.1) (least.own none)));
           })
           (makes_plus _ _ _ _ (2 * w s) (makes_sum _ _ _ _ _ _ _ _ ha.any hv.any))),
       (
@@ -130,7 +132,7 @@ assign_attained T v a s None h =
             (λ q i. record {
               shape_is = ap (λ y. by rule.A3 (two y (shape q.1))) i.0.shape_is
                   ∙ ap (λ y. by rule.A3 (two (readings T v (s + 1)).any y)) i.1.shape_is;
-              parts = (least_parts i.0, least_parts i.1);
+              parts = least_part (least_parts i.0) (least.own (least_part (least_parts i.1) (least.own (least.own (least.own none)))));
             })
             (makes_plus _ _ _ _ (2 * w s + 2 * w (s + 1)) (makes_sum _ _ _ _ _ _ _ _ hv.any ha.any)),
         tt,
@@ -142,7 +144,7 @@ root_attained T (Value s e) = makes_map _ _ _ _ _ _ _ (λ d. value d) (λ d. ref
     (λ d i. record {
       shape_is = i.shape_is;
       least = record { fewest = λ other. value_fewest d i other; first = λ other. value_first d i other };
-      parts = i.parts;
+      parts = least_part (least_parts i) none;
     }) (attained T e s).any where
       value_fewest : (d : Derives T e (Gets Any)) → IsPart s (readings T e s).any d → (other : RootDerives T (Value s e)) → cost d s ≤ root_cost other
       value_fewest d i (value other) = i.least.fewest other
@@ -155,7 +157,7 @@ root_attained T (Test s sense e) =
     (λ d i. record {
       shape_is = i.shape_is;
       least = record { fewest = λ other. test_fewest d i other; first = λ other. test_first d i other };
-      parts = i.parts;
+      parts = least_part (least_parts i) none;
     }) (part_for (attained T e s) (Jumps sense)) where
       test_fewest : (d : Derives T e (Jumps sense)) → IsPart s (tree_for (Jumps sense) (readings T e s)) d → (other : RootDerives T (Test s sense e))
           → cost d s ≤ root_cost other

@@ -1,12 +1,15 @@
 -- Derivations of least words, by the relation of the rule table alone.
-use Rattle.std.specs.Prelude.{◌≡◌, ℕ, ◌+◌, ◌≤◌, Option, Some, None}
-use Rattle.bc_core.specs.Tree.{Exp, Args, count, Root}
+use Rattle.std.specs.Prelude.{◌≡◌, ℕ, ◌≤◌, Option, Some, None, List, [], ◌∷◌}
+use Rattle.bc_core.specs.Tree.{Exp, Root}
 use Rattle.bc_rules_defs.specs.declared.rule.Table.{Table}
 use Rattle.bc_rules_defs.specs.declared.rule.Aim.{Aim}
 use Rattle.bc_rules_defs.specs.declared.rule.Rule.{Rule}
 use Rattle.bc_rules_defs.specs.Names.{rule_number}
-use Rattle.bc_rules_defs.specs.Rules.{Derives, v0, v1, v2, v3, v4, v6, v7, v8, v9, v10, v11, v12, v13, v14, v15, v16, v17, v18, v19, v20, v21, v22, v22_valof, j1, j2, j3, j4, j5, j6, j7, j8, j9, DerivesAll, no_more, one_more, RootDerives, value, test, a1, a2, a3, Tree, by, shape, root_shape}
+use Rattle.bc_rules_defs.specs.declared.piece.Piece.{Piece}
+use Rattle.bc_rules_defs.specs.Rules.{Derives, RootDerives, Tree, by, shape, root_shape}
 use Rattle.bc_rules_defs.specs.Code.{cost, root_cost}
+use Rattle.bc_rules_laws.specs.Layers.{Layer, layers, root_layers}
+use Rattle.bc_rules_laws.specs.Layers as layer
 
 -- the rule that a derivation begins with
 abbrev pub top : Tree → Rule
@@ -20,45 +23,17 @@ pub record IsLeast {T : Table} {e : Exp} {aim : Aim} (d : Derives T e aim) (s : 
   pub fewest : (other : Derives T e aim) → cost d s ≤ cost other s
   pub first : (other : Derives T e aim) → cost other s ≤ cost d s → rule_number (first_rule d) ≤ rule_number (first_rule other)
 
--- each part of a derivation is such a one, and so are the parts of the parts
-abbrev mutual
-  pub HasLeastParts : {T : Table} {e : Exp} {aim : Aim} → Derives T e aim → ℕ → Type 0
-  HasLeastParts (v0 d) s = IsLeast d s × HasLeastParts d s
-  HasLeastParts (v1 h) s = Unit {0}
-  HasLeastParts (v2 d) s = IsLeast d s × HasLeastParts d s
-  HasLeastParts (v3 d) s = IsLeast d s × HasLeastParts d s
-  HasLeastParts (v4 d) s = IsLeast d s × HasLeastParts d s
-  HasLeastParts (v6 h d) s = IsLeast d (s + 1) × HasLeastParts d (s + 1)
-  HasLeastParts (v7 h free d) s = IsLeast d (s + 1) × HasLeastParts d (s + 1)
-  HasLeastParts (v8 h d) s = IsLeast d (s + 1) × HasLeastParts d (s + 1)
-  HasLeastParts (v9 d) s = IsLeast d (s + 1) × HasLeastParts d (s + 1)
-  HasLeastParts (v10 h d) s = IsLeast d (s + 1) × HasLeastParts d (s + 1)
-  HasLeastParts (v11 h free d) s = IsLeast d (s + 1) × HasLeastParts d (s + 1)
-  HasLeastParts (v12 a b) s = (IsLeast a (s + 1) × HasLeastParts a (s + 1)) × (IsLeast b (s + 1) × HasLeastParts b (s + 1))
-  HasLeastParts (v13 h free b a) s = (IsLeast b (s + 1) × HasLeastParts b (s + 1)) × (IsLeast a (s + 1) × HasLeastParts a (s + 1))
-  HasLeastParts (v14 free b a) s = (IsLeast b (s + 1) × HasLeastParts b (s + 1)) × (IsLeast a (s + 1) × HasLeastParts a (s + 1))
-  HasLeastParts (v15 h a b) s = (IsLeast a (s + 1) × HasLeastParts a (s + 1)) × (IsLeast b (s + 1) × HasLeastParts b (s + 1))
-  HasLeastParts (v16 free b a) s = (IsLeast b (s + 1) × HasLeastParts b (s + 1)) × (IsLeast a (s + 1) × HasLeastParts a (s + 1))
-  HasLeastParts (v17 a b) s = (IsLeast a (s + 1) × HasLeastParts a (s + 1)) × (IsLeast b (s + 1) × HasLeastParts b (s + 1))
-  HasLeastParts (v18 a b) s = (IsLeast a (s + 1) × HasLeastParts a (s + 1)) × (IsLeast b (s + 1) × HasLeastParts b (s + 1))
-  HasLeastParts (v19 a b) s = (IsLeast a (s + 1) × HasLeastParts a (s + 1)) × (IsLeast b (s + 1) × HasLeastParts b (s + 1))
-  HasLeastParts (v20 c x y) s = (IsLeast c s × HasLeastParts c s) × (IsLeast x s × HasLeastParts x s) × (IsLeast y s × HasLeastParts y s)
-  HasLeastParts (v21 c y x) s = (IsLeast c s × HasLeastParts c s) × (IsLeast y s × HasLeastParts y s) × (IsLeast x s × HasLeastParts x s)
-  HasLeastParts (v22 {es = es} ds f) s = HaveLeastParts ds (s + 2) × (IsLeast f (s + 2 + count es) × HasLeastParts f (s + 2 + count es))
-  HasLeastParts v22_valof s = Unit {0}
-  HasLeastParts (j1 d) s = IsLeast d s × HasLeastParts d s
-  HasLeastParts (j2 a b) s = (IsLeast a (s + 1) × HasLeastParts a (s + 1)) × (IsLeast b (s + 1) × HasLeastParts b (s + 1))
-  HasLeastParts (j3 a b) s = (IsLeast a (s + 1) × HasLeastParts a (s + 1)) × (IsLeast b (s + 1) × HasLeastParts b (s + 1))
-  HasLeastParts (j4 a b) s = (IsLeast a (s + 1) × HasLeastParts a (s + 1)) × (IsLeast b (s + 1) × HasLeastParts b (s + 1))
-  HasLeastParts (j5 a b) s = (IsLeast a (s + 1) × HasLeastParts a (s + 1)) × (IsLeast b (s + 1) × HasLeastParts b (s + 1))
-  HasLeastParts (j6 h d) s = IsLeast d s × HasLeastParts d s
-  HasLeastParts j7 s = Unit {0}
-  HasLeastParts (j8 h k d) s = IsLeast d (s + 1) × HasLeastParts d (s + 1)
-  HasLeastParts (j9 h k d) s = IsLeast d (s + 1) × HasLeastParts d (s + 1)
+-- each part among these layers, at its level, is such a one, and so are the parts of the parts
+pub data AreLeastParts {T : Table} : List (Layer T) → Type 0 where
+  none : AreLeastParts []
+  own : {p : Piece} {ls : List (Layer T)} → AreLeastParts ls → AreLeastParts (layer.own p ∷ ls)
+  body : {n f : ℕ} {ls : List (Layer T)} → AreLeastParts ls → AreLeastParts (layer.body n f ∷ ls)
+  part : {e : Exp} {aim : Aim} {d : Derives T e aim} {s t f : ℕ} {ls : List (Layer T)} → IsLeast d s → AreLeastParts (layers d s 0 0) → AreLeastParts ls
+      → AreLeastParts (layer.part d s t f ∷ ls)
 
-  pub HaveLeastParts : {T : Table} {es : Args} → DerivesAll T es → ℕ → Type 0
-  HaveLeastParts no_more s = Unit {0}
-  HaveLeastParts (one_more d ds) s = (IsLeast d s × HasLeastParts d s) × HaveLeastParts ds (s + 1)
+-- each part of a derivation at a level
+abbrev pub HasLeastParts : {T : Table} {e : Exp} {aim : Aim} → Derives T e aim → ℕ → Type 0
+HasLeastParts d s = AreLeastParts (layers d s 0 0)
 
 -- the same of a root
 pub record RootIsLeast {T : Table} {r : Root} (d : RootDerives T r) : Type 0 where
@@ -66,11 +41,7 @@ pub record RootIsLeast {T : Table} {r : Root} (d : RootDerives T r) : Type 0 whe
   pub first : (other : RootDerives T r) → root_cost other ≤ root_cost d → rule_number (top (root_shape d)) ≤ rule_number (top (root_shape other))
 
 abbrev pub RootHasLeastParts : {T : Table} {r : Root} → RootDerives T r → Type 0
-RootHasLeastParts (value {s = s} d) = HasLeastParts d s
-RootHasLeastParts (test {s = s} d) = HasLeastParts d s
-RootHasLeastParts (a1 {s = s} h v) = IsLeast v s × HasLeastParts v s
-RootHasLeastParts (a2 {s = s} h free a v) = (IsLeast a (s + 1) × HasLeastParts a (s + 1)) × (IsLeast v (s + 1) × HasLeastParts v (s + 1))
-RootHasLeastParts (a3 {s = s} h v a) = (IsLeast v (s + 1) × HasLeastParts v (s + 1)) × (IsLeast a (s + 1) × HasLeastParts a (s + 1))
+RootHasLeastParts d = AreLeastParts (root_layers d 0 0)
 
 -- the least words of the derivations for an aim, if there is a derivation
 abbrev pub AreLeastWords : Table → Exp → Aim → ℕ → Option ℕ → Type 0

@@ -1,0 +1,4 @@
+pub mod Layers
+pub mod Made
+pub mod Bodies
+pub mod Plain
