@@ -1,6 +1,7 @@
 pub mod Argues
 pub mod Arrivals
 pub mod Assigns
+pub mod Conditions
 pub mod Counts
 pub mod Entered
 pub mod Entries
