@@ -1,5 +1,5 @@
 -- Further into an expression than one step leads.
-use Rattle.std.proofs.Common.{◌≡◌, ◌⊎◌, inl, inr, ℕ, ◌+◌, Bool, true, false, ◌||◌, cond, List, [], ◌∷◌, ◌++◌, refl, Option, Some, sym, ap, subst, ◌∙◌}
+use Rattle.std.proofs.Common.{◌≡◌, inl, inr, ℕ, ◌+◌, Bool, true, false, ◌||◌, cond, List, [], ◌∷◌, ◌++◌, refl, Option, Some, sym, ap, subst, ◌∙◌}
 use Rattle.bc_machine_defs.specs.Streams.{Content}
 use Rattle.bc_core.specs.Map.{Placed}
 use Rattle.bc_core.specs.Outcome as outcomes
@@ -12,7 +12,6 @@ use Rattle.bc_interpret_defs.specs.Machine.{step, give, quiet, evaluate, evaluat
 use Rattle.bc_interpret_defs.specs.Quiet as quiet_forms
 use Rattle.bc_interpret_defs.specs.Quiet.{worth, chained}
 use Rattle.bc_interpret_quiet.specs.declared.sight.Cause.{Cause}
-use Rattle.bc_interpret_quiet.specs.declared.worth.Worth.{Worth}
 use Rattle.bc_interpret_quiet.specs.declared.worth.Truth.TheVariants as truths
 use Rattle.bc_interpret_quiet.specs.Causes.{cause_of}
 use Rattle.bc_interpret_quiet.specs.Views.{seen}
@@ -38,7 +37,7 @@ pub came_into : (program : List Placed) (old : State) (E : machine.Spot) (e : Ex
 came_into program old E e s rs p rs1 vs h =
     ran program (machine.Evaluate E e s) rs old p rs1 vs old (stepped_loosely program (machine.Evaluate E e s) rs old p rs1 vs old tt h)
 
-came_exactly : (program : List Placed) (old : State) (E : machine.Spot) (e : Exp) (s : ℕ) (rs : List machine.Rest) (p : Progress) (rs1 : List machine.Rest) (vs : List ℕ) → Came (evaluate E e s rs) old p rs1 vs old → Ran program (evaluating E e s rs) old p rs1 vs old
+pub came_exactly : (program : List Placed) (old : State) (E : machine.Spot) (e : Exp) (s : ℕ) (rs : List machine.Rest) (p : Progress) (rs1 : List machine.Rest) (vs : List ℕ) → Came (evaluate E e s rs) old p rs1 vs old → Ran program (evaluating E e s rs) old p rs1 vs old
 came_exactly program old E e s rs p rs1 vs h =
     ran program (machine.Evaluate E e s) rs old p rs1 vs old (stepped program (machine.Evaluate E e s) rs old p rs1 vs old tt h)
 
@@ -58,9 +57,9 @@ cond_goes program old E c x y b s rs t streams calls plain is e =
     ∙ (ap (λ o. followed o (chosen E x y s rs)) (quiet_truth old E c s streams plain (truths.Is t) is)
     ∙ chosen_goes E x y b s rs t (state_of old streams) e))
 
-past_condition : (program : List Placed) (old : State) (E : machine.Spot) (c x y b : Exp) (s : ℕ) (rs : List machine.Rest) (t : Bool) (p : Progress) (rs1 : List machine.Rest) (vs : List ℕ) → has_call (Cond c x y) ≡ true → has_call c ≡ false → quiet_forms.Is t ≡ (worth (sight old E) c).truth → b ≡ cond t x y
-    → Ran program (evaluating E b s rs) old p rs1 vs old → Ran program (evaluating E (Cond c x y) s rs) old p rs1 vs old
-past_condition program old E c x y b s rs t p rs1 vs calls plain is e h =
+past_condition : (program : List Placed) (old : State) (E : machine.Spot) (c x y b : Exp) (s : ℕ) (rs : List machine.Rest) (t : Bool) (p : Progress) (rs1 : List machine.Rest) (vs : List ℕ) (new : State) → has_call (Cond c x y) ≡ true → has_call c ≡ false → quiet_forms.Is t ≡ (worth (sight old E) c).truth → b ≡ cond t x y
+    → Ran program (evaluating E b s rs) old p rs1 vs new → Ran program (evaluating E (Cond c x y) s rs) old p rs1 vs new
+past_condition program old E c x y b s rs t p rs1 vs new calls plain is e h =
     let from = evaluating E (Cond c x y) s rs in
     let first : Passes program old from (from ∷ []) (evaluating E b s rs) = (refl, tt, λ streams. cond_goes program old E c x y b s rs t streams calls plain is e) in
     record {
@@ -85,20 +84,21 @@ one_calls false false true t h = refl
 one_calls false false false true h = absurd cc
 one_calls false false false false h = absurd cc
 
-pub taken_into : (program : List Placed) (old : State) (E : machine.Spot) (c x y b : Exp) (s : ℕ) (t : Bool) (p : Progress) (before after : List Rest) → has_call c ≡ false → quiet_forms.Is t ≡ (worth (sight old E) c).truth → b ≡ cond t x y
-    → Entered program E b s before old p after → Ran program (evaluating E (Cond c x y) s (stack before)) old p (stack after) (given after) old
-taken_into program old E c x y b s t p before after plain is e (inl (w, quiet_b, worth_b, is_p, same)) =
+pub taken_into : (program : List Placed) (old : State) (E : machine.Spot) (c x y b : Exp) (s : ℕ) (t : Bool) (p : Progress) (before after : List Rest) (new : State) → has_call c ≡ false → quiet_forms.Is t ≡ (worth (sight old E) c).truth → b ≡ cond t x y
+    → Entered program E b s before old p after new → Ran program (evaluating E (Cond c x y) s (stack before)) old p (stack after) (given after) new
+taken_into program old E c x y b s t p before after new plain is e (inl (w, quiet_b, worth_b, is_p, same, kept)) =
     let S = sight old E in
     let from = evaluating E (Cond c x y) s (stack before) in
     let whole : seen w ≡ (worth S (Cond c x y)).value = worth_b ∙ (branch_worth S x y b t e ∙ ap (λ o. chained o (λ z. cond z (worth S x).value (worth S y).value)) is) in
-    subst (λ q. Ran program from old q (stack after) (given after) old) (sym is_p)
+    subst (λ st. Ran program from old p (stack after) (given after) st) (sym kept)
+    (subst (λ q. Ran program from old q (stack after) (given after) old) (sym is_p)
     (subst (λ rs. Ran program from old (progress_of w) rs (given after) old) (sym same)
     (by_calls (has_call (Cond c x y))
-    (λ calls. past_condition program old E c x y b s (stack before) t (progress_of w) (stack before) (given after) calls plain is e
+    (λ calls. past_condition program old E c x y b s (stack before) t (progress_of w) (stack before) (given after) old calls plain is e
     (came_into program old E b s (stack before) (progress_of w) (stack before) (given after) (valued old E b s (stack before) (given after) w quiet_b worth_b)))
-    (λ none. came_into program old E (Cond c x y) s (stack before) (progress_of w) (stack before) (given after) (valued old E (Cond c x y) s (stack before) (given after) w none whole))))
-taken_into program old E c x y b s t p before after plain is e (inr (calls, h)) =
-    past_condition program old E c x y b s (stack before) t p (stack after) (given after)
+    (λ none. came_into program old E (Cond c x y) s (stack before) (progress_of w) (stack before) (given after) (valued old E (Cond c x y) s (stack before) (given after) w none whole)))))
+taken_into program old E c x y b s t p before after new plain is e (inr (calls, h)) =
+    past_condition program old E c x y b s (stack before) t p (stack after) (given after) new
     (one_calls (has_call c) (has_call x) (has_call y) t (branch_calls x y b t e calls)) plain is e h
 
 pub divides_into : (program : List Placed) (old : State) (E : machine.Spot) (c x y : Exp) (s : ℕ) (rs : List machine.Rest) (vs : List ℕ) → has_call c ≡ false → quiet_forms.Divides ≡ (worth (sight old E) c).truth → Ran program (evaluating E (Cond c x y) s rs) old (progress.Ended endings.ZeroDivide) rs vs old
@@ -128,16 +128,17 @@ selects_into program old E c x y s rs p rs1 vs calls h =
     (ap (λ z. z || has_call x || has_call y) calls) (choice_calls E c x y s rs old p rs1 vs calls h))
 
 -- an operator whose first operand is a call
-pub operand_into : (program : List Placed) (old : State) (E : machine.Spot) (op : Op) (es : Args) (f b : Exp) (s level : ℕ) (rs middle : List machine.Rest) (p : Progress) (rs1 : List machine.Rest) (vs : List ℕ) → middle ≡ machine.Operates E op b s ∷ rs → level ≡ s + 1
-    → Came (evaluate_parts E (Call es f) level middle) old p rs1 vs old → Ran program (evaluating E (Bin op (Call es f) b) s rs) old p rs1 vs old
-operand_into program old E op es f b s level rs middle p rs1 vs k l h =
+pub operand_into : (program : List Placed) (old : State) (E : machine.Spot) (op : Op) (es : Args) (f b : Exp) (s level : ℕ) (rs middle : List machine.Rest) (p : Progress) (rs1 : List machine.Rest) (vs : List ℕ) (new : State) → middle ≡ machine.Operates E op b s ∷ rs → level ≡ s + 1
+    → Ran program (evaluating E (Call es f) level middle) old p rs1 vs new → Ran program (evaluating E (Bin op (Call es f) b) s rs) old p rs1 vs new
+operand_into program old E op es f b s level rs middle p rs1 vs new k l h =
     let from = evaluating E (Bin op (Call es f) b) s rs in
     let first : Passes program old from (from ∷ []) (evaluating E (Call es f) (s + 1) (machine.Operates E op b s ∷ rs)) = (refl, tt, λ streams. refl) in
+    let there = subst (λ z. Passes program old from (from ∷ []) (evaluating E (Call es f) level z)) (sym k) (subst (λ n. Passes program old from (from ∷ []) (evaluating E (Call es f) n (machine.Operates E op b s ∷ rs))) (sym l) first) in
     record {
-      middle = evaluating E (Call es f) level middle;
-      along = from ∷ [];
-      passes = subst (λ z. Passes program old from (from ∷ []) (evaluating E (Call es f) level z)) (sym k) (subst (λ n. Passes program old from (from ∷ []) (evaluating E (Call es f) n (machine.Operates E op b s ∷ rs))) (sym l) first);
-      comes = stepped program (machine.Evaluate E (Call es f) level) middle old p rs1 vs old tt h;
+      middle = h.middle;
+      along = h.along ++ (from ∷ []);
+      passes = append program old from (evaluating E (Call es f) level middle) h.middle (from ∷ []) h.along there h.passes;
+      comes = h.comes;
     }
 
 pub is_first_call : (e : Exp) (found : Option FirstCall) (o : FirstCall) → IsFirstCall e found → found ≡ Some o → first_called o ≡ e

@@ -3,6 +3,7 @@ pub mod Arrivals
 pub mod Assigns
 pub mod Conditions
 pub mod Counts
+pub mod Direct
 pub mod Entered
 pub mod Entries
 pub mod Frames

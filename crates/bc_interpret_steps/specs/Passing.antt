@@ -65,19 +65,23 @@ evaluating E e s rs = record { work = machine.Evaluate E e s; rests = rs }
 
 -- such steps from an expression on
 abbrev pub RunsInto :
-    {A F : Type 0} → machine.Spot → Exp → ℕ → (before : Vec Rest Global) → (old : State) → Result A F → Progress → (after : Vec Rest Global) → Type 0
-RunsInto E e s before old result p after =
-    (program : List Placed) → OnOk result (Ran program (evaluating E e s (stack before.items)) old p (stack after.items) (given after.items) old)
+    {A F : Type 0}
+    → List Callable → machine.Spot → Exp → ℕ → (before : Vec Rest Global) → (old : State) → Result A F → Progress → (after : Vec Rest Global) → (new : State)
+    → Type 0
+RunsInto table E e s before old result p after new = RunsOver table (machine.Evaluate E e s) before old result p after new
 
 -- its worth; or such steps, where a call stands in it
-abbrev pub Entered : List Placed → machine.Spot → Exp → ℕ → (before : List Rest) → (old : State) → Progress → (after : List Rest) → Type 0
-Entered program E e s before old p after =
-    ((w : Worth) × (has_call e ≡ false) × (seen w ≡ (worth (sight old E) e).value) × (p ≡ progress_of w) × (stack after ≡ stack before))
-    ⊎ ((has_call e ≡ true) × Ran program (evaluating E e s (stack before)) old p (stack after) (given after) old)
+abbrev pub Entered : List Placed → machine.Spot → Exp → ℕ → (before : List Rest) → (old : State) → Progress → (after : List Rest) → (new : State) → Type 0
+Entered program E e s before old p after new =
+    ((w : Worth) × (has_call e ≡ false) × (seen w ≡ (worth (sight old E) e).value) × (p ≡ progress_of w) × (stack after ≡ stack before) × (new ≡ old))
+    ⊎ ((has_call e ≡ true) × Ran program (evaluating E e s (stack before)) old p (stack after) (given after) new)
 
 abbrev pub Enters :
-    {A F : Type 0} → machine.Spot → Exp → ℕ → (before : Vec Rest Global) → (old : State) → Result A F → Progress → (after : Vec Rest Global) → Type 0
-Enters E e s before old result p after = (program : List Placed) → OnOk result (Entered program E e s before.items old p after.items)
+    {A F : Type 0}
+    → List Callable → machine.Spot → Exp → ℕ → (before : Vec Rest Global) → (old : State) → Result A F → Progress → (after : Vec Rest Global) → (new : State)
+    → Type 0
+Enters table E e s before old result p after new =
+    (program : List Placed) → IsTable program table → OnOk result (Entered program E e s before.items old p after.items new)
 
 -- an operator whose first operand is a call
 abbrev pub first_called : FirstCall → Exp

@@ -86,35 +86,8 @@ pub(crate) fn verdict<'c>(truth: Truth) -> Progress<'c>
 
 /// One step into an expression whose value is wanted. One with no call in it is worked out at once.
 #[inline(always)]
-pub(crate) fn evaluate<'c>(
-    spot: Spot<'c>,
-    e: &'c CoreExp,
-    s: u32,
-    stacks: &mut Stacks<'c>,
-    state: &State,
-) -> Result<(), Memory>
-    ensures { ProceedsOrMalformed (machine.evaluate (spot_of spot.entry)
-        (exp e.now) s) stacks.old.rests state.now result stacks.new.next stacks.new.rests state.now }
-{
-    match e {
-        CoreExp::Call(arguments, routine) => call(spot, arguments, routine, s, stacks, state),
-        CoreExp::Num(_)
-        | CoreExp::Frame(_)
-        | CoreExp::Glob(_)
-        | CoreExp::Place(_)
-        | CoreExp::Load(_)
-        | CoreExp::Neg(_)
-        | CoreExp::Not(_)
-        | CoreExp::Bin(_, _, _)
-        | CoreExp::Cond(_, _, _)
-        | CoreExp::Valof(_) => evaluate_any(spot, e, s, stacks, state),
-    }
-}
-
-/// The same of any form.
-#[inline(always)]
 #[tactic(auto, using(crate::proofs::Quiet::valued, crate::proofs::Quiet::value_parts))]
-fn evaluate_any<'c>(
+pub(crate) fn evaluate<'c>(
     spot: Spot<'c>,
     e: &'c CoreExp,
     s: u32,

@@ -13,9 +13,11 @@ ghost use Rattle.bc_interpret_steps.specs.declared.state.State.{State as StateVa
 ghost use Rattle.bc_interpret_steps.specs.Stepped.{Proceeds};
 ghost use Rattle.bc_interpret_steps.specs.Passing.{RunsInto, Enters, IsFirstCall, first_called};
 
-use crate::evaluate::{call, evaluate, evaluate_parts, settled, truth_at, worth_at};
+use crate::calls::call_now;
+use crate::evaluate::{evaluate, evaluate_parts, settled, truth_at, worth_at};
 use crate::forms::{Ending, Progress, Spot, Work};
 use crate::rests::{NumberRest, Rest, TruthRest, above, put};
+use crate::sections::Callable;
 use crate::state::{Stacks, State};
 use bc_core::CoreExp;
 use bc_interpret_quiet::Truth;
@@ -25,16 +27,19 @@ use bc_word::{Memory, Op};
 /// is an operator's first operand comes with the operator.
 #[inline(always)]
 pub(crate) fn go_into<'c>(
+    table: &[Callable<'c>],
     spot: Spot<'c>,
     e: &'c CoreExp,
     s: u32,
     stacks: &mut Stacks<'c>,
-    state: &State,
+    state: &mut State,
 ) -> Result<(), Memory>
-    ensures { RunsInto (spot_of spot.entry) (exp e.now) s stacks.old.rests state.now result stacks.new.next stacks.new.rests }
+    ensures { RunsInto table.now (spot_of spot.entry) (exp e.now) s stacks.old.rests state.old result stacks.new.next stacks.new.rests
+        state.new }
 {
     match e {
         CoreExp::Cond(condition, this, that) => conditional(
+            table,
             spot,
             condition,
             (this, that),
@@ -51,24 +56,56 @@ pub(crate) fn go_into<'c>(
         | CoreExp::Not(_)
         | CoreExp::Bin(_, _, _)
         | CoreExp::Call(_, _)
-        | CoreExp::Valof(_) => go_on(spot, e, s, stacks, state),
+        | CoreExp::Valof(_) => go_on(table, spot, e, s, stacks, state),
     }
 }
 
 /// The same of an expression with no condition first.
 #[inline(always)]
 fn go_on<'c>(
+    table: &[Callable<'c>],
     spot: Spot<'c>,
     e: &'c CoreExp,
     s: u32,
     stacks: &mut Stacks<'c>,
-    state: &State,
+    state: &mut State,
 ) -> Result<(), Memory>
-    ensures { RunsInto (spot_of spot.entry) (exp e.now) s stacks.old.rests state.now result stacks.new.next stacks.new.rests }
+    ensures { RunsInto table.now (spot_of spot.entry) (exp e.now) s stacks.old.rests state.old result stacks.new.next stacks.new.rests
+        state.new }
 {
     match first_call(e) {
-        Some(first) => operand(spot, first, s, stacks, state),
-        None => evaluate(spot, e, s, stacks, state),
+        Some(first) => operand(table, spot, first, s, stacks, state),
+        None => go_over(table, spot, e, s, stacks, state),
+    }
+}
+
+/// The same of an expression that is no such operator. A call is gone into at once where it can be.
+#[inline(always)]
+pub(crate) fn go_over<'c>(
+    table: &[Callable<'c>],
+    spot: Spot<'c>,
+    e: &'c CoreExp,
+    s: u32,
+    stacks: &mut Stacks<'c>,
+    state: &mut State,
+) -> Result<(), Memory>
+    ensures { RunsInto table.now (spot_of spot.entry) (exp e.now) s stacks.old.rests state.old result stacks.new.next stacks.new.rests
+        state.new }
+{
+    match e {
+        CoreExp::Call(arguments, routine) => call_now(
+            table, spot, arguments, routine, s, stacks, state,
+        ),
+        CoreExp::Num(_)
+        | CoreExp::Frame(_)
+        | CoreExp::Glob(_)
+        | CoreExp::Place(_)
+        | CoreExp::Load(_)
+        | CoreExp::Neg(_)
+        | CoreExp::Not(_)
+        | CoreExp::Bin(_, _, _)
+        | CoreExp::Cond(_, _, _)
+        | CoreExp::Valof(_) => evaluate(spot, e, s, stacks, state),
     }
 }
 
@@ -128,20 +165,30 @@ fn called<'c>(op: Op, left: &'c CoreExp, second: &'c CoreExp) -> Option<FirstCal
 
 /// An operator is gone into, and the call that is its first operand too.
 fn operand<'c>(
+    table: &[Callable<'c>],
     spot: Spot<'c>,
     first: FirstCall<'c>,
     s: u32,
     stacks: &mut Stacks<'c>,
-    state: &State,
+    state: &mut State,
 ) -> Result<(), Memory>
-    ensures { RunsInto (spot_of spot.entry) (first_called first.entry) s stacks.old.rests state.now result stacks.new.next stacks.new.rests }
+    ensures { RunsInto table.now (spot_of spot.entry) (first_called first.entry) s stacks.old.rests state.old result stacks.new.next stacks.new.rests
+        state.new }
 {
     put(
         Rest::Number(NumberRest::Operates(spot, first.op, first.second, s)),
         &mut stacks.rests,
     )?;
     let level = above(s, 1)?;
-    call(spot, first.arguments, first.routine, level, stacks, state)
+    call_now(
+        table,
+        spot,
+        first.arguments,
+        first.routine,
+        level,
+        stacks,
+        state,
+    )
 }
 
 /// The branch that is taken.
@@ -155,19 +202,20 @@ fn taken<'c>(t: bool, this: &'c CoreExp, that: &'c CoreExp) -> &'c CoreExp
 /// A conditional expression, past its condition where no call stands in that.
 #[inline(always)]
 fn conditional<'c>(
+    table: &[Callable<'c>],
     spot: Spot<'c>,
     condition: &'c CoreExp,
     branches: (&'c CoreExp, &'c CoreExp),
     s: u32,
     stacks: &mut Stacks<'c>,
-    state: &State,
+    state: &mut State,
 ) -> Result<(), Memory>
-    ensures { RunsInto (spot_of spot.entry) (tree.Cond (exp condition.now) (exp branches.entry.0.now) (exp branches.entry.1.now)) s stacks.old.rests state.now
-        result stacks.new.next stacks.new.rests }
+    ensures { RunsInto table.now (spot_of spot.entry) (tree.Cond (exp condition.now) (exp branches.entry.0.now) (exp branches.entry.1.now)) s
+        stacks.old.rests state.old result stacks.new.next stacks.new.rests state.new }
 {
     let found = truth_at(&spot, condition, &mut stacks.room, state)?;
     match found {
-        Some(truth) => past(spot, condition, branches, truth, s, stacks, state),
+        Some(truth) => past(table, spot, condition, branches, truth, s, stacks, state),
         None => selects(spot, condition, branches, s, stacks),
     }
 }
@@ -175,20 +223,22 @@ fn conditional<'c>(
 /// A conditional expression whose condition has this truth, and no call in it.
 #[inline(always)]
 fn past<'c>(
+    table: &[Callable<'c>],
     spot: Spot<'c>,
     condition: &'c CoreExp,
     branches: (&'c CoreExp, &'c CoreExp),
     truth: Truth,
     s: u32,
     stacks: &mut Stacks<'c>,
-    state: &State,
+    state: &mut State,
 ) -> Result<(), Memory>
-    ensures { has_call (exp condition.now) ≡ false → seen_truth truth ≡ (worth (sight state.now (spot_of spot.entry)) (exp condition.now)).truth
-        → RunsInto (spot_of spot.entry) (tree.Cond (exp condition.now) (exp branches.entry.0.now) (exp branches.entry.1.now)) s stacks.old.rests state.now
-        result stacks.new.next stacks.new.rests }
+    ensures { has_call (exp condition.now) ≡ false → seen_truth truth ≡ (worth (sight state.old (spot_of spot.entry)) (exp condition.now)).truth
+        → RunsInto table.now (spot_of spot.entry) (tree.Cond (exp condition.now) (exp branches.entry.0.now) (exp branches.entry.1.now)) s
+        stacks.old.rests state.old result stacks.new.next stacks.new.rests state.new }
 {
     match truth {
         Truth::Is(t) => enter_branch(
+            table,
             spot,
             taken(t, branches.0, branches.1),
             s,
@@ -209,30 +259,34 @@ fn past<'c>(
 /// A branch: its worth, or the steps into it where a call stands in it.
 #[inline(always)]
 fn enter_branch<'c>(
+    table: &[Callable<'c>],
     spot: Spot<'c>,
     e: &'c CoreExp,
     s: u32,
     stacks: &mut Stacks<'c>,
-    state: &State,
+    state: &mut State,
 ) -> Result<(), Memory>
-    ensures { Enters (spot_of spot.entry) (exp e.now) s stacks.old.rests state.now result stacks.new.next stacks.new.rests }
+    ensures { Enters table.now (spot_of spot.entry) (exp e.now) s stacks.old.rests state.old result stacks.new.next stacks.new.rests
+        state.new }
 {
     match first_call(e) {
-        Some(first) => operand(spot, first, s, stacks, state),
-        None => enter_any(spot, e, s, stacks, state),
+        Some(first) => operand(table, spot, first, s, stacks, state),
+        None => enter_any(table, spot, e, s, stacks, state),
     }
 }
 
 /// The same of any form.
 #[inline(always)]
 fn enter_any<'c>(
+    table: &[Callable<'c>],
     spot: Spot<'c>,
     e: &'c CoreExp,
     s: u32,
     stacks: &mut Stacks<'c>,
-    state: &State,
+    state: &mut State,
 ) -> Result<(), Memory>
-    ensures { Enters (spot_of spot.entry) (exp e.now) s stacks.old.rests state.now result stacks.new.next stacks.new.rests }
+    ensures { Enters table.now (spot_of spot.entry) (exp e.now) s stacks.old.rests state.old result stacks.new.next stacks.new.rests
+        state.new }
 {
     let found = worth_at(&spot, e, &mut stacks.room, state)?;
     match found {

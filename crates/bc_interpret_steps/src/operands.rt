@@ -1,13 +1,12 @@
 // The second operand of an operator, which comes at once behind the first.
 
-ghost use Rattle.std.specs.Prelude.{List, Some};
+ghost use Rattle.std.specs.Prelude.{Some};
 ghost use Rattle.bc_interpret_defs.specs.Machine as machine;
-ghost use Rattle.bc_interpret_steps.specs.declared.sections.Callable.{Callable as Table};
 ghost use Rattle.bc_interpret_steps.specs.Passing.{RunsOver, IsOperator};
 
 use crate::answers::give_number;
-use crate::evaluate::evaluate;
 use crate::forms::Spot;
+use crate::inward::go_over;
 use crate::rests::{NumberRest, Rest, above, put};
 use crate::sections::Callable;
 use crate::state::{Stacks, State};
@@ -50,7 +49,7 @@ pub(crate) fn hand_number<'c>(
     ensures { RunsOver table.now (machine.Give (machine.Number v)) stacks.old.rests state.old result stacks.new.next stacks.new.rests state.new }
 {
     match waiting(stacks.rests.as_slice()) {
-        Some(operator) => Ok(second(operator, v, stacks, state)?),
+        Some(operator) => Ok(second(table, operator, v, stacks, state)?),
         None => Ok(give_number(table, v, stacks, state)?),
     }
 }
@@ -58,14 +57,14 @@ pub(crate) fn hand_number<'c>(
 /// The second operand of an operator whose first one is this number, which is handed to it.
 #[inline(always)]
 fn second<'c>(
+    table: &[Callable<'c>],
     operator: Operator<'c>,
     v: u16,
     stacks: &mut Stacks<'c>,
-    state: &State,
+    state: &mut State,
 ) -> Result<(), Memory>
     requires { IsOperator (Some operator) stacks.now.rests.items }
-    ensures { (table : List Table) → RunsOver table (machine.Give (machine.Number v)) stacks.old.rests state.now result stacks.new.next stacks.new.rests
-        state.now }
+    ensures { RunsOver table.now (machine.Give (machine.Number v)) stacks.old.rests state.old result stacks.new.next stacks.new.rests state.new }
 {
     let level = above(operator.s, 1)?;
     let _gone = stacks.rests.pop();
@@ -73,5 +72,5 @@ fn second<'c>(
         Rest::Number(NumberRest::Operated(operator.op, v)),
         &mut stacks.rests,
     )?;
-    Ok(evaluate(operator.spot, operator.second, level, stacks, state)?)
+    go_over(table, operator.spot, operator.second, level, stacks, state)
 }

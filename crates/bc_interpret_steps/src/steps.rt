@@ -19,8 +19,8 @@ use bc_word::Memory;
 
 /// One step of a run, and what comes of it. What stands next is done, or nothing is given to what is left where nothing stands there. Steps in which
 /// control only leaves one command after the other are taken in one. So are that in which an operator gets its first operand and the step into the
-/// second one, that past a condition in which no call stands and the step into its branch, and those into an operator and into the call that is
-/// its first operand.
+/// second one, that past a condition in which no call stands and the step into its branch, those into an operator and into the call that is its
+/// first operand, and those into a call and into its routine, where no call stands in the arguments. What was called is told in `called`.
 ///
 /// `Memory` comes where an allocation was refused.
 #[inline(always)]
@@ -32,8 +32,9 @@ pub fn step<'c>(
     ensures { RunsOver table.now (work_of (given stacks.old.rests.items) (work_next stacks.old.next)) stacks.old.rests state.old result stacks.new.next
         stacks.new.rests state.new }
 {
+    stacks.called.least = 0;
     match stacks.next {
-        Progress::On(Work::Evaluate(spot, e, s)) => go_into(spot, e, s, stacks, state),
+        Progress::On(Work::Evaluate(spot, e, s)) => go_into(table, spot, e, s, stacks, state),
         Progress::On(Work::Decide(spot, e, s)) => decide(spot, e, s, stacks, state),
         Progress::On(Work::Argue(arguments)) => argue(arguments, stacks, state),
         Progress::On(Work::Store(spot, value, address, s)) => {

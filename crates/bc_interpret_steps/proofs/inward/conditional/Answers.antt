@@ -10,12 +10,12 @@ use Rattle.bc_interpret_steps.proofs.Quiet.{told_truth}
 use Rattle.bc_interpret_steps.proofs.inward.conditional.Goals as goal
 
 pub returns-in-Some : goal.returns-in-Some
-returns-in-Some c program =
+returns-in-Some c program table =
     let told = told_truth (sight c.args.state.now (spot_of c.args.spot)) (exp c.args.condition.now) c.in_ok-found.found c.in-Some.truth c.in_ok-found.ensures c.in-Some.is in
-    c.past.ensures told.0 told.1 program
+    c.past.ensures told.0 told.1 program table
 
 pub returns-in-None : goal.returns-in-None
-returns-in-None c program =
+returns-in-None c program table =
     let E = spot_of c.args.spot in
     let st = c.args.state.now in
     let before = c.args.stacks.now.rests.items in

@@ -9,7 +9,7 @@ use Rattle.bc_interpret_steps.proofs.steps.step.Goals as goal
 pub returns-in-On-Evaluate : goal.returns-in-On-Evaluate
 returns-in-On-Evaluate c =
     let t = c.in-On-Evaluate in
-    ran_next c.args.table.now c.args.stacks.now.next (works.Evaluate t.spot t.e t.s) c.args.stacks.now.rests c.args.state.now c.go_into.result c.go_into.new.stacks.next c.go_into.new.stacks.rests c.args.state.now (t.is ∙ ap progress.On (rw t.is at t.field-0-is)) (λ program table. c.go_into.ensures program)
+    ran_next c.args.table.now c.args.stacks.now.next (works.Evaluate t.spot t.e t.s) c.args.stacks.now.rests c.args.state.now c.go_into.result c.go_into.new.stacks.next c.go_into.new.stacks.rests c.go_into.new.state (t.is ∙ ap progress.On (rw t.is at t.field-0-is)) c.go_into.ensures
 
 pub returns-in-On-Decide : goal.returns-in-On-Decide
 returns-in-On-Decide c =
