@@ -125,22 +125,22 @@ served_met program a old q f c rests1 mid new before after h s =
 
 -- steps that change nothing
 
-passes_keep : (program : List Placed) (n : ℕ) (a : machine.At) (along : List machine.At) (to : machine.At) (old : State) (streams : Content) → Passes program a along to → old.turns < n → left_from program n a old streams ≡ left_from program n to old streams
+passes_keep : (program : List Placed) (n : ℕ) (a : machine.At) (along : List machine.At) (to : machine.At) (old : State) (streams : Content) → Passes program old a along to → old.turns < n → left_from program n a old streams ≡ left_from program n to old streams
 passes_keep program n a [] to old streams h l = ap (λ z. left_from program n z old streams) h
 passes_keep program n a (m ∷ along) to old streams h l =
-    passes_keep program n a along m old streams h.0 l ∙ through program n m old streams _ (h.2 (state_of old streams)) l
+    passes_keep program n a along m old streams h.0 l ∙ through program n m old streams _ (h.2 streams) l
 
-passes_lessen : (program : List Placed) (a : machine.At) (along : List machine.At) (to : machine.At) (old : State) → Passes program a along to → weight to.work to.rests ≤ weight a.work a.rests
+passes_lessen : (program : List Placed) (a : machine.At) (along : List machine.At) (to : machine.At) (old : State) → Passes program old a along to → weight to.work to.rests ≤ weight a.work a.rests
 passes_lessen program a [] to old h = subst (λ z. weight z.work z.rests ≤ weight a.work a.rests) h (omega arith)
 passes_lessen program a (m ∷ along) to old h =
-    let k = lessened_by program m old _ h.1 (h.2 (state_of old no_streams)) in
+    let k = lessened_by program m old _ h.1 (h.2 no_streams) in
     let less = k.1 (omega arith) in
     let more = passes_lessen program a along m old h.0 in
     omega (arith, less, more)
 
-passes_lead : (program : List Placed) (a : machine.At) (along : List machine.At) (to : machine.At) (st : outcomes.State) (c : met.Cause) → Passes program a along to → ComesTo program to st c → ComesTo program a st c
-passes_lead program a [] to st c h g = subst (λ z. ComesTo program z st c) (sym h) g
-passes_lead program a (m ∷ along) to st c h g = passes_lead program a along m st c h.0 (one_more program m to st st c (h.2 st) g)
+passes_lead : (program : List Placed) (a : machine.At) (along : List machine.At) (to : machine.At) (old : State) (streams : Content) (c : met.Cause) → Passes program old a along to → ComesTo program to (state_of old streams) c → ComesTo program a (state_of old streams) c
+passes_lead program a [] to old streams c h g = subst (λ z. ComesTo program z (state_of old streams) c) (sym h) g
+passes_lead program a (m ∷ along) to old streams c h g = passes_lead program a along m old streams c h.0 (one_more program m to (state_of old streams) (state_of old streams) c (h.2 streams) g)
 
 pub ran_answered : (program : List Placed) (n : ℕ) (w : Work) (rests : List Rest) (old : State) (rests1 : List Rest) (new : State) (streams : Content) → RanIs program w rests old progress.Answered rests1 new → old.turns < n → left_of program n w rests old streams ≡ meanings.Ended (output_of streams) outcomes.Finished
 ran_answered program n w rests old rests1 new streams h l = passes_keep program n (at_of w rests) h.along h.middle old streams h.passes l ∙ answered program n h.middle old rests1 new streams h.comes
@@ -155,7 +155,7 @@ pub ran_wild : (program : List Placed) (n : ℕ) (w : Work) (rests : List Rest) 
 ran_wild program n w rests old c rests1 new streams h l = passes_keep program n (at_of w rests) h.along h.middle old streams h.passes l ∙ was_wild program n h.middle old c rests1 new streams h.comes l
 
 pub ran_met : (program : List Placed) (w : Work) (rests : List Rest) (old : State) (c : Cause) (rests1 : List Rest) (new : State) (streams : Content) → RanIs program w rests old (progress.Wild c) rests1 new → Names program (at_of w rests) (state_of old streams) (outs.Wild c)
-ran_met program w rests old c rests1 new streams h = passes_lead program (at_of w rests) h.along h.middle (state_of old streams) (cause_of c) h.passes (was_met program h.middle old c rests1 new streams h.comes)
+ran_met program w rests old c rests1 new streams h = passes_lead program (at_of w rests) h.along h.middle old streams (cause_of c) h.passes (was_met program h.middle old c rests1 new streams h.comes)
 
 leads_from : (program : List Placed) (from from1 : machine.At) (start start1 : outcomes.State) (moved : Moved) (new : Run) (after : Content) → ((c : met.Cause) → ComesTo program from1 start1 c → ComesTo program from start c) → Leads program from1 start1 moved new after → Leads program from start moved new after
 leads_from program from from1 start start1 On new after f h = λ c g. f c (h c g)
@@ -202,7 +202,7 @@ on_advances table w old new known before failures next p s is = record {
       ∙ (on_keeps program n r.middle old.state next new.stacks.rests.items new.state before r.comes l
       ∙ ap (λ x. left_of program n x new.stacks.rests.items new.state before) (sym is));
   tracks = λ k program t c g. let r = s program t in
-      passes_lead program (at_of w old.stacks.rests.items) r.along r.middle (state_of old.state before) c r.passes
+      passes_lead program (at_of w old.stacks.rests.items) r.along r.middle old.state before c r.passes
       (one_more program r.middle (at_of next new.stacks.rests.items) (state_of old.state before) (state_of new.state before) c (r.comes.1 before)
       (subst (λ x. ComesTo program (at_of x new.stacks.rests.items) (state_of new.state before) c) is g));
   lessened = let r = s p.0 p.1 in
@@ -240,7 +240,7 @@ served_number table w old new q f v stacks mid known tells before after failures
       passes_keep program n (at_of w old.stacks.rests.items) r.along r.middle old.state before r.passes l
       ∙ served_keeps program n r.middle old.state q f v stacks.rests.items mid new.state before after r.comes (x.exact k) l;
   tracks = λ k program t c g. let r = s program t in
-      passes_lead program (at_of w old.stacks.rests.items) r.along r.middle (state_of old.state before) c r.passes
+      passes_lead program (at_of w old.stacks.rests.items) r.along r.middle old.state before c r.passes
       (served_leads program r.middle old.state q f v stacks.rests.items mid new.state before after c r.comes (x.exact k) g);
   lessened = let r = s p.0 p.1 in
       let k = served_lessens p.0 r.middle old.state q f v stacks.rests.items mid new.state r.comes x.numbers in
@@ -266,7 +266,7 @@ served_advances table w old new q f stacks mid known tells before after failures
           passes_keep program n (at_of w old.stacks.rests.items) r.along r.middle old.state before r.passes l
           ∙ served_wild program n r.middle old.state q f c stacks.rests.items mid new.state before after r.comes (x.exact k) l;
       tracks = λ k program t. let r = s program t in
-          passes_lead program (at_of w old.stacks.rests.items) r.along r.middle (state_of old.state before) (cause_of c) r.passes
+          passes_lead program (at_of w old.stacks.rests.items) r.along r.middle old.state before (cause_of c) r.passes
           (served_met program r.middle old.state q f c stacks.rests.items mid new.state before after r.comes (x.exact k));
       lessened = tt;
       kept = x.kept;

@@ -100,6 +100,7 @@ fn advance<'c, S: Streams>(
 {
     run.trace.follow(&run.stacks)?;
     step(table, &mut run.stacks, &mut run.state)?;
+    run.trace.enter(&run.stacks)?;
     match run.stacks.next {
         Progress::On(_) => Ok(Moved::On),
         Progress::Serve(primitive, frame) => {

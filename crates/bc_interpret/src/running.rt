@@ -14,7 +14,7 @@ use crate::start::start_store;
 use crate::table::table_of;
 use bc_core::Core;
 use bc_interpret_quiet::Room;
-use bc_interpret_steps::{NumberRest, Progress, Rest, Section, Stacks, State, Work, put};
+use bc_interpret_steps::{Called, NumberRest, Progress, Rest, Section, Stacks, State, Work, put};
 use bc_interpret_store::Store;
 use bc_interpret_trace::Trace;
 use bc_machine::{Image, Streams};
@@ -32,6 +32,11 @@ fn run_over<'c>(alloc: Global, store: Store, turns: u64) -> Run<'c>
         state: State { store, turns },
         stacks: Stacks {
             next: Progress::On(Work::Number(9)),
+            called: Called {
+                least: 0,
+                frame: 0,
+                routine: 0,
+            },
             rests: Vec::new(alloc),
             room: Room {
                 rests: Vec::new(alloc),

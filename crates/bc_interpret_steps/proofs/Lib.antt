@@ -1,7 +1,9 @@
 pub mod Argues
 pub mod Arrivals
 pub mod Assigns
+pub mod Conditions
 pub mod Counts
+pub mod Direct
 pub mod Entered
 pub mod Entries
 pub mod Frames

@@ -8,7 +8,9 @@ use Rattle.bc_core.specs.Exit as exits
 use Rattle.bc_core.specs.Lists.{Beginning}
 use Rattle.bc_core.specs.Map.{Placed}
 use Rattle.bc_core.specs.Outcome.{followed}
-use Rattle.bc_core.specs.View.{items}
+use Rattle.bc_core.specs.Tree.{Exp}
+use Rattle.bc_core.specs.View.{exp, items}
+use Rattle.bc_word.specs.declared.operator.Op.{Op}
 use Rattle.bc_core.specs.declared.command.ListItem.{ListItem}
 use Rattle.bc_interpret_defs.specs.Machine as machine
 use Rattle.bc_interpret_defs.specs.Machine.{step, give}
@@ -20,6 +22,8 @@ use Rattle.bc_interpret_steps.specs.declared.forms.Ending.{Ending}
 use Rattle.bc_interpret_steps.specs.declared.forms.Primitive.{Primitive}
 use Rattle.bc_interpret_quiet.specs.declared.sight.Cause.{Cause}
 use Rattle.bc_interpret_steps.specs.declared.forms.Work.TheVariants as works
+use Rattle.bc_interpret_steps.specs.declared.operands.Operator.{Operator}
+use Rattle.bc_interpret_steps.specs.declared.rests.NumberRest.TheVariants as number_rests
 use Rattle.bc_interpret_steps.specs.declared.rests.ExitRest.{ExitRest}
 use Rattle.bc_interpret_steps.specs.declared.forms.Work.{Work}
 use Rattle.bc_interpret_steps.specs.declared.forms.Progress.{Progress}
@@ -27,10 +31,10 @@ use Rattle.bc_interpret_steps.specs.declared.forms.Progress.TheVariants as progr
 use Rattle.bc_interpret_steps.specs.declared.rests.Rest.{Rest}
 use Rattle.bc_interpret_steps.specs.declared.rests.Rest.TheVariants as rests
 use Rattle.bc_interpret_steps.specs.declared.sections.Callable.{Callable}
-use Rattle.bc_interpret_steps.specs.Code.{work_of, exit_of, stack, given}
-use Rattle.bc_interpret_steps.specs.Came.{Came, CameOrMalformed, IsBehindCases}
+use Rattle.bc_interpret_steps.specs.Code.{work_of, spot_of, exit_of, stacked, stack, given}
+use Rattle.bc_interpret_steps.specs.Came.{state_of, Came, CameOrMalformed, IsBehindCases}
 use Rattle.bc_interpret_steps.specs.Stepped.{Stepped, StepsOver}
-use Rattle.bc_interpret_steps.specs.Passing.{work_next, Passes, Ran, RunsOver, leaving, PassesOn, IsLeft, IsHandedOn, IsPassed, IsPassedBy}
+use Rattle.bc_interpret_steps.specs.Passing.{work_next, Passes, Ran, RunsOver, evaluating, leaving, PassesOn, IsLeft, IsHandedOn, IsOperator, IsPassed, IsPassedBy}
 use Rattle.bc_interpret_steps.proofs.Handing.{stepped, stepped_loosely}
 use Rattle.bc_interpret_steps.proofs.Piles.{stack_more}
 
@@ -53,35 +57,35 @@ last_is all below top r split e =
 -- what hands an exit on
 
 pub none_follows : (E : machine.Spot) (s : ℕ) (x : exits.Exit) (rs : List machine.Rest) → PassesOn x (machine.Follows E no_item s ∷ rs) x rs
-none_follows E s exits.Past rs program =
-    (record { work = machine.Listing E no_item s Beginning; rests = rs } ∷ leaving exits.Past (machine.Follows E no_item s ∷ rs) ∷ [], ((refl, tt, λ st. refl), tt, λ st. refl))
-none_follows E s exits.Broke rs program = (leaving exits.Broke (machine.Follows E no_item s ∷ rs) ∷ [], (refl, tt, λ st. refl))
-none_follows E s exits.Looped rs program = (leaving exits.Looped (machine.Follows E no_item s ∷ rs) ∷ [], (refl, tt, λ st. refl))
-none_follows E s exits.LeftCases rs program = (leaving exits.LeftCases (machine.Follows E no_item s ∷ rs) ∷ [], (refl, tt, λ st. refl))
-none_follows E s exits.Returned rs program = (leaving exits.Returned (machine.Follows E no_item s ∷ rs) ∷ [], (refl, tt, λ st. refl))
-none_follows E s (exits.Resulted v) rs program = (leaving (exits.Resulted v) (machine.Follows E no_item s ∷ rs) ∷ [], (refl, tt, λ st. refl))
-none_follows E s (exits.Jumped l) rs program = (leaving (exits.Jumped l) (machine.Follows E no_item s ∷ rs) ∷ [], (refl, tt, λ st. refl))
+none_follows E s exits.Past rs program old =
+    (record { work = machine.Listing E no_item s Beginning; rests = rs } ∷ leaving exits.Past (machine.Follows E no_item s ∷ rs) ∷ [], ((refl, tt, λ streams. refl), tt, λ streams. refl))
+none_follows E s exits.Broke rs program old = (leaving exits.Broke (machine.Follows E no_item s ∷ rs) ∷ [], (refl, tt, λ streams. refl))
+none_follows E s exits.Looped rs program old = (leaving exits.Looped (machine.Follows E no_item s ∷ rs) ∷ [], (refl, tt, λ streams. refl))
+none_follows E s exits.LeftCases rs program old = (leaving exits.LeftCases (machine.Follows E no_item s ∷ rs) ∷ [], (refl, tt, λ streams. refl))
+none_follows E s exits.Returned rs program old = (leaving exits.Returned (machine.Follows E no_item s ∷ rs) ∷ [], (refl, tt, λ streams. refl))
+none_follows E s (exits.Resulted v) rs program old = (leaving (exits.Resulted v) (machine.Follows E no_item s ∷ rs) ∷ [], (refl, tt, λ streams. refl))
+none_follows E s (exits.Jumped l) rs program old = (leaving (exits.Jumped l) (machine.Follows E no_item s ∷ rs) ∷ [], (refl, tt, λ streams. refl))
 
 pub follows_out : (E : machine.Spot) (is : Items) (s : ℕ) (x : exits.Exit) (rs : List machine.Rest) → (x ≡ exits.Past → ⊥) → PassesOn x (machine.Follows E is s ∷ rs) x rs
-follows_out E is s exits.Past rs n program = absurd (n refl)
-follows_out E is s exits.Broke rs n program = (leaving exits.Broke (machine.Follows E is s ∷ rs) ∷ [], (refl, tt, λ st. refl))
-follows_out E is s exits.Looped rs n program = (leaving exits.Looped (machine.Follows E is s ∷ rs) ∷ [], (refl, tt, λ st. refl))
-follows_out E is s exits.LeftCases rs n program = (leaving exits.LeftCases (machine.Follows E is s ∷ rs) ∷ [], (refl, tt, λ st. refl))
-follows_out E is s exits.Returned rs n program = (leaving exits.Returned (machine.Follows E is s ∷ rs) ∷ [], (refl, tt, λ st. refl))
-follows_out E is s (exits.Resulted v) rs n program = (leaving (exits.Resulted v) (machine.Follows E is s ∷ rs) ∷ [], (refl, tt, λ st. refl))
-follows_out E is s (exits.Jumped l) rs n program = (leaving (exits.Jumped l) (machine.Follows E is s ∷ rs) ∷ [], (refl, tt, λ st. refl))
+follows_out E is s exits.Past rs n program old = absurd (n refl)
+follows_out E is s exits.Broke rs n program old = (leaving exits.Broke (machine.Follows E is s ∷ rs) ∷ [], (refl, tt, λ streams. refl))
+follows_out E is s exits.Looped rs n program old = (leaving exits.Looped (machine.Follows E is s ∷ rs) ∷ [], (refl, tt, λ streams. refl))
+follows_out E is s exits.LeftCases rs n program old = (leaving exits.LeftCases (machine.Follows E is s ∷ rs) ∷ [], (refl, tt, λ streams. refl))
+follows_out E is s exits.Returned rs n program old = (leaving exits.Returned (machine.Follows E is s ∷ rs) ∷ [], (refl, tt, λ streams. refl))
+follows_out E is s (exits.Resulted v) rs n program old = (leaving (exits.Resulted v) (machine.Follows E is s ∷ rs) ∷ [], (refl, tt, λ streams. refl))
+follows_out E is s (exits.Jumped l) rs n program old = (leaving (exits.Jumped l) (machine.Follows E is s ∷ rs) ∷ [], (refl, tt, λ streams. refl))
 
 pub listed_out : (E : machine.Spot) (is : Items) (s : ℕ) (x : exits.Exit) (rs : List machine.Rest) → ((l : ℕ) → x ≡ exits.Jumped l → ⊥) → PassesOn x (machine.Listed E is s ∷ rs) x rs
-listed_out E is s exits.Past rs n program = (leaving exits.Past (machine.Listed E is s ∷ rs) ∷ [], (refl, tt, λ st. refl))
-listed_out E is s exits.Broke rs n program = (leaving exits.Broke (machine.Listed E is s ∷ rs) ∷ [], (refl, tt, λ st. refl))
-listed_out E is s exits.Looped rs n program = (leaving exits.Looped (machine.Listed E is s ∷ rs) ∷ [], (refl, tt, λ st. refl))
-listed_out E is s exits.LeftCases rs n program = (leaving exits.LeftCases (machine.Listed E is s ∷ rs) ∷ [], (refl, tt, λ st. refl))
-listed_out E is s exits.Returned rs n program = (leaving exits.Returned (machine.Listed E is s ∷ rs) ∷ [], (refl, tt, λ st. refl))
-listed_out E is s (exits.Resulted v) rs n program = (leaving (exits.Resulted v) (machine.Listed E is s ∷ rs) ∷ [], (refl, tt, λ st. refl))
-listed_out E is s (exits.Jumped l) rs n program = absurd (n l refl)
+listed_out E is s exits.Past rs n program old = (leaving exits.Past (machine.Listed E is s ∷ rs) ∷ [], (refl, tt, λ streams. refl))
+listed_out E is s exits.Broke rs n program old = (leaving exits.Broke (machine.Listed E is s ∷ rs) ∷ [], (refl, tt, λ streams. refl))
+listed_out E is s exits.Looped rs n program old = (leaving exits.Looped (machine.Listed E is s ∷ rs) ∷ [], (refl, tt, λ streams. refl))
+listed_out E is s exits.LeftCases rs n program old = (leaving exits.LeftCases (machine.Listed E is s ∷ rs) ∷ [], (refl, tt, λ streams. refl))
+listed_out E is s exits.Returned rs n program old = (leaving exits.Returned (machine.Listed E is s ∷ rs) ∷ [], (refl, tt, λ streams. refl))
+listed_out E is s (exits.Resulted v) rs n program old = (leaving (exits.Resulted v) (machine.Listed E is s ∷ rs) ∷ [], (refl, tt, λ streams. refl))
+listed_out E is s (exits.Jumped l) rs n program old = absurd (n l refl)
 
 pub cases_out : (x y : exits.Exit) (rs : List machine.Rest) → IsBehindCases y x → PassesOn x (machine.Cases ∷ rs) y rs
-cases_out x y rs h program = (leaving x (machine.Cases ∷ rs) ∷ [], (refl, tt, λ st. ap (λ o. followed o (λ z. give (machine.Left z) rs)) (h st)))
+cases_out x y rs h program old = (leaving x (machine.Cases ∷ rs) ∷ [], (refl, tt, λ streams. ap (λ o. followed o (λ z. give (machine.Left z) rs)) (h (state_of old streams))))
 
 pub none_left : (is : List ListItem) (x : Exit) → length is < 1 → IsLeft (items is) (exit_of x) true
 none_left [] x l = λ E s rs. none_follows E s (exit_of x) rs
@@ -109,15 +113,15 @@ left_list E is s rs x (inr (inr (inr (inr (inr e))))) = subst (λ y. PassesOn (e
 
 -- one behind another
 
-append : (program : List Placed) (a b c : machine.At) (along more : List machine.At) → Passes program a along b → Passes program b more c → Passes program a (more ++ along) c
-append program a b c along [] h k = subst (λ z. Passes program a along z) k h
-append program a b c along (m ∷ more) h k = (append program a b m along more h k.0, k.1, k.2)
+pub append : (program : List Placed) (old : State) (a b c : machine.At) (along more : List machine.At) → Passes program old a along b → Passes program old b more c → Passes program old a (more ++ along) c
+append program old a b c along [] h k = subst (λ z. Passes program old a along z) k h
+append program old a b c along (m ∷ more) h k = (append program old a b m along more h k.0, k.1, k.2)
 
 pub passes_more : (x y z : exits.Exit) (rs rs1 rs2 : List machine.Rest) → PassesOn x rs y rs1 → PassesOn y rs1 z rs2 → PassesOn x rs z rs2
-passes_more x y z rs rs1 rs2 h k program =
-    let h0 = h program in
-    let k0 = k program in
-    (k0.0 ++ h0.0, append program (leaving x rs) (leaving y rs1) (leaving z rs2) h0.0 k0.0 h0.1 k0.1)
+passes_more x y z rs rs1 rs2 h k program old =
+    let h0 = h program old in
+    let k0 = k program old in
+    (k0.0 ++ h0.0, append program old (leaving x rs) (leaving y rs1) (leaving z rs2) h0.0 k0.0 h0.1 k0.1)
 
 -- what is left to do first is passed
 pub passed_top : (x : exits.Exit) (all : List Rest) (r : ExitRest) (found : Option Exit) → slice_get all (length all - 1) ≡ Some (rests.Exit r) → IsHandedOn x r found → IsPassed x all found
@@ -146,6 +150,35 @@ popped_by x all below (Some r) y n m e k l h = passed_by x all below r y e (h.1 
 pub popped_less : (x : exits.Exit) (all : List Rest) (gone : Option Rest) (y : Exit) (n m : ℕ) → MatchOption gone ((n ≡ 0) × (m ≡ 0)) (λ r. m + 1 ≡ n) → length all ≡ n → IsPassed x all (Some y) → m < n
 popped_less x all None y n m k l h = let some = h.0 in let none = k.0 in absurd (omega (arith, some, none, l))
 popped_less x all (Some r) y n m k l h = omega (arith, k)
+
+-- an operator gets its first operand, and the second one comes next
+abbrev pub giving : ℕ → List machine.Rest → machine.At
+giving v rs = record { work = machine.Give (machine.Number v); rests = rs }
+
+second_next : (program : List Placed) (st : State) (E : machine.Spot) (op : Op) (b : Exp) (s v level : ℕ) (old new rs : List machine.Rest) → old ≡ machine.Operates E op b s ∷ rs → new ≡ machine.Operated op v ∷ rs → level ≡ s + 1
+    → Passes program st (giving v old) (giving v old ∷ []) (evaluating E b level new)
+second_next program st E op b s v level old new rs e k l =
+    subst (λ x. Passes program st (giving v x) (giving v x ∷ []) (evaluating E b level new)) (sym e)
+    (subst (λ y. Passes program st (giving v (machine.Operates E op b s ∷ rs)) (giving v (machine.Operates E op b s ∷ rs) ∷ []) (evaluating E b level y)) (sym k)
+    (subst (λ n. Passes program st (giving v (machine.Operates E op b s ∷ rs)) (giving v (machine.Operates E op b s ∷ rs) ∷ []) (evaluating E b n (machine.Operated op v ∷ rs))) (sym l) (refl, tt, λ streams. refl)))
+
+pub second_ran : (program : List Placed) (o : Operator) (v level : ℕ) (all below middle : List Rest) (gone : Option Rest) (n m : ℕ) (old : State) (p : Progress) (rs1 : List machine.Rest) (vs1 : List ℕ) (new : State)
+    → IsOperator (Some o) all → all ≡ below ++ option_to_list gone → MatchOption gone ((n ≡ 0) × (m ≡ 0)) (λ r. m + 1 ≡ n) → length all ≡ n
+    → stack middle ≡ stacked (stack below) (given below) (rests.Number (number_rests.Operated o.op v)) → level ≡ o.s + 1
+    → Ran program (evaluating (spot_of o.spot) (exp o.second.now) level (stack middle)) old p rs1 vs1 new
+    → Ran program (giving v (stack all)) old p rs1 vs1 new
+second_ran program o v level all below middle None n m old p rs1 vs1 new is e k l put lv h = let some = some_there all (rests.Number (number_rests.Operates o.spot o.op o.second o.s)) is in let none = k.0 in absurd (omega (arith, some, none, l))
+second_ran program o v level all below middle (Some r) n m old p rs1 vs1 new is e k l put lv h =
+    let first = rests.Number (number_rests.Operates o.spot o.op o.second o.s) in
+    let top : r ≡ first = last_is all below r first e is in
+    let front : stack all ≡ stacked (stack below) (given below) first = ap stack e ∙ (stack_more below r ∙ ap (λ q. stacked (stack below) (given below) q) top) in
+    record {
+      middle = h.middle;
+      along = h.along ++ (giving v (stack all) ∷ []);
+      passes = append program old (giving v (stack all)) (evaluating (spot_of o.spot) (exp o.second.now) level (stack middle)) h.middle (giving v (stack all) ∷ []) h.along
+          (second_next program old (spot_of o.spot) o.op (exp o.second.now) o.s v level (stack all) (stack middle) (stack below) front put lv) h.passes;
+      comes = h.comes;
+    }
 
 -- one step
 pub ran : (program : List Placed) (w : machine.Work) (rs : List machine.Rest) (old : State) (p : Progress) (rs1 : List machine.Rest) (vs1 : List ℕ) (new : State) → Stepped program w rs old p rs1 vs1 new → Ran program (record { work = w; rests = rs }) old p rs1 vs1 new

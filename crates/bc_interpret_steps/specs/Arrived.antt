@@ -1,5 +1,5 @@
 -- For proofs: what a call comes to.
-use Rattle.std.specs.Prelude.{ℕ, ◌≡◌, ◌+◌, Bool, List, reverse, Option, Some, Result, OnOk}
+use Rattle.std.specs.Prelude.{ℕ, ◌≡◌, ◌+◌, Bool, false, List, [], ◌∷◌, ◌++◌, reverse, Option, Some, None, Result, OnOk}
 use Rattle.bc_core.specs.Map.{Placed}
 use Rattle.bc_core.specs.Meaning.{Callee, OfLibrary, callee, passed}
 use Rattle.bc_core.specs.Outcome as outcomes
@@ -7,12 +7,15 @@ use Rattle.bc_core.specs.Outcome.{followed, left}
 use Rattle.bc_core.specs.Primitive as primitives
 use Rattle.bc_core.specs.Primitive.{primitive_work}
 use Rattle.bc_machine_defs.specs.Streams.{Content}
-use Rattle.bc_core.specs.Tree.{no_argument, argument}
+use Rattle.bc_core.specs.Tree.{Exp, Args, no_argument, argument}
+use Rattle.bc_core.specs.Value.{has_call}
 use Rattle.bc_core.specs.View.{exp, args}
 use Rattle.bc_core.specs.declared.expression.CoreExp.{CoreExp}
 use Rattle.bc_interpret_steps.specs.declared.arguments.Given.{Given}
 use Rattle.bc_interpret_steps.specs.declared.arguments.Given.TheVariants as forms
 use Rattle.bc_interpret_defs.specs.Machine as machine
+use Rattle.bc_interpret_defs.specs.Quiet as quiet
+use Rattle.bc_interpret_defs.specs.Quiet.{worth}
 use Rattle.bc_interpret_defs.specs.Machine.{give, arrive}
 use Rattle.bc_interpret_defs.specs.Meeting.{Refused}
 use Rattle.bc_interpret_quiet.specs.Causes.{cause_of}
@@ -83,3 +86,27 @@ Arrives table value fresh f before old result after new =
     → let vs = given_for fresh (given before.rests.items) in
     OnOk result (Lands (arrive (callee program value) vs f (stack before.rests.items)) (callee program value) value vs f old after.next
     (stack after.rests.items) (given after.rests.items) new)
+
+-- the same of the value, with the arguments that were gathered
+abbrev pub LandsAt :
+    {A E : Type 0} → List Callable → (value frame : ℕ) → (before : Stacks) → (old : State) → Result A E → (after : Stacks) → (new : State) → Type 0
+LandsAt table value f before old result after new =
+    (program : List Placed) → IsTable program table → Enters (callee program value) value f before old result after new
+
+-- no call stands in these arguments, and these are their values
+abbrev pub AreWorth : quiet.Sight → Args → List ℕ → Type 0
+AreWorth S no_argument [] = Unit {0}
+AreWorth S no_argument (v ∷ vs) = ⊥
+AreWorth S (argument e es) [] = ⊥
+AreWorth S (argument e es) (v ∷ vs) = (has_call e ≡ false) × (quiet.Is v ≡ (worth S e).value) × AreWorth S es vs
+
+-- the routine's value, and those of the arguments, where they were found
+abbrev pub IsWorkedOut : quiet.Sight → Args → Exp → Option ℕ → List ℕ → Type 0
+IsWorkedOut S es f None vs = Unit {0}
+IsWorkedOut S es f (Some v) vs = AreWorth S es vs × (has_call f ≡ false) × (quiet.Is v ≡ (worth S f).value)
+
+-- For proofs: the values of the last arguments are here, and the others are left.
+pub record WorkedOut (S : quiet.Sight) (all left : List CoreExp) (vs : List ℕ) : Type 0 where
+  pub done : List CoreExp
+  pub split : all ≡ left ++ done
+  pub worths : AreWorth S (args done) (reverse vs)

@@ -1,11 +1,18 @@
 -- For proofs: steps that change no cell and take no turn, one behind another, and a last one behind them.
-use Rattle.std.specs.Prelude.{ℕ, ◌≡◌, ◌<◌, Bool, true, false, List, [], ◌∷◌, ◌++◌, length, Option, Some, None, Vec, Result, OnOk}
+use Rattle.std.specs.Prelude.{ℕ, ◌≡◌, ◌⊎◌, ◌-◌, ◌<◌, slice_get, Bool, true, false, List, [], ◌∷◌, ◌++◌, length, Option, Some, None, Vec, Result, OnOk}
 use Rattle.std.specs.declared.alloc.Global.{Global}
 use Rattle.bc_core.specs.Commands.{Items}
 use Rattle.bc_core.specs.Exit as exits
 use Rattle.bc_core.specs.Map.{Placed}
 use Rattle.bc_core.specs.Outcome as outcomes
+use Rattle.bc_core.specs.Tree.{Exp, Bin, Call}
+use Rattle.bc_core.specs.View.{exp, args}
+use Rattle.bc_core.specs.Value.{has_call}
+use Rattle.bc_interpret_defs.specs.Quiet.{worth}
+use Rattle.bc_interpret_quiet.specs.declared.worth.Worth.{Worth}
+use Rattle.bc_interpret_quiet.specs.Views.{seen}
 use Rattle.bc_interpret_defs.specs.Machine as machine
+use Rattle.bc_machine_defs.specs.Streams.{Content}
 use Rattle.bc_interpret_defs.specs.Machine.{step}
 use Rattle.bc_interpret_defs.specs.Running.{Moves}
 use Rattle.bc_interpret_steps.specs.declared.state.State.{State}
@@ -14,10 +21,14 @@ use Rattle.bc_interpret_steps.specs.declared.forms.Work.{Work}
 use Rattle.bc_interpret_steps.specs.declared.forms.Work.TheVariants as works
 use Rattle.bc_interpret_steps.specs.declared.forms.Progress.{Progress}
 use Rattle.bc_interpret_steps.specs.declared.forms.Progress.TheVariants as progress
+use Rattle.bc_interpret_steps.specs.declared.inward.FirstCall.{FirstCall}
+use Rattle.bc_interpret_steps.specs.declared.operands.Operator.{Operator}
+use Rattle.bc_interpret_steps.specs.declared.rests.NumberRest.TheVariants as number_rests
 use Rattle.bc_interpret_steps.specs.declared.rests.ExitRest.{ExitRest}
 use Rattle.bc_interpret_steps.specs.declared.rests.Rest.{Rest}
 use Rattle.bc_interpret_steps.specs.declared.rests.Rest.TheVariants as rests
 use Rattle.bc_interpret_steps.specs.declared.sections.Callable.{Callable}
+use Rattle.bc_interpret_steps.specs.Came.{state_of, sight, progress_of}
 use Rattle.bc_interpret_steps.specs.Code.{exit_of, exit_rest, stack, given}
 use Rattle.bc_interpret_steps.specs.Sections.{IsTable}
 use Rattle.bc_interpret_steps.specs.Stepped.{Stepped}
@@ -27,17 +38,18 @@ abbrev pub work_next : Progress → Work
 work_next (progress.On w) = w
 work_next p = works.Nothing
 
--- such steps lead from here to there, by way of these
-abbrev pub Passes : List Placed → (from : machine.At) → (along : List machine.At) → (to : machine.At) → Type 0
-Passes program from [] to = from ≡ to
-Passes program from (middle ∷ along) to =
-    Passes program from along middle × Moves middle.work middle.rests × ((st : outcomes.State) → step program middle.work middle.rests st ≡ outcomes.Done to st)
+-- such steps lead from here to there in this state, by way of these
+abbrev pub Passes : List Placed → State → (from : machine.At) → (along : List machine.At) → (to : machine.At) → Type 0
+Passes program old from [] to = from ≡ to
+Passes program old from (middle ∷ along) to =
+    Passes program old from along middle × Moves middle.work middle.rests
+    × ((streams : Content) → step program middle.work middle.rests (state_of old streams) ≡ outcomes.Done to (state_of old streams))
 
 -- such steps, and then one of which this came
 pub record Ran (program : List Placed) (from : machine.At) (old : State) (p : Progress) (rs : List machine.Rest) (vs : List ℕ) (new : State) : Type 0 where
   pub middle : machine.At
   pub along : List machine.At
-  pub passes : Passes program from along middle
+  pub passes : Passes program old from along middle
   pub comes : Stepped program middle.work middle.rests old p rs vs new
 
 abbrev pub RunsOver :
@@ -47,13 +59,50 @@ RunsOver table w before old result p after new =
     (program : List Placed) → IsTable program table
     → OnOk result (Ran program (record { work = w; rests = stack before.items }) old p (stack after.items) (given after.items) new)
 
+-- an expression comes next
+abbrev pub evaluating : machine.Spot → Exp → ℕ → List machine.Rest → machine.At
+evaluating E e s rs = record { work = machine.Evaluate E e s; rests = rs }
+
+-- such steps from an expression on
+abbrev pub RunsInto :
+    {A F : Type 0}
+    → List Callable → machine.Spot → Exp → ℕ → (before : Vec Rest Global) → (old : State) → Result A F → Progress → (after : Vec Rest Global) → (new : State)
+    → Type 0
+RunsInto table E e s before old result p after new = RunsOver table (machine.Evaluate E e s) before old result p after new
+
+-- its worth; or such steps, where a call stands in it
+abbrev pub Entered : List Placed → machine.Spot → Exp → ℕ → (before : List Rest) → (old : State) → Progress → (after : List Rest) → (new : State) → Type 0
+Entered program E e s before old p after new =
+    ((w : Worth) × (has_call e ≡ false) × (seen w ≡ (worth (sight old E) e).value) × (p ≡ progress_of w) × (stack after ≡ stack before) × (new ≡ old))
+    ⊎ ((has_call e ≡ true) × Ran program (evaluating E e s (stack before)) old p (stack after) (given after) new)
+
+abbrev pub Enters :
+    {A F : Type 0}
+    → List Callable → machine.Spot → Exp → ℕ → (before : Vec Rest Global) → (old : State) → Result A F → Progress → (after : Vec Rest Global) → (new : State)
+    → Type 0
+Enters table E e s before old result p after new =
+    (program : List Placed) → IsTable program table → OnOk result (Entered program E e s before.items old p after.items new)
+
+-- an operator whose first operand is a call
+abbrev pub first_called : FirstCall → Exp
+first_called o = Bin o.op (Call (args o.arguments.now) (exp o.routine.now)) (exp o.second.now)
+
+abbrev pub IsFirstCall : Exp → Option FirstCall → Type 0
+IsFirstCall e None = Unit {0}
+IsFirstCall e (Some o) = first_called o ≡ e
+
+-- what is left to do first is this operator, which gets its first operand
+abbrev pub IsOperator : Option Operator → List Rest → Type 0
+IsOperator None all = Unit {0}
+IsOperator (Some o) all = slice_get all (length all - 1) ≡ Some (rests.Number (number_rests.Operates o.spot o.op o.second o.s))
+
 -- control leaves so what is left to do first
 abbrev pub leaving : exits.Exit → List machine.Rest → machine.At
 leaving x rs = record { work = machine.Give (machine.Left x); rests = rs }
 
--- it comes to leave so, with this left to do
+-- it comes to leave so, with this left to do, in every state
 abbrev pub PassesOn : exits.Exit → List machine.Rest → exits.Exit → List machine.Rest → Type 0
-PassesOn x rs y rs1 = (program : List Placed) → (along : List machine.At) × Passes program (leaving x rs) along (leaving y rs1)
+PassesOn x rs y rs1 = (program : List Placed) (old : State) → (along : List machine.At) × Passes program old (leaving x rs) along (leaving y rs1)
 
 -- the items behind a command that control leaves so do nothing
 abbrev pub IsLeft : Items → exits.Exit → Bool → Type 0

@@ -1,18 +1,19 @@
 // The arguments of calls.
 
-ghost use Rattle.std.specs.Prelude.{◌≡◌, ◌∷◌, OnOk, IfOk};
+ghost use Rattle.std.specs.Prelude.{◌≡◌, ◌∷◌, reverse, IsTrue, OnOk, IfOk};
 ghost use Rattle.bc_core.specs.View.{exp, args};
 ghost use Rattle.bc_interpret_defs.specs.Machine as machine;
 ghost use Rattle.bc_interpret_steps.specs.Code.{spot_of, given_for, stack, given, Gathered, IsGiven, Taken};
-ghost use Rattle.bc_interpret_steps.specs.Arrived.{Argued, ArguedLast, IsGivenOne};
+ghost use Rattle.bc_interpret_steps.specs.Arrived.{Argued, ArguedLast, IsGivenOne, AreWorth, IsWorkedOut};
+ghost use Rattle.bc_interpret_steps.specs.Came.{sight};
 ghost use Rattle.bc_interpret_steps.specs.Stepped.{Proceeds};
 
 use crate::evaluate::{settled, worth_at};
-use crate::forms::{Arguments, Ending, Progress, Work};
+use crate::forms::{Arguments, Ending, Progress, Spot, Work};
 use crate::rests::{NumberRest, Rest, above, put, take};
 use crate::state::{Stacks, State};
 use bc_core::CoreExp;
-use bc_interpret_quiet::Worth;
+use bc_interpret_quiet::{Room, Worth};
 use bc_word::Memory;
 
 /// One step into the arguments that are left, and then into the routine's value. Those with no call in them are worked out at once.
@@ -173,7 +174,59 @@ fn gather<'c>(
     Ok(())
 }
 
+/// The values of these arguments, the last one first, and whether all have one: none has where a call stands in it.
+#[inline(always)]
+#[tactic(auto, using(crate::proofs::Direct::none_done, crate::proofs::Direct::one_done, crate::proofs::Direct::all_done))]
+fn values_of<'c>(
+    spot: &Spot<'c>,
+    arguments: &'c [CoreExp],
+    values: &mut Vec<u16>,
+    room: &mut Room<'c>,
+    state: &State,
+) -> Result<bool, Memory>
+    ensures { IfOk result (λ all. IsTrue all → AreWorth (sight state.now (spot_of spot.now)) (args arguments.now) (reverse values.new.items)) }
+{
+    values.clear();
+    let mut left = arguments;
+    while let Some((last, before)) = left.split_last() {
+        let found = worth_at(spot, last, room, state)?;
+        match found {
+            Some(Worth::Is(v)) => values.push(v)?,
+            _ => return Ok(false),
+        }
+        left = before;
+    }
+    Ok(true)
+}
+
 impl<'c> Stacks<'c> {
+    /// The routine's value, where it and all arguments have one: then the arguments are here, the last one first. Where a call stands in one of
+    /// them, or one has no value, there is none.
+    ///
+    /// `Memory` comes where an allocation was refused.
+    #[inline(always)]
+    pub(crate) fn worked_out(
+        &mut self,
+        spot: &Spot<'c>,
+        arguments: &'c [CoreExp],
+        routine: &'c CoreExp,
+        state: &State,
+    ) -> Result<Option<u16>, Memory>
+        ensures worked { IfOk result (λ found.
+            IsWorkedOut (sight state.now (spot_of spot.now)) (args arguments.now) (exp routine.now) found (reverse self.new.arguments.items)) }
+        ensures rests { self.new.rests ≡ self.old.rests }
+    {
+        let all = values_of(spot, arguments, &mut self.arguments, &mut self.room, state)?;
+        if !all {
+            return Ok(None);
+        }
+        let found = worth_at(spot, routine, &mut self.room, state)?;
+        match found {
+            Some(Worth::Is(value)) => Ok(Some(value)),
+            _ => Ok(None),
+        }
+    }
+
     /// Takes the arguments that are given from what is left to do, the last one first. There are none where the call is `fresh`.
     ///
     /// `Memory` comes where an allocation was refused.

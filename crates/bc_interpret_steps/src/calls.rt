@@ -2,15 +2,20 @@
 
 ghost use Rattle.std.specs.Prelude.{ℕ, Some, IfOk};
 ghost use Rattle.bc_core.specs.Meaning.{OfLibrary};
-ghost use Rattle.bc_interpret_steps.specs.Arrived.{Enters, Arrives};
+ghost use Rattle.bc_core.specs.Tree as tree;
+ghost use Rattle.bc_core.specs.View.{exp, args};
+ghost use Rattle.bc_interpret_steps.specs.Arrived.{Enters, Arrives, LandsAt};
 ghost use Rattle.bc_interpret_steps.specs.Came.{Framed, IsPrimitive, primitive_of};
+ghost use Rattle.bc_interpret_steps.specs.Code.{spot_of};
+ghost use Rattle.bc_interpret_steps.specs.Passing.{RunsInto};
 ghost use Rattle.bc_interpret_steps.specs.Sections.{IsSized, callee_of};
 
+use crate::evaluate::call;
 use crate::forms::{Primitive, Progress, Spot, Work};
 use crate::rests::{ExitRest, Rest, above, put};
 use crate::sections::{Callable, routine_at};
-use crate::state::{Stacks, State, turn};
-use bc_core::Body;
+use crate::state::{Called, Stacks, State, turn};
+use bc_core::{Body, CoreExp};
 use bc_interpret_quiet::Cause;
 use bc_machine_defs::Side;
 use bc_word::Memory;
@@ -144,6 +149,25 @@ pub(crate) fn arrive<'c>(
     ensures { Arrives table.now routine fresh frame stacks.old state.old result stacks.new state.new }
 {
     stacks.gather(fresh)?;
+    land(table, routine, frame, stacks, state)
+}
+
+/// A value is called, in the frame at this address, with these arguments, the last one first.
+#[inline(always)]
+fn land<'c>(
+    table: &[Callable<'c>],
+    routine: u16,
+    frame: u32,
+    stacks: &mut Stacks<'c>,
+    state: &mut State,
+) -> Result<(), Memory>
+    ensures { LandsAt table.now routine frame stacks.old state.old result stacks.new state.new }
+{
+    stacks.called = Called {
+        least: stacks.rests.len().saturating_add(1),
+        frame,
+        routine,
+    };
     match routine_at(table, routine) {
         Some(entry) => enter_routine(entry, frame, stacks, state),
         None => match primitive_at(routine) {
@@ -153,5 +177,28 @@ pub(crate) fn arrive<'c>(
                 Ok(())
             }
         },
+    }
+}
+
+/// One step into a call, and into the routine where no call stands in the arguments and in the routine's value.
+pub(crate) fn call_now<'c>(
+    table: &[Callable<'c>],
+    spot: Spot<'c>,
+    arguments: &'c [CoreExp],
+    routine: &'c CoreExp,
+    s: u32,
+    stacks: &mut Stacks<'c>,
+    state: &mut State,
+) -> Result<(), Memory>
+    ensures { RunsInto table.now (spot_of spot.entry) (tree.Call (args arguments.now) (exp routine.now)) s stacks.old.rests state.old result
+        stacks.new.next stacks.new.rests state.new }
+{
+    let found = stacks.worked_out(&spot, arguments, routine, state)?;
+    match found {
+        Some(value) => {
+            let frame = above(spot.frame, s)?;
+            land(table, value, frame, stacks, state)
+        }
+        None => call(spot, arguments, routine, s, stacks, state),
     }
 }

@@ -107,7 +107,7 @@ pub(crate) fn evaluate<'c>(
 }
 
 /// One step into an expression in which a call stands.
-fn evaluate_parts<'c>(
+pub(crate) fn evaluate_parts<'c>(
     spot: Spot<'c>,
     e: &'c CoreExp,
     s: u32,
@@ -159,7 +159,7 @@ fn evaluate_parts<'c>(
 }
 
 /// One step into a call.
-fn call<'c>(
+pub(crate) fn call<'c>(
     spot: Spot<'c>,
     arguments: &'c [CoreExp],
     routine: &'c CoreExp,

@@ -1,6 +1,7 @@
 //! The steps of a run of a resolved program. Each takes what is at work and what is left to do to the next, as the machine of
-//! `bc_interpret_defs` does, or some steps further where control only leaves commands. None takes native stack for the depth of calls;
-//! trees take it down to a depth of 16.
+//! `bc_interpret_defs` does, or some steps further: where control only leaves commands, where a number is an operator's first operand, past a
+//! condition in which no call stands, into a call that is an operator's first operand, and into the routine that is called. None takes native
+//! stack for the depth of calls; trees take it down to a depth of 16.
 #![tactic(auto)]
 
 mod answers;
@@ -11,8 +12,10 @@ mod commands;
 mod evaluate;
 mod exits;
 mod forms;
+mod inward;
 mod lists;
 mod numbers;
+mod operands;
 mod rests;
 mod sections;
 mod state;
@@ -22,5 +25,5 @@ mod truths;
 pub use forms::{Arguments, Ending, Exit, Primitive, Progress, Spot, Work};
 pub use rests::{ExitRest, NothingRest, NumberRest, Rest, TruthRest, ValueRest, put};
 pub use sections::{Callable, Section};
-pub use state::{Stacks, State};
+pub use state::{Called, Stacks, State};
 pub use steps::step;

@@ -15,11 +15,21 @@ pub struct State {
     pub turns: u64,
 }
 
+/// What was called in a step: the address, that of the frame, and how much is left to do at least while the run is in there, which is 0 where
+/// the step called nothing.
+#[derive(Clone, Copy)]
+pub struct Called {
+    pub least: usize,
+    pub frame: u32,
+    pub routine: u16,
+}
+
 /// What came of the last step and what is left to do, and memory that serves again: for expressions without call, and for the arguments
 /// of a call.
 #[derive(Drop)]
 pub struct Stacks<'c> {
     pub next: Progress<'c>,
+    pub called: Called,
     pub rests: Vec<Rest<'c>>,
     pub room: Room<'c>,
     pub arguments: Vec<u16>,

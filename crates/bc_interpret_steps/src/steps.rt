@@ -3,20 +3,24 @@
 ghost use Rattle.bc_interpret_steps.specs.Code.{work_of, given};
 ghost use Rattle.bc_interpret_steps.specs.Passing.{RunsOver, work_next};
 
-use crate::answers::{give_exit, give_nothing, give_number, give_verdict};
+use crate::answers::{give_exit, give_nothing, give_verdict};
 use crate::arguments::argue;
 use crate::commands::{
     declare, enter, initialise, perform, repeat, repeat_while, round, store, while_loop,
 };
-use crate::evaluate::{decide, evaluate};
+use crate::evaluate::decide;
 use crate::forms::{Progress, Work};
+use crate::inward::go_into;
 use crate::lists::listing;
+use crate::operands::hand_number;
 use crate::sections::Callable;
 use crate::state::{Stacks, State};
 use bc_word::Memory;
 
 /// One step of a run, and what comes of it. What stands next is done, or nothing is given to what is left where nothing stands there. Steps in which
-/// control only leaves one command after the other are taken in one.
+/// control only leaves one command after the other are taken in one. So are that in which an operator gets its first operand and the step into the
+/// second one, that past a condition in which no call stands and the step into its branch, those into an operator and into the call that is its
+/// first operand, and those into a call and into its routine, where no call stands in the arguments. What was called is told in `called`.
 ///
 /// `Memory` comes where an allocation was refused.
 #[inline(always)]
@@ -28,8 +32,9 @@ pub fn step<'c>(
     ensures { RunsOver table.now (work_of (given stacks.old.rests.items) (work_next stacks.old.next)) stacks.old.rests state.old result stacks.new.next
         stacks.new.rests state.new }
 {
+    stacks.called.least = 0;
     match stacks.next {
-        Progress::On(Work::Evaluate(spot, e, s)) => evaluate(spot, e, s, stacks, state),
+        Progress::On(Work::Evaluate(spot, e, s)) => go_into(table, spot, e, s, stacks, state),
         Progress::On(Work::Decide(spot, e, s)) => decide(spot, e, s, stacks, state),
         Progress::On(Work::Argue(arguments)) => argue(arguments, stacks, state),
         Progress::On(Work::Store(spot, value, address, s)) => {
@@ -56,7 +61,7 @@ pub fn step<'c>(
         Progress::On(Work::Round(spot, limit, by, body, s)) => {
             round(spot, limit, by, body, s, stacks, state)
         }
-        Progress::On(Work::Number(v)) => give_number(table, v, stacks, state),
+        Progress::On(Work::Number(v)) => hand_number(table, v, stacks, state),
         Progress::On(Work::Verdict(t)) => give_verdict(table, t, stacks, state),
         Progress::On(Work::Left(exit)) => give_exit(table, exit, stacks, state),
         Progress::On(Work::Nothing) => give_nothing(table, stacks, state),

@@ -63,10 +63,27 @@ impl<'c> Trace<'c> {
             self.forget(rests.len());
         }
         match stacks.next {
-            Progress::On(Work::Number(routine)) => self.call(routine, rests),
             Progress::On(Work::Verdict(true)) => self.branch(rests),
             _ => Ok(()),
         }
+    }
+
+    /// Follows a run into what the last step called, behind the step.
+    ///
+    /// `Memory` comes where an allocation was refused.
+    #[inline(always)]
+    pub fn enter(&mut self, stacks: &Stacks<'c>) -> Result<(), Memory> {
+        let called = stacks.called;
+        if called.least == 0 {
+            return Ok(());
+        }
+        self.mark(
+            called.least,
+            Within::Call {
+                routine: called.routine,
+                frame: called.frame as usize,
+            },
+        )
     }
 
     /// What was left is forgotten.
@@ -90,21 +107,6 @@ impl<'c> Trace<'c> {
         self.marks.push(Mark { least, within })?;
         self.least = least;
         Ok(())
-    }
-
-    /// A number, which is the routine where a call comes next.
-    fn call(&mut self, routine: u16, rests: &[Rest<'c>]) -> Result<(), Memory> {
-        let Some(Rest::Calls(fresh, frame)) = rests.last() else {
-            return Ok(());
-        };
-        let given = if *fresh { 0 } else { given(rests) };
-        self.mark(
-            rests.len().saturating_sub(given),
-            Within::Call {
-                routine,
-                frame: *frame as usize,
-            },
-        )
     }
 
     /// A truth, with which a TEST takes its first branch.
@@ -151,23 +153,6 @@ impl<'c> Trace<'c> {
         }
         Ok(standings)
     }
-}
-
-/// How many arguments are given to the call that comes next.
-fn given(rests: &[Rest<'_>]) -> usize {
-    let mut given = 0usize;
-    for rest in rests.iter().rev().skip(1) {
-        match rest {
-            Rest::Given(_, is_first) => {
-                given = given.saturating_add(1);
-                if *is_first {
-                    return given;
-                }
-            }
-            _ => return given,
-        }
-    }
-    given
 }
 
 /// What was seen of one call, from what is done first on, down to some place of what is left to do.

@@ -40,7 +40,7 @@ pub returns-in_ok-served-in-Serve : goal.returns-in_ok-served-in-Serve
 returns-in_ok-served-in-Serve g c =
     let old = c.args.run.now in
     let s = step_is c.args.table.now (next_of c.args.run.now) old.stacks.rests.items old.state c.step.new.stacks.rests.items c.step.new.state c.step.new.stacks.next _ c.in_ok-step.ensures c.in-Serve.is in
-    let new : Run = record old { state = c.serve.new.state; stacks = c.moved_by.new.stacks; name = c.serve.new.name; trace = c.follow.new.self } in
+    let new : Run = record old { state = c.serve.new.state; stacks = c.moved_by.new.stacks; name = c.serve.new.name; trace = c.enter.new.self } in
     let before = c.args.streams.now in
     let after = c.serve.new.streams in
     served_advances c.args.table.now (next_of c.args.run.now) old new c.in-Serve.primitive c.in-Serve.frame c.step.new.stacks c.step.new.state (g.S.Streams.known before) (g.S.Streams.known after) (g.S.Streams.content before) (g.S.Streams.content after) (g.S.Streams.failures before) (g.S.Streams.failures after)

@@ -4,5 +4,5 @@ use Rattle.bc_interpret_steps.proofs.answers.give_exit.Goals as goal
 
 pub returns : goal.returns
 returns c program table =
-    let way = c.pass-out.ensures program in
+    let way = c.pass-out.ensures program c.args.state.now in
     record { middle = leaving (exit_of c.pass-out.result) (stack c.pass-out.new.self.rests.items); along = way.0; passes = way.1; comes = c.in_ok-hand_exit.ensures program table }

@@ -9,7 +9,7 @@ use Rattle.bc_interpret_steps.proofs.steps.step.Goals as goal
 pub returns-in-On-Evaluate : goal.returns-in-On-Evaluate
 returns-in-On-Evaluate c =
     let t = c.in-On-Evaluate in
-    proceeds_loosely c.args.table.now c.args.stacks.now.next (works.Evaluate t.spot t.e t.s) c.args.stacks.now.rests c.args.state.now c.evaluate.result c.evaluate.new.stacks.next c.evaluate.new.stacks.rests c.args.state.now (t.is ∙ ap progress.On (rw t.is at t.field-0-is)) tt (λ program. c.evaluate.ensures)
+    ran_next c.args.table.now c.args.stacks.now.next (works.Evaluate t.spot t.e t.s) c.args.stacks.now.rests c.args.state.now c.go_into.result c.go_into.new.stacks.next c.go_into.new.stacks.rests c.go_into.new.state (t.is ∙ ap progress.On (rw t.is at t.field-0-is)) c.go_into.ensures
 
 pub returns-in-On-Decide : goal.returns-in-On-Decide
 returns-in-On-Decide c =
@@ -74,7 +74,7 @@ returns-in-On-Round c =
 pub returns-in-On-Number : goal.returns-in-On-Number
 returns-in-On-Number c =
     let t = c.in-On-Number in
-    ran_next c.args.table.now c.args.stacks.now.next (works.Number t.v) c.args.stacks.now.rests c.args.state.now c.give_number.result c.give_number.new.stacks.next c.give_number.new.stacks.rests c.give_number.new.state (t.is ∙ ap progress.On (rw t.is at t.field-0-is)) (ran_once c.args.table.now _ c.args.stacks.now.rests c.args.state.now c.give_number.result c.give_number.new.stacks.next c.give_number.new.stacks.rests c.give_number.new.state c.give_number.ensures)
+    ran_next c.args.table.now c.args.stacks.now.next (works.Number t.v) c.args.stacks.now.rests c.args.state.now c.hand_number.result c.hand_number.new.stacks.next c.hand_number.new.stacks.rests c.hand_number.new.state (t.is ∙ ap progress.On (rw t.is at t.field-0-is)) c.hand_number.ensures
 
 pub returns-in-On-Verdict : goal.returns-in-On-Verdict
 returns-in-On-Verdict c =

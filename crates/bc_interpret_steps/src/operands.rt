@@ -1,0 +1,76 @@
+// The second operand of an operator, which comes at once behind the first.
+
+ghost use Rattle.std.specs.Prelude.{Some};
+ghost use Rattle.bc_interpret_defs.specs.Machine as machine;
+ghost use Rattle.bc_interpret_steps.specs.Passing.{RunsOver, IsOperator};
+
+use crate::answers::give_number;
+use crate::forms::Spot;
+use crate::inward::go_over;
+use crate::rests::{NumberRest, Rest, above, put};
+use crate::sections::Callable;
+use crate::state::{Stacks, State};
+use bc_core::CoreExp;
+use bc_word::{Memory, Op};
+
+/// An operator whose first operand is worked out, with the second one and the operator's level.
+#[derive(Clone, Copy)]
+pub(crate) struct Operator<'c> {
+    pub(crate) spot: Spot<'c>,
+    pub(crate) op: Op,
+    pub(crate) second: &'c CoreExp,
+    pub(crate) s: u32,
+}
+
+/// The operator to which a number is handed as its first operand, if it is handed to one.
+#[inline(always)]
+fn waiting<'c>(rests: &[Rest<'c>]) -> Option<Operator<'c>>
+    ensures { IsOperator result rests.now }
+{
+    match rests.last() {
+        Some(Rest::Number(NumberRest::Operates(spot, op, second, s))) => Some(Operator {
+            spot: *spot,
+            op: *op,
+            second,
+            s: *s,
+        }),
+        _ => None,
+    }
+}
+
+/// A number is handed on. Where it is the first operand of an operator, the second one comes at once.
+#[inline(always)]
+pub(crate) fn hand_number<'c>(
+    table: &[Callable<'c>],
+    v: u16,
+    stacks: &mut Stacks<'c>,
+    state: &mut State,
+) -> Result<(), Memory>
+    ensures { RunsOver table.now (machine.Give (machine.Number v)) stacks.old.rests state.old result stacks.new.next stacks.new.rests state.new }
+{
+    match waiting(stacks.rests.as_slice()) {
+        Some(operator) => Ok(second(table, operator, v, stacks, state)?),
+        None => Ok(give_number(table, v, stacks, state)?),
+    }
+}
+
+/// The second operand of an operator whose first one is this number, which is handed to it.
+#[inline(always)]
+fn second<'c>(
+    table: &[Callable<'c>],
+    operator: Operator<'c>,
+    v: u16,
+    stacks: &mut Stacks<'c>,
+    state: &mut State,
+) -> Result<(), Memory>
+    requires { IsOperator (Some operator) stacks.now.rests.items }
+    ensures { RunsOver table.now (machine.Give (machine.Number v)) stacks.old.rests state.old result stacks.new.next stacks.new.rests state.new }
+{
+    let level = above(operator.s, 1)?;
+    let _gone = stacks.rests.pop();
+    put(
+        Rest::Number(NumberRest::Operated(operator.op, v)),
+        &mut stacks.rests,
+    )?;
+    go_over(table, operator.spot, operator.second, level, stacks, state)
+}
