@@ -24,8 +24,8 @@ use bc_interpret_quiet::Truth;
 use bc_word::{Memory, Op};
 
 /// An expression whose value is wanted is gone into. A condition in which no call stands is decided at once, and its branch comes with it. A call that
-/// is an operator's first operand comes with the operator.
-#[inline(always)]
+/// is an operator's first operand comes with the operator. It stands apart, so that `step` stays small enough to be a part of the loop around it.
+#[inline(never)]
 pub(crate) fn go_into<'c>(
     table: &[Callable<'c>],
     spot: Spot<'c>,

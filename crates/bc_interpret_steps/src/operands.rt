@@ -38,8 +38,8 @@ fn waiting<'c>(rests: &[Rest<'c>]) -> Option<Operator<'c>>
     }
 }
 
-/// A number is handed on. Where it is the first operand of an operator, the second one comes at once.
-#[inline(always)]
+/// A number is handed on. Where it is the first operand of an operator, the second one comes at once. It stands apart, as `go_into` does.
+#[inline(never)]
 pub(crate) fn hand_number<'c>(
     table: &[Callable<'c>],
     v: u16,

@@ -24,8 +24,8 @@ pub struct Called {
     pub routine: u16,
 }
 
-/// What came of the last step and what is left to do, and memory that serves again: for expressions without call, and for the arguments
-/// of a call.
+/// What came of the last step, what was called in it, and what is left to do; and memory that serves again: for expressions without call, and
+/// for the arguments of a call.
 #[derive(Drop)]
 pub struct Stacks<'c> {
     pub next: Progress<'c>,

@@ -2,7 +2,8 @@
 
 use crate::html::{Html, Part};
 use crate::items::{add_data, add_items};
-use crate::names::{GlobalName, Names, globals_of};
+use crate::locals::Locals;
+use crate::names::{CellName, GlobalName, Names, globals_of};
 use crate::placed::{Ground, Placed, Spot};
 use crate::root::add_root;
 use crate::runs::{Run, runs};
@@ -51,6 +52,7 @@ pub struct File<'p, 's> {
     /// The names of the places, by their labels from 1 on.
     names: Vec<&'s [u8]>,
     globals: Vec<GlobalName<'s>>,
+    locals: Locals<'s>,
     /// The runs in the order of the code, and by their lines.
     runs: Vec<Run>,
     placed: Placed,
@@ -66,12 +68,14 @@ impl<'p, 's> File<'p, 's> {
         let names = ground.texts(alloc, outline.places.as_slice())?;
         let runs = runs(alloc, &marks, program.entries)?;
         let placed = Placed::of(alloc, runs.as_slice(), &marks, &ground)?;
+        let locals = Locals::new(alloc, program.section, &marks, program.entries)?;
         Ok(File {
             program,
             ground,
             marks,
             names,
             globals: globals_of(alloc, program.section)?,
+            locals,
             runs,
             placed,
         })
@@ -100,6 +104,14 @@ impl<'p, 's> File<'p, 's> {
         }
     }
 
+    /// The names of the cells where the root of this entry stands.
+    fn cells_of(&self, alloc: Global, index: usize) -> Result<Vec<CellName<'s>>, Memory> {
+        match self.marks.leaves.get(index) {
+            Some(leaf) => self.locals.at(alloc, *leaf),
+            None => Ok(Vec::new(alloc)),
+        }
+    }
+
     /// Adds items that don't open, and what they are.
     fn add_plain(html: &mut Html, items: &[Item], what: &str) -> Result<(), Memory> {
         html.mark("<div class=\"own\">")?;
@@ -119,20 +131,22 @@ impl<'p, 's> File<'p, 's> {
         }
         match self.program.entries.get(index) {
             Some(entry) => {
+                let cells = self.cells_of(html.alloc(), index)?;
                 let words = self.words_of(html.alloc(), index)?;
-                self.add_entry(html, entry, words, items)
+                self.add_entry(html, entry, words, items, cells.as_slice())
             }
             None => Ok(()),
         }
     }
 
-    /// Adds the items of an entry's root, of so many words, and below them why it has these.
+    /// Adds the items of an entry's root, of so many words, and below them why it has these, with these names of cells.
     fn add_entry(
         &self,
         html: &mut Html,
         entry: &Entry,
         words: u64,
         items: &[Item],
+        cells: &[CellName<'s>],
     ) -> Result<(), Memory> {
         html.mark("<details class=\"root\"><summary>")?;
         add_items(html, items)?;
@@ -144,6 +158,7 @@ impl<'p, 's> File<'p, 's> {
         let names = Names {
             places: self.names.as_slice(),
             globals: self.globals.as_slice(),
+            cells,
         };
         add_root(html, entry, words, names)?;
         html.mark("</details>\n")

@@ -5,6 +5,7 @@ mod chosen;
 mod file;
 mod html;
 mod items;
+mod locals;
 mod names;
 mod node;
 mod parts;

@@ -1,4 +1,4 @@
-//! The names of places and globals.
+//! The names of places, globals and cells.
 
 use bc_parse_tree::{Constant, Declaration, Exp, Section, Storage};
 use bc_word::Memory;
@@ -11,11 +11,19 @@ pub struct GlobalName<'s> {
     name: &'s [u8],
 }
 
-/// The names of the places, by their labels from 1 on, and those of the globals.
+/// A cell of a routine's frame with the name of its parameter or variable.
+#[derive(Clone, Copy)]
+pub struct CellName<'s> {
+    pub offset: u16,
+    pub name: &'s [u8],
+}
+
+/// The names of the places, by their labels from 1 on, those of the globals, and those of the cells where a root stands.
 #[derive(Clone, Copy)]
 pub struct Names<'k, 's> {
     pub places: &'k [&'s [u8]],
     pub globals: &'k [GlobalName<'s>],
+    pub cells: &'k [CellName<'s>],
 }
 
 /// The name of the place with this label; nothing where there is none.
@@ -32,6 +40,16 @@ pub fn global_name<'s>(globals: &[GlobalName<'s>], number: u16) -> &'s [u8] {
     for global in globals {
         if global.number == number {
             return global.name;
+        }
+    }
+    b""
+}
+
+/// The name of the cell at this offset; nothing where it has none.
+pub fn cell_name<'s>(cells: &[CellName<'s>], offset: u16) -> &'s [u8] {
+    for cell in cells {
+        if cell.offset == offset {
+            return cell.name;
         }
     }
     b""

@@ -2,7 +2,7 @@
 
 use crate::chosen::Chosen;
 use crate::html::{Html, Part};
-use crate::names::{Names, global_name, place_name};
+use crate::names::{Names, cell_name, global_name, place_name};
 use crate::parts::{ANY, At, PUSH};
 use crate::rules::{AIMS, add_name, add_told_name};
 use bc_candidates::{Beginning, Candidates};
@@ -17,7 +17,7 @@ pub struct Row<'e> {
     pub depth: u64,
 }
 
-/// What is known of a node: the rules that apply, those of the derivation, and the names of places and globals.
+/// What is known of a node: the rules that apply, those of the derivation, and the names of places, globals and cells.
 #[derive(Clone, Copy)]
 pub struct Known<'k, 's> {
     pub candidates: &'k Candidates,
@@ -25,7 +25,7 @@ pub struct Known<'k, 's> {
     pub names: Names<'k, 's>,
 }
 
-/// Adds the name of a place or a global.
+/// Adds the name of a place, a global or a cell.
 fn add_known_name(html: &mut Html, name: &[u8]) -> Result<(), Memory> {
     html.all(&[
         Part::Mark(" <span class=\"name\">"),
@@ -56,16 +56,17 @@ fn add_sign(html: &mut Html, e: &CoreExp) -> Result<(), Memory> {
     }
 }
 
-/// The name of a place or a global; nothing for another node.
+/// The name of a place, a global or a cell; nothing for another node.
 fn known_name<'s>(e: &CoreExp, names: Names<'_, 's>) -> &'s [u8] {
     match e {
         CoreExp::Place(label) => place_name(names.places, *label),
         CoreExp::Glob(number) => global_name(names.globals, *number),
+        CoreExp::Frame(offset) => cell_name(names.cells, *offset),
         _ => b"",
     }
 }
 
-/// Adds what stands at a node itself, with the name of a place or a global.
+/// Adds what stands at a node itself, with the name of a place, a global or a cell.
 fn add_head(html: &mut Html, e: &CoreExp, names: Names<'_, '_>) -> Result<(), Memory> {
     html.mark("<code>")?;
     add_sign(html, e)?;

@@ -11,7 +11,8 @@ use bc_core::Root;
 use bc_rules_defs::{Entry, Rule};
 use bc_word::Memory;
 
-/// What is known of the nodes of a root, in their order: the rules that apply, those of the derivation, and the names of places and globals.
+/// What is known of the nodes of a root, in their order: the rules that apply, those of the derivation, and the names of places, globals and
+/// cells.
 #[derive(Clone, Copy)]
 struct Nodes<'k, 's> {
     candidates: &'k [Candidates],

@@ -9,6 +9,9 @@ use bc_word::Memory;
 use bcpl_segments::{addresses, library_name};
 use std::alloc::Global;
 
+/// The global that a run calls first, START.
+const START: u16 = 1;
+
 /// Where a run stood when it ended.
 #[derive(Clone, Copy)]
 pub struct Stop {
@@ -299,7 +302,24 @@ fn add_advice(report: &mut Report, stop: &Stop, spot: Option<Spot>) -> Result<()
     }
 }
 
-/// Adds all that is said of the end of a run at this spot.
+/// Whether an item of these segments sets the global that a run calls first.
+fn sets_start(segments: &[Segment]) -> bool {
+    segments.iter().any(|segment| {
+        segment.items().iter().any(
+            |item| matches!(item, Item::Global { number, .. } if number.get() == START),
+        )
+    })
+}
+
+/// Adds that a run had no START, and what to do.
+fn add_no_start(report: &mut Report) -> Result<(), Memory> {
+    report.text("  nothing sets global 1, so there is no START to run\n")?;
+    report.help(
+        "a run begins with START, in capitals: GET \"LIBHDR\", and declare it by LET START() BE ..; or was the text left out that has it?",
+    )
+}
+
+/// Adds how a run ended at this spot.
 fn add_stop(
     report: &mut Report,
     texts: &[Text<'_>],
@@ -308,12 +328,12 @@ fn add_stop(
     spot: Option<Spot>,
 ) -> Result<(), Memory> {
     let address = address_sentence(image, spot, stop.address);
-    add_ended(report, stop, address, place_of(texts, spot))?;
-    add_advice(report, stop, spot)
+    add_ended(report, stop, address, place_of(texts, spot))
 }
 
-/// The lines on a run that ended otherwise than by finishing: the item at which it ended, in its text, and the routine. The segments
-/// are those of the texts behind the primitives, and the image is theirs. Memory is answered where a growth was refused.
+/// The lines on a run that ended otherwise than by finishing: the item at which it ended, in its text, and the routine; or, where no
+/// segment sets global 1, that there is no START. The segments are those of the texts behind the primitives, and the image is theirs.
+/// Memory is answered where a growth was refused.
 pub fn ended_lines(
     alloc: Global,
     texts: &[Text<'_>],
@@ -324,5 +344,10 @@ pub fn ended_lines(
     let spot = spot_at(alloc, segments, image, usize::from(stop.address))?;
     let mut report = Report::new(alloc);
     add_stop(&mut report, texts, image, stop, spot)?;
+    if sets_start(segments) {
+        add_advice(&mut report, stop, spot)?;
+    } else {
+        add_no_start(&mut report)?;
+    }
     Ok(report.into_text())
 }
