@@ -13,6 +13,7 @@ pub mod Listings
 pub mod Loads
 pub mod Loops
 pub mod Passing
+pub mod Performing
 pub mod Performs
 pub mod Piles
 pub mod Quiet

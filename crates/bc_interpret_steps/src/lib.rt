@@ -8,6 +8,7 @@ mod answers;
 mod arguments;
 mod assign;
 mod calls;
+mod carrying;
 mod commands;
 mod evaluate;
 mod exits;

@@ -5,9 +5,8 @@ ghost use Rattle.bc_interpret_steps.specs.Passing.{RunsOver, work_next};
 
 use crate::answers::{give_exit, give_nothing, give_verdict};
 use crate::arguments::argue;
-use crate::commands::{
-    declare, enter, initialise, perform, repeat, repeat_while, round, store, while_loop,
-};
+use crate::carrying::carry_out;
+use crate::commands::{declare, enter, initialise, repeat, repeat_while, round, store, while_loop};
 use crate::evaluate::decide;
 use crate::forms::{Progress, Work};
 use crate::inward::go_into;
@@ -40,7 +39,9 @@ pub fn step<'c>(
         Progress::On(Work::Store(spot, value, address, s)) => {
             store(spot, value, address, s, stacks, state)
         }
-        Progress::On(Work::Perform(spot, command, s)) => perform(spot, command, s, stacks, state),
+        Progress::On(Work::Perform(spot, command, s)) => {
+            carry_out(table, spot, command, s, stacks, state)
+        }
         Progress::On(Work::While(spot, condition, body, s)) => {
             while_loop(spot, condition, body, s, stacks, state)
         }

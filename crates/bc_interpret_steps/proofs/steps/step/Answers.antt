@@ -3,7 +3,7 @@ use Rattle.bc_interpret_steps.specs.declared.forms.Progress.TheVariants as progr
 use Rattle.bc_interpret_steps.specs.declared.forms.Work.TheVariants as works
 use Rattle.bc_interpret_steps.specs.Code.{work_of, given}
 use Rattle.bc_interpret_steps.specs.Passing.{RunsOver}
-use Rattle.bc_interpret_steps.proofs.Passing.{proceeds_next, proceeds_loosely, ran_next, ran_once, nothing_next}
+use Rattle.bc_interpret_steps.proofs.Passing.{proceeds_next, ran_next, ran_once, nothing_next}
 use Rattle.bc_interpret_steps.proofs.steps.step.Goals as goal
 
 pub returns-in-On-Evaluate : goal.returns-in-On-Evaluate
@@ -29,7 +29,7 @@ returns-in-On-Store c =
 pub returns-in-On-Perform : goal.returns-in-On-Perform
 returns-in-On-Perform c =
     let t = c.in-On-Perform in
-    proceeds_loosely c.args.table.now c.args.stacks.now.next (works.Perform t.spot t.command t.s) c.args.stacks.now.rests c.args.state.now c.perform.result c.perform.new.stacks.next c.perform.new.stacks.rests c.perform.new.state (t.is ∙ ap progress.On (rw t.is at t.field-0-is)) tt (λ program. c.perform.ensures)
+    ran_next c.args.table.now c.args.stacks.now.next (works.Perform t.spot t.command t.s) c.args.stacks.now.rests c.args.state.now c.carry_out.result c.carry_out.new.stacks.next c.carry_out.new.stacks.rests c.carry_out.new.state (t.is ∙ ap progress.On (rw t.is at t.field-0-is)) c.carry_out.ensures
 
 pub returns-in-On-While : goal.returns-in-On-While
 returns-in-On-While c =
