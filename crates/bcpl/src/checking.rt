@@ -1,10 +1,11 @@
 //! The command `check`.
 
-use crate::loading::{all_contents, explained, segments_of, texts_of};
+use crate::loading::{all_contents, explained, readable, segments_of, texts_of};
 use crate::output::of_output;
-use bc_cert::{CheckFault, Verdict, check, check_against, check_sums};
+use bc_cert::{CheckFault, Judged, Mismatch, Verdict, check, check_against, check_sums};
+use bc_text_items::Segment;
+use bc_word::Memory;
 use bcpl_faults::{Cause, Failure};
-use bcpl_files::contents;
 use bcpl_reports::{Text, against_lines, check_lines};
 use bcpl_words::CheckOrder;
 use std::alloc::Global;
@@ -12,23 +13,23 @@ use std::io::{BufReader, Read, Write};
 use std::rt::Files;
 use std::{fs, io};
 
-/// The failure of a certificate, with what is told of its place; the certificate is read once more for that.
-fn told_of_certificate<F: Files>(
+/// What is told of the place of a fault of a certificate, which is read once more for that. `Memory` comes where an allocation was refused,
+/// and where it can't be read.
+fn lines_on<F: Files>(
     rt: &F,
     alloc: Global,
-    failure: Failure,
     path: &str,
     fault: CheckFault,
-) -> Failure {
-    match contents(rt, alloc, path) {
-        Ok(bytes) => {
+) -> Result<String, Memory> {
+    match readable(rt, alloc, path) {
+        Some(bytes) => {
             let text = Text {
                 path,
                 bytes: bytes.as_slice(),
             };
-            explained(failure, check_lines(alloc, text, fault))
+            check_lines(alloc, text, fault)
         }
-        Err(_) => failure,
+        None => Err(Memory),
     }
 }
 
@@ -56,7 +57,7 @@ fn refused<F: Files>(rt: &F, alloc: Global, path: &str, fault: CheckFault, shows
         fault => {
             let failure = Failure::new(Cause::Check(fault));
             if shows {
-                told_of_certificate(rt, alloc, failure, path, fault)
+                explained(failure, lines_on(rt, alloc, path, fault))
             } else {
                 failure
             }
@@ -102,6 +103,15 @@ fn sums_of<F: Files>(
     }
 }
 
+/// How many entries these are, and their words in all.
+fn sums_in(entries: &[Judged]) -> (u64, u64) {
+    let mut words: u64 = 0;
+    for entry in entries {
+        words = words.saturating_add(entry.words);
+    }
+    (entries.len() as u64, words)
+}
+
 /// The same of a certificate that has the code of the texts that are named.
 fn sums_against<F: Files>(
     rt: &F,
@@ -110,12 +120,61 @@ fn sums_against<F: Files>(
     shows: bool,
 ) -> Result<(u64, u64), Failure> {
     let verdict = verdict_of(rt, alloc, order.certificate, shows)?;
-    compare(rt, alloc, order, &verdict, shows)?;
-    let mut words: u64 = 0;
-    for entry in &verdict.entries {
-        words = words.saturating_add(entry.words);
+    match compare(rt, alloc, order, &verdict, shows) {
+        Ok(()) => Ok(sums_in(verdict.entries.as_slice())),
+        Err(failure) => Err(failure),
     }
-    Ok((verdict.entries.len() as u64, words))
+}
+
+/// What a certificate says, and the texts that it is compared with, with their segments.
+#[derive(Clone, Copy)]
+struct Compared<'c> {
+    verdict: &'c Verdict,
+    texts: &'c [Text<'c>],
+    segments: &'c [Segment],
+}
+
+/// What is told of a certificate whose code the texts don't have; it is read once more for that. `Memory` comes where an allocation was
+/// refused, and where it can't be read.
+fn lines_against<F: Files>(
+    rt: &F,
+    alloc: Global,
+    path: &str,
+    compared: Compared<'_>,
+    mismatch: Mismatch,
+) -> Result<String, Memory> {
+    match readable(rt, alloc, path) {
+        Some(bytes) => {
+            let certificate = Text {
+                path,
+                bytes: bytes.as_slice(),
+            };
+            let with = (compared.texts, compared.segments);
+            against_lines(alloc, certificate, compared.verdict, with, mismatch)
+        }
+        None => Err(Memory),
+    }
+}
+
+/// Whether the texts have the code of the certificate of this path, and the failure where they don't.
+fn judged<F: Files>(
+    rt: &F,
+    alloc: Global,
+    path: &str,
+    compared: Compared<'_>,
+    shows: bool,
+) -> Result<(), Failure> {
+    match check_against(compared.verdict, compared.segments) {
+        Ok(()) => Ok(()),
+        Err(mismatch) => {
+            let failure = Failure::new(Cause::Against(mismatch));
+            Err(if shows {
+                explained(failure, lines_against(rt, alloc, path, compared, mismatch))
+            } else {
+                failure
+            })
+        }
+    }
 }
 
 /// Compares what a certificate says with the texts of these words.
@@ -126,36 +185,35 @@ fn compare<F: Files>(
     verdict: &Verdict,
     shows: bool,
 ) -> Result<(), Failure> {
-    let contents_of_texts = all_contents(rt, alloc, order.texts.as_slice())?;
-    let texts = texts_of(alloc, order.texts.as_slice(), contents_of_texts.as_slice())?;
+    let contents = all_contents(rt, alloc, order.texts.as_slice())?;
+    let texts = texts_of(alloc, order.texts.as_slice(), contents.as_slice())?;
     let segments = segments_of(alloc, texts.as_slice(), shows)?;
-    let Err(mismatch) = check_against(verdict, segments.as_slice()) else {
-        return Ok(())
+    let compared = Compared {
+        verdict,
+        texts: texts.as_slice(),
+        segments: segments.as_slice(),
     };
-    let failure = Failure::new(Cause::Against(mismatch));
-    if !shows {
-        return Err(failure);
-    }
-    match contents(rt, alloc, order.certificate) {
-        Ok(bytes) => {
-            let certificate = Text {
-                path: order.certificate,
-                bytes: bytes.as_slice(),
-            };
-            let compared = (texts.as_slice(), segments.as_slice());
-            Err(explained(
-                failure,
-                against_lines(alloc, certificate, verdict, compared, mismatch),
-            ))
-        }
-        Err(_) => Err(failure),
-    }
+    judged(rt, alloc, order.certificate, compared, shows)
 }
 
 /// Tells how many entries a certificate has, and their words in all.
 fn tell<O: Write + Drop>(entries: u64, words: u64, out: &mut O) -> io::Result<()> {
     writeln!(out, "ok {entries} {words}")?;
     out.flush()
+}
+
+/// How many entries the certificate of these words has, and their words in all, where it and what it is compared with are accepted.
+fn sums_asked<F: Files>(
+    rt: &F,
+    alloc: Global,
+    order: &CheckOrder<'_>,
+    shows: bool,
+) -> Result<(u64, u64), Failure> {
+    if order.texts.is_empty() {
+        sums_of(rt, alloc, order.certificate, shows)
+    } else {
+        sums_against(rt, alloc, order, shows)
+    }
 }
 
 /// Checks a certificate, and where texts are named, that they have its code. `shows` says whether the place of a refusal is told.
@@ -166,10 +224,6 @@ pub fn check_certificate<F: Files, O: Write + Drop>(
     shows: bool,
     out: &mut O,
 ) -> Result<(), Failure> {
-    let (entries, words) = if order.texts.is_empty() {
-        sums_of(rt, alloc, order.certificate, shows)?
-    } else {
-        sums_against(rt, alloc, order, shows)?
-    };
+    let (entries, words) = sums_asked(rt, alloc, order, shows)?;
     of_output(alloc, tell(entries, words, out))
 }

@@ -14,9 +14,10 @@ use bc_build::{BuildError, Built, build};
 use bc_cert::{CertFault, write_worked};
 use bc_text::{TextError, print};
 use bc_text_items::Segment;
+use bc_word::Memory;
 use bcpl_faults::{Cause, Failure};
 use bcpl_files::{Written, is_one_file};
-use bcpl_words::BuildOrder;
+use bcpl_words::{BuildOrder, Sources};
 use std::alloc::{AllocError, Global};
 use std::io;
 use std::io::Write;
@@ -38,6 +39,51 @@ pub fn refused(alloc: Global, program: &Program<'_, '_>, fault: BuildError, show
     }
 }
 
+/// What there is to warn of in a program that was built of these sources.
+fn warnings_on(
+    alloc: Global,
+    given: &Sources<'_>,
+    gathered: &Gathered<'_, '_>,
+) -> Result<String, Memory> {
+    let mut warnings = ignored_gets(alloc, given)?;
+    let further = warnings_of(alloc, gathered.library, &gathered.program())?;
+    warnings.push_str(further.as_str())?;
+    Ok(warnings)
+}
+
+/// What there is to warn of, where warnings are wanted.
+fn warnings_wanted(
+    alloc: Global,
+    order: &BuildOrder<'_>,
+    gathered: &Gathered<'_, '_>,
+    shows: bool,
+) -> Result<String, Memory> {
+    if order.warns && shows {
+        warnings_on(alloc, &order.sources, gathered)
+    } else {
+        Ok(String::new(alloc))
+    }
+}
+
+/// Builds a program that was gathered, with what there is to warn of. `shows` says whether places and warnings are told.
+fn built_of(
+    alloc: Global,
+    order: &BuildOrder<'_>,
+    gathered: &Gathered<'_, '_>,
+    shows: bool,
+) -> Result<(Built, String), Failure>
+    ensures { IfOk result (λ found. AllZip WorkedOut (map entry_view found.0.entries.items) found.0.workings.items) }
+{
+    let program = gathered.program();
+    match build(alloc, program.named.sources, program.mains) {
+        Ok(built) => match warnings_wanted(alloc, order, gathered, shows) {
+            Ok(warnings) => Ok((built, warnings)),
+            Err(_) => Err(Failure::new(Cause::Memory)),
+        },
+        Err(fault) => Err(refused(alloc, &program, fault, shows)),
+    }
+}
+
 /// Builds the program of BLIB and the files, with what there is to warn of. `shows` says whether places and warnings are told.
 fn built<F: Files>(
     rt: &F,
@@ -50,18 +96,15 @@ fn built<F: Files>(
     let given = &order.sources;
     let files = sources_of(rt, alloc, given)?;
     let gathered = Gathered::new(alloc, given, files.as_slice())?;
-    let program = gathered.program();
-    match build(alloc, program.named.sources, program.mains) {
-        Ok(built) => {
-            let mut warnings = String::new(alloc);
-            if order.warns && shows {
-                warnings = ignored_gets(alloc, given)?;
-                warnings.push_str(warnings_of(alloc, gathered.library, &program)?.as_str())?;
-            }
-            Ok((built, warnings))
-        }
-        Err(fault) => Err(refused(alloc, &program, fault, shows)),
+    built_of(alloc, order, &gathered, shows)
+}
+
+/// Writes the text of these segments.
+fn print_all<W: Write>(segments: &[Segment], out: &mut W) -> Result<(), TextError> {
+    for segment in segments {
+        print(segment, out)?;
     }
+    Ok(())
 }
 
 /// Writes the text of these segments to the file of this path, which has all of it or stays as it was.
@@ -72,17 +115,17 @@ fn write_segments<F: Files>(
     segments: &[Segment],
 ) -> Result<(), Failure> {
     let mut written = Written::begin(rt, alloc, path)?;
-    for segment in segments {
-        if let Err(fault) = print(segment, written.out()) {
+    match print_all(segments, written.out()) {
+        Ok(()) => written.finish(rt, alloc, path),
+        Err(fault) => {
             let failure = match fault {
                 TextError::Write => written.failure(alloc, path),
                 fault => Failure::from(fault),
             };
             written.abandon(rt);
-            return Err(failure);
+            Err(failure)
         }
     }
-    written.finish(rt, alloc, path)
 }
 
 /// Writes the certificate of a program to the file of this path, which has all of it or stays as it was.
@@ -109,20 +152,40 @@ fn write_certificate<F: Files>(
     }
 }
 
+/// Refuses a file to be written that is one of these sources.
+pub fn spare_given<F: Files>(
+    rt: &F,
+    alloc: Global,
+    path: &str,
+    given: &Sources<'_>,
+) -> Result<(), Failure> {
+    for binding in &given.gets {
+        spare(rt, alloc, path, binding.path)?;
+    }
+    for file in &given.files {
+        spare(rt, alloc, path, file)?;
+    }
+    Ok(())
+}
+
+/// Refuses a certificate to be written whose file is one of the sources, or the text's.
+fn spare_for_certificate<F: Files>(
+    rt: &F,
+    alloc: Global,
+    path: &str,
+    order: &BuildOrder<'_>,
+) -> Result<(), Failure> {
+    match spare_given(rt, alloc, path, &order.sources) {
+        Ok(()) => spare_text(rt, alloc, path, order.out),
+        Err(failure) => Err(failure),
+    }
+}
+
 /// Refuses a file to be written that is one of the sources, or the text where it is the certificate.
 fn spare_sources<F: Files>(rt: &F, alloc: Global, order: &BuildOrder<'_>) -> Result<(), Failure> {
-    for path in [Some(order.out), order.certificate] {
-        if let Some(path) = path {
-            for binding in &order.sources.gets {
-                spare(rt, alloc, path, binding.path)?;
-            }
-            for file in &order.sources.files {
-                spare(rt, alloc, path, file)?;
-            }
-        }
-    }
+    spare_given(rt, alloc, order.out, &order.sources)?;
     match order.certificate {
-        Some(path) => spare_text(rt, alloc, path, order.out),
+        Some(path) => spare_for_certificate(rt, alloc, path, order),
         None => Ok(()),
     }
 }
@@ -141,11 +204,28 @@ fn spare_text<F: Files>(rt: &F, alloc: Global, path: &str, text: &str) -> Result
 }
 
 /// Refuses a file to be written that is this source.
-pub fn spare<F: Files>(rt: &F, alloc: Global, path: &str, source: &str) -> Result<(), Failure> {
+fn spare<F: Files>(rt: &F, alloc: Global, path: &str, source: &str) -> Result<(), Failure> {
     if is_one_file(rt, path, source) {
         Err(Failure::file_since(alloc, path, "this is one of the sources, and would be lost"))
     } else {
         Ok(())
+    }
+}
+
+/// Writes the certificate that the words ask for, unless its file is the text's.
+fn write_beside<F: Files>(
+    rt: &F,
+    alloc: Global,
+    order: &BuildOrder<'_>,
+    path: &str,
+    built: &Built,
+) -> Result<(), Failure>
+    requires { AllZip WorkedOut (map entry_view built.now.entries.items) built.now.workings.items }
+{
+    // these may be two names of a file that wasn't there before
+    match spare_text(rt, alloc, path, order.out) {
+        Ok(()) => write_certificate(rt, alloc, path, built),
+        Err(failure) => Err(failure),
     }
 }
 
@@ -159,12 +239,10 @@ fn write_files<F: Files>(
     requires { AllZip WorkedOut (map entry_view built.now.entries.items) built.now.workings.items }
 {
     write_segments(rt, alloc, order.out, built.segments.as_slice())?;
-    let Some(path) = order.certificate else {
-        return Ok(());
-    };
-    // these may be two names of a file that wasn't there before
-    spare_text(rt, alloc, path, order.out)?;
-    write_certificate(rt, alloc, path, built)
+    match order.certificate {
+        Some(path) => write_beside(rt, alloc, order, path, built),
+        None => Ok(()),
+    }
 }
 
 /// Tells of a program's size.
@@ -185,6 +263,22 @@ fn make_room(alloc: Global) {
     let _room: Result<Vec<u8>, AllocError> = Vec::with_capacity(alloc, ROOM);
 }
 
+/// Writes the files of a program that was built, and tells of its size.
+fn write_and_tell<F: Files, O: Write + Drop>(
+    rt: &F,
+    alloc: Global,
+    order: &BuildOrder<'_>,
+    built: &Built,
+    out: &mut O,
+) -> Result<(), Failure>
+    requires { AllZip WorkedOut (map entry_view built.now.entries.items) built.now.workings.items }
+{
+    match write_files(rt, alloc, order, built) {
+        Ok(()) => of_output(alloc, tell(built, out)),
+        Err(failure) => Err(failure),
+    }
+}
+
 /// Builds a program, writes its text and certificate, and tells of its size; gives what there is to warn of. `shows` says whether
 /// the place of a refusal, and warnings, are told.
 pub fn compile<F: Files, O: Write + Drop>(
@@ -197,9 +291,11 @@ pub fn compile<F: Files, O: Write + Drop>(
     make_room(alloc);
     spare_sources(rt, alloc, order)?;
     let (program, warnings) = built(rt, alloc, order, shows)?;
-    write_files(rt, alloc, order, &program)?;
-    of_output(alloc, tell(&program, out))?;
+    let done = write_and_tell(rt, alloc, order, &program, out);
     // The process is about to end, and the system takes all memory back at once.
     forget(program);
-    Ok(warnings)
+    match done {
+        Ok(()) => Ok(warnings),
+        Err(failure) => Err(failure),
+    }
 }

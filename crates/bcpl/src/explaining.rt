@@ -55,6 +55,48 @@ fn lines_of_main(alloc: Global, program: &Program<'_, '_>, main: usize) -> Resul
     }
 }
 
+/// Adds the lines on what is refused in this main, in front of which so many were refused, and gives how many are refused with it.
+fn add_main(
+    told: &mut String,
+    alloc: Global,
+    program: &Program<'_, '_>,
+    main: usize,
+    count: usize,
+) -> Result<usize, Memory> {
+    let lines = lines_of_main(alloc, program, main)?;
+    if lines.is_empty() {
+        return Ok(count);
+    }
+    if count < MOST {
+        told.push_str(lines.as_str())?;
+    }
+    Ok(count.saturating_add(1))
+}
+
+/// Adds how many files are refused.
+fn add_count(told: &mut String, count: usize) -> Result<(), Memory> {
+    if count > 1 {
+        writeln!(told, "{count} files are refused")?;
+    }
+    Ok(())
+}
+
+/// Adds the lines on what is refused in the mains behind the first that is, and how many are refused.
+fn add_behind(
+    told: &mut String,
+    alloc: Global,
+    program: &Program<'_, '_>,
+    first: usize,
+) -> Result<(), Memory> {
+    let mut count: usize = 1;
+    for main in program.mains {
+        if *main > first {
+            count = add_main(told, alloc, program, *main, count)?;
+        }
+    }
+    add_count(told, count)
+}
+
 /// The lines on a refusal, and on those of the mains behind the one that is refused, ten at the most. Memory is answered where a
 /// growth was refused.
 pub fn explained(
@@ -63,25 +105,35 @@ pub fn explained(
     fault: &BuildError,
 ) -> Result<String, Memory> {
     let mut told = lines_of(alloc, program, fault)?;
-    let Some(first) = refused_main(fault) else {
-        return Ok(told)
-    };
-    let mut count: usize = 1;
-    for main in program.mains {
-        if *main > first {
-            let lines = lines_of_main(alloc, program, *main)?;
-            if !lines.is_empty() {
-                count = count.saturating_add(1);
-                if count <= MOST {
-                    told.push_str(lines.as_str())?;
-                }
-            }
-        }
-    }
-    if count > 1 {
-        writeln!(told, "{count} files are refused")?;
+    if let Some(first) = refused_main(fault) {
+        add_behind(&mut told, alloc, program, first)?;
     }
     Ok(told)
+}
+
+/// What is warned of where no routine sets the global that a run calls.
+const NO_START: &str =
+    "bcpl: warning: no routine sets global 1, so a run calls nothing; LET START() BE .. behind GET \"LIBHDR\" does\n";
+
+/// The lines of a warning that no routine sets the global that a run calls, and on those that are likely meant to.
+fn no_start(alloc: Global, library: usize, program: &Program<'_, '_>) -> Result<String, Memory> {
+    let mut told = String::from_str(alloc, NO_START)?;
+    let starts = likely_starts(alloc, program.named, library, program.mains)?;
+    told.push_str(starts.as_str())?;
+    Ok(told)
+}
+
+/// The lines of warnings on the global that a run calls; none where a routine sets it.
+fn start_warnings(
+    alloc: Global,
+    library: usize,
+    program: &Program<'_, '_>,
+) -> Result<String, Memory> {
+    if is_set(alloc, program.named.sources, program.mains, START)? {
+        Ok(String::new(alloc))
+    } else {
+        no_start(alloc, library, program)
+    }
 }
 
 /// The lines of warnings on a program that was built, of which so many sources in front are the library's. Memory is answered where a growth was refused.
@@ -90,15 +142,8 @@ pub fn warnings_of(
     library: usize,
     program: &Program<'_, '_>,
 ) -> Result<String, Memory> {
-    let mut told = String::new(alloc);
-    if !is_set(alloc, program.named.sources, program.mains, START)? {
-        told.push_str(
-            "bcpl: warning: no routine sets global 1, so a run calls nothing; LET START() BE .. behind GET \"LIBHDR\" does\n",
-        )?;
-        let starts = likely_starts(alloc, program.named, library, program.mains)?;
-        told.push_str(starts.as_str())?;
-    }
-    let warnings = warnings(alloc, program.named, library, program.mains)?;
-    told.push_str(warnings.as_str())?;
+    let mut told = start_warnings(alloc, library, program)?;
+    let further = warnings(alloc, program.named, library, program.mains)?;
+    told.push_str(further.as_str())?;
     Ok(told)
 }

@@ -3,9 +3,12 @@
 ghost use Rattle.std.specs.Prelude.{◌<◌, All, IfOk, length, vec_len};
 
 use crate::explaining::Program;
+use crate::growing::Growing;
+use crate::loading::add;
 use bc_lex::Source;
 use bc_library_ext::{EXTHDR, EXTLIB};
 use bc_run::{BLIB, LIBHDR};
+use bc_word::Memory;
 use bcpl_faults::Failure;
 use bcpl_files::contents;
 use bcpl_messages::Named;
@@ -51,10 +54,13 @@ pub fn sources_of<F: Files>(
 ) -> Result<Vec<Loaded>, Failure> {
     let mut sources = Vec::new(alloc);
     for binding in &given.gets {
-        sources.push(source_of(rt, alloc, binding.name, binding.path)?)?;
+        add(
+            &mut sources,
+            source_of(rt, alloc, binding.name, binding.path),
+        )?;
     }
     for path in &given.files {
-        sources.push(source_of(rt, alloc, path, path)?)?;
+        add(&mut sources, source_of(rt, alloc, path, path))?;
     }
     Ok(sources)
 }
@@ -66,7 +72,7 @@ fn mains_of(
     library: usize,
     gets: usize,
     sources: usize,
-) -> Result<Vec<usize>, Failure>
+) -> Result<Vec<usize>, Memory>
     ensures { IfOk result (λ mains. All (λ main. main < sources) mains.items) }
 {
     let mut mains = Vec::new(alloc);
@@ -83,38 +89,47 @@ fn mains_of(
     Ok(mains)
 }
 
+/// The name of the source of a library with this index.
+fn library_name<'s>(index: usize) -> &'s str {
+    match index {
+        0 => "LIBHDR",
+        1 => "BLIB",
+        2 => "EXTHDR",
+        _ => "EXTLIB",
+    }
+}
+
+/// The source of a library with this index.
+fn library_source<'s>(index: usize) -> Source<'s> {
+    let text = match index {
+        0 => LIBHDR,
+        1 => BLIB,
+        2 => EXTHDR,
+        _ => EXTLIB,
+    };
+    Source {
+        name: library_name(index).as_bytes(),
+        text: text.as_bytes(),
+    }
+}
+
 /// The sources of a program, as the compiler takes them: those of the library, then these.
 fn given_to_compiler<'s>(
     alloc: Global,
     library: usize,
     files: &'s [Loaded],
-) -> Result<Vec<Source<'s>>, Failure> {
-    let mut sources = Vec::new(alloc);
-    sources.push(Source {
-        name: b"LIBHDR",
-        text: LIBHDR.as_bytes(),
-    })?;
-    sources.push(Source {
-        name: b"BLIB",
-        text: BLIB.as_bytes(),
-    })?;
-    if library > BASIC_SOURCES {
-        sources.push(Source {
-            name: b"EXTHDR",
-            text: EXTHDR.as_bytes(),
-        })?;
-        sources.push(Source {
-            name: b"EXTLIB",
-            text: EXTLIB.as_bytes(),
-        })?;
+) -> Result<Vec<Source<'s>>, Memory> {
+    let mut sources = Growing::new(alloc);
+    for index in 0..library {
+        sources.add(library_source(index));
     }
     for file in files {
-        sources.push(Source {
+        sources.add(Source {
             name: file.name.as_slice(),
             text: file.text.as_slice(),
-        })?;
+        });
     }
-    Ok(sources)
+    sources.whole()
 }
 
 /// The paths under which sources are told, in the order of `given_to_compiler`.
@@ -122,21 +137,18 @@ fn paths_of<'a>(
     alloc: Global,
     library: usize,
     given: &Sources<'a>,
-) -> Result<Vec<&'a str>, Failure> {
-    let mut paths = Vec::new(alloc);
-    paths.push("LIBHDR")?;
-    paths.push("BLIB")?;
-    if library > BASIC_SOURCES {
-        paths.push("EXTHDR")?;
-        paths.push("EXTLIB")?;
+) -> Result<Vec<&'a str>, Memory> {
+    let mut paths = Growing::new(alloc);
+    for index in 0..library {
+        paths.add(library_name(index));
     }
     for binding in &given.gets {
-        paths.push(binding.path)?;
+        paths.add(binding.path);
     }
     for path in &given.files {
-        paths.push(path)?;
+        paths.add(*path);
     }
-    Ok(paths)
+    paths.whole()
 }
 
 /// The sources of a program as the compiler takes them, and which of them become a segment each.
@@ -158,7 +170,7 @@ impl<'a, 's> Gathered<'a, 's> {
         alloc: Global,
         given: &Sources<'a>,
         files: &'s [Loaded],
-    ) -> Result<Gathered<'a, 's>, Failure> {
+    ) -> Result<Gathered<'a, 's>, Memory> {
         let library = library_sources(given.library);
         let sources = given_to_compiler(alloc, library, files)?;
         let paths = paths_of(alloc, library, given)?;

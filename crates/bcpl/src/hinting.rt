@@ -1,24 +1,19 @@
 //! What is told behind a refusal of files, or of words, where another command is likely meant.
 
-use crate::loading::explained;
+use crate::loading::readable;
 use bc_build::BuildError;
 use bc_link::LinkError;
 use bc_word::Memory;
 use bcpl_faults::{Cause, Failure};
-use bcpl_files::{Kind, Wanted, bare, contents, hint, kind_of, named_twice};
+use bcpl_files::{Kind, Wanted, bare, hint, kind_of, named_twice};
 use bcpl_words::{BadWords, Guess, guess_of};
 use std::alloc::Global;
 use std::rt::Files;
 
 /// What is said of the file of this path, where it can be read and looks like something else than is wanted.
 fn hint_of<F: Files>(rt: &F, alloc: Global, wanted: Wanted, path: &str) -> Option<String> {
-    let Ok(bytes) = contents(rt, alloc, path) else {
-        return None;
-    };
-    match hint(alloc, wanted, path, bytes.as_slice()) {
-        Ok(said) => said,
-        Err(_) => None,
-    }
+    let bytes = readable(rt, alloc, path)?;
+    hint(alloc, wanted, path, bytes.as_slice()).ok()?
 }
 
 /// The files that a command takes.
@@ -28,7 +23,7 @@ pub struct Taken<'a> {
     wanted: Wanted,
     paths: &'a [&'a str],
     /// Whether more is told than the first line of a refusal.
-    shows: bool,
+    pub shows: bool,
 }
 
 impl<'a> Taken<'a> {
@@ -75,13 +70,13 @@ fn looks_of<F: Files>(rt: &F, alloc: Global, taken: Taken<'_>) -> Result<String,
 
 /// Whether the file of this path is a source, wanted as one, whose lines end by carriage returns alone.
 fn has_returns_alone<F: Files>(rt: &F, alloc: Global, wanted: Wanted, path: &str) -> bool {
-    let Ok(bytes) = contents(rt, alloc, path) else {
-        return false;
-    };
-    matches!(
-        (kind_of(bytes.as_slice()), wanted),
-        (Some(Kind::Returns), Wanted::Source)
-    )
+    match readable(rt, alloc, path) {
+        Some(bytes) => matches!(
+            (kind_of(bytes.as_slice()), wanted),
+            (Some(Kind::Returns), Wanted::Source)
+        ),
+        None => false,
+    }
 }
 
 /// Whether one of these files looks like something else than is wanted, so that no help on what it has is right.
@@ -104,6 +99,16 @@ fn without_help(told: &str) -> &str {
     }
 }
 
+/// What was told, and these lines behind it.
+fn joined(alloc: Global, told: &str, lines: &str) -> Result<String, Memory> {
+    let mut joined = String::from_str(alloc, told)?;
+    if !joined.is_empty() {
+        joined.push_str("\n")?;
+    }
+    joined.push_str(lines)?;
+    Ok(joined)
+}
+
 /// What is told of a refusal of these files: what was told, or where some look like something else than is wanted, that in the place of the
 /// help; of sources with carriage returns alone, that behind it.
 fn lines_on_files<F: Files>(
@@ -121,17 +126,37 @@ fn lines_on_files<F: Files>(
     } else {
         told.trim_end_matches('\n')
     };
-    let mut lines = String::from_str(alloc, kept)?;
-    if !lines.is_empty() {
-        lines.push_str("\n")?;
-    }
-    lines.push_str(looks.as_str())?;
-    Ok(lines)
+    joined(alloc, kept, looks.as_str())
 }
 
 /// The line on a file that is named twice.
 fn line_on_twice(alloc: Global, path: &str) -> Result<String, Memory> {
     Ok(format!(in alloc; "{path} is named twice, so that what it has would stand there twice\n")?)
+}
+
+/// What is told of a failure of a command that takes these files, in the place of what was told; none where that stays.
+fn lines_on_failure<F: Files>(
+    rt: &F,
+    alloc: Global,
+    failure: &Failure,
+    taken: Taken<'_>,
+) -> Option<String> {
+    if is_of_two_setters(&failure.cause) {
+        let path = named_twice(rt, taken.paths)?;
+        line_on_twice(alloc, path).ok()
+    } else if is_of_content(&failure.cause, taken.wanted) {
+        lines_on_files(rt, alloc, failure.told(), taken).ok()
+    } else {
+        None
+    }
+}
+
+/// A failure of a command that takes these files, with what is said of them.
+fn hinted<F: Files>(rt: &F, alloc: Global, failure: Failure, taken: Taken<'_>) -> Failure {
+    match lines_on_failure(rt, alloc, &failure, taken) {
+        Some(lines) => failure.with(lines),
+        None => failure,
+    }
 }
 
 /// What a command came to, which takes these files, with what is said of those that look like something else than is wanted, and of one that
@@ -142,21 +167,46 @@ pub fn with_hints<T: Drop, F: Files>(
     done: Result<T, Failure>,
     taken: Taken<'_>,
 ) -> Result<T, Failure> {
-    let failure = match done {
-        Err(failure) if taken.shows => failure,
-        done => return done,
-    };
-    if is_of_two_setters(&failure.cause) {
-        return Err(match named_twice(rt, taken.paths) {
-            Some(path) => explained(failure, line_on_twice(alloc, path)),
-            None => failure,
-        });
+    match done {
+        Err(failure) if taken.shows => Err(hinted(rt, alloc, failure, taken)),
+        done => done,
     }
-    if is_of_content(&failure.cause, taken.wanted) {
-        let lines = lines_on_files(rt, alloc, failure.told(), taken);
-        return Err(explained(failure, lines));
+}
+
+/// What is said of a text without its number of instructions: what it looks like, or how the number is given.
+fn said_of_steps<F: Files>(rt: &F, alloc: Global, path: &str) -> Result<String, Memory> {
+    match hint_of(rt, alloc, Wanted::Text, path) {
+        Some(said) => Ok(said),
+        None => Ok(format!(in alloc;
+            "--steps N is the most instructions that the run may take, as in `bcpl run --steps 1000000 {path}`"
+        )?),
     }
-    Err(failure)
+}
+
+/// What is said of a source without the file that its text goes to: what it looks like, or how the file is given.
+fn said_of_out<F: Files>(rt: &F, alloc: Global, path: &str) -> Result<String, Memory> {
+    match hint_of(rt, alloc, Wanted::Source, path) {
+        Some(said) => Ok(said),
+        None => {
+            let bare = bare(path);
+            Ok(format!(in alloc;
+                "--out OUT is the file that the text goes to, as in `bcpl build --out {bare}.int {path}`"
+            )?)
+        }
+    }
+}
+
+/// What is said of what words lack.
+fn said_of_guess<F: Files>(
+    rt: &F,
+    alloc: Global,
+    guess: Guess<'_>,
+) -> Result<Option<String>, Memory> {
+    match guess {
+        Guess::Command(path) => Ok(hint_of(rt, alloc, Wanted::Command, path)),
+        Guess::Steps(path) => Ok(Some(said_of_steps(rt, alloc, path)?)),
+        Guess::Out(path) => Ok(Some(said_of_out(rt, alloc, path)?)),
+    }
 }
 
 /// What these words lack, or the file among them is, in a sentence; none where that can't be guessed.
@@ -169,29 +219,10 @@ fn said_of_words<F: Files>(
     if let BadWords::Option { takes, .. } = bad {
         return Ok(Some(String::from_str(alloc, takes)?));
     }
-    Ok(match guess_of(words, bad) {
-        Some(Guess::Command(path)) => hint_of(rt, alloc, Wanted::Command, path),
-        Some(Guess::Steps(path)) => {
-            match hint_of(rt, alloc, Wanted::Text, path) {
-                Some(said) => Some(said),
-                None => Some(format!(in alloc;
-                    "--steps N is the most instructions that the run may take, as in `bcpl run --steps 1000000 {path}`"
-                )?),
-            }
-        }
-        Some(Guess::Out(path)) => {
-            match hint_of(rt, alloc, Wanted::Source, path) {
-                Some(said) => Some(said),
-                None => {
-                    let bare = bare(path);
-                    Some(format!(in alloc;
-                        "--out OUT is the file that the text goes to, as in `bcpl build --out {bare}.int {path}`"
-                    )?)
-                }
-            }
-        }
-        None => None,
-    })
+    match guess_of(words, bad) {
+        Some(guess) => said_of_guess(rt, alloc, guess),
+        None => Ok(None),
+    }
 }
 
 /// The line behind a refusal of these words, which are bad in this way. `Memory` comes where an allocation was refused.

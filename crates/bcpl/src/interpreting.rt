@@ -2,17 +2,16 @@
 
 ghost use Rattle.std.specs.Prelude.{◌<◌, length, All};
 
-use crate::commands::{inputs, outputs};
-use crate::devices::{Sink as Output, Source as Input};
+use crate::devices::Source;
 use crate::explaining::{Program, explained};
-use crate::gathering::{Gathered, sources_of};
+use crate::gathering::{Gathered, Loaded, sources_of};
 use crate::output::unfinished;
+use crate::running::{Streams, streams_of};
 use crate::sparing::spare_files;
 use bc_build::{Built, build};
 use bc_interpret_sources::{
     Cause as Access, Ending, Interpreted, Outcome, Program as Sections, interpret,
 };
-use bc_machine::FileStreams;
 use bc_machine_defs::End;
 use bc_word::Memory;
 use bcpl_faults::{Cause, Failure, Wild};
@@ -20,47 +19,111 @@ use bcpl_messages::{Message, told_lines};
 use bcpl_wild::{Met, Stand, placed_message, wild_message};
 use bcpl_words::InterpretOrder;
 use std::alloc::Global;
-use std::io::{BufReader, BufWriter, Read, Write};
+use std::io::{Read, Write};
 use std::rt::Files;
 
-/// Where a run's first input comes from and its first output goes to, and whether that is a terminal.
+/// Where a run's first input comes from and its first output goes to, whether that is a terminal, and whether places are told.
 #[derive(Drop)]
 pub struct Standards<R: Read + Drop, O: Write + Drop> {
     pub input: R,
     pub out: O,
     pub is_terminal: bool,
+    pub shows: bool,
 }
 
-/// Runs sources by what they mean. `shows` says whether the place of a refusal is told; that of an end of the run other than finishing
+/// Runs sources by what they mean. The place of a refusal is told where places are; that of an end of the run other than finishing
 /// is told in any case.
 pub fn interpret_files<F: Files, R: Read + Drop, O: Write + Drop>(
     rt: &F,
     alloc: Global,
     order: &InterpretOrder<'_>,
     standards: Standards<R, O>,
-    shows: bool,
 ) -> Result<(), Failure> {
-    let files = sources_of(rt, alloc, &order.sources)?;
-    let gathered = Gathered::new(alloc, &order.sources, files.as_slice())?;
-    let program = gathered.program();
-    match interpretation_of(rt, alloc, order, standards, &program) {
-        Ok(run) => came_to(alloc, &program, &run),
-        Err(failure) if shows => Err(told_of_refusal(alloc, &program, failure)?),
+    match sources_of(rt, alloc, &order.sources) {
+        Ok(files) => interpret_loaded(rt, alloc, order, files.as_slice(), standards),
         Err(failure) => Err(failure),
     }
 }
 
-/// A failure with what is told of it, where the program was refused.
+/// Runs sources that were read by what they mean.
+fn interpret_loaded<F: Files, R: Read + Drop, O: Write + Drop>(
+    rt: &F,
+    alloc: Global,
+    order: &InterpretOrder<'_>,
+    files: &[Loaded],
+    standards: Standards<R, O>,
+) -> Result<(), Failure> {
+    match Gathered::new(alloc, &order.sources, files) {
+        Ok(gathered) => interpret_gathered(rt, alloc, order, &gathered, standards),
+        Err(_) => Err(Failure::new(Cause::Memory)),
+    }
+}
+
+/// Runs sources that were gathered by what they mean.
+fn interpret_gathered<F: Files, R: Read + Drop, O: Write + Drop>(
+    rt: &F,
+    alloc: Global,
+    order: &InterpretOrder<'_>,
+    gathered: &Gathered<'_, '_>,
+    standards: Standards<R, O>,
+) -> Result<(), Failure> {
+    let shows = standards.shows;
+    let program = gathered.program();
+    let done = run_program(rt, alloc, order, standards, &program);
+    if shows {
+        told_of_refusal(alloc, &program, done)
+    } else {
+        done
+    }
+}
+
+/// Builds a program and runs it by what its sources mean.
+fn run_program<F: Files, R: Read + Drop, O: Write + Drop>(
+    rt: &F,
+    alloc: Global,
+    order: &InterpretOrder<'_>,
+    standards: Standards<R, O>,
+    program: &Program<'_, '_>,
+) -> Result<(), Failure>
+    requires { All (λ main. main < length program.now.named.sources.now) program.now.mains.now }
+{
+    match interpretation_of(rt, alloc, order, standards, program) {
+        Ok(run) => came_to(alloc, program, &run),
+        Err(failure) => Err(failure),
+    }
+}
+
+/// What is told of a failure, where the program was refused; none of another failure.
+fn lines_on_refusal(
+    alloc: Global,
+    program: &Program<'_, '_>,
+    failure: &Failure,
+) -> Result<Option<String>, Memory> {
+    match &failure.cause {
+        Cause::Build(fault) => Ok(Some(explained(alloc, program, fault)?)),
+        _ => Ok(None),
+    }
+}
+
+/// A failure with what is told of it, where the program was refused; that of memory where there is none for that.
+fn told_with_refusal(alloc: Global, program: &Program<'_, '_>, failure: Failure) -> Failure {
+    match lines_on_refusal(alloc, program, &failure) {
+        Ok(Some(told)) => failure.with(told),
+        Ok(None) => failure,
+        Err(_) => Failure::new(Cause::Memory),
+    }
+}
+
+/// What a run came to, with what is told of it, where the program was refused.
 fn told_of_refusal(
     alloc: Global,
     program: &Program<'_, '_>,
-    failure: Failure,
-) -> Result<Failure, Failure> {
-    let told = match &failure.cause {
-        Cause::Build(fault) => explained(alloc, program, fault)?,
-        _ => return Ok(failure),
-    };
-    Ok(failure.with(told))
+    done: Result<(), Failure>,
+) -> Result<(), Failure> {
+    match done {
+        Ok(()) => Ok(()),
+        Err(failure) => Err(told_with_refusal(alloc, program, failure)),
+    }
 }
 
 /// A program that was built and run by what its sources mean.
@@ -89,7 +152,7 @@ fn interpretation_of<F: Files, R: Read + Drop, O: Write + Drop>(
         Ok(built) => built,
         Err(fault) => return Err(Failure::new(Cause::Build(fault))),
     };
-    let mut streams = streams_of(rt, alloc, order, standards)?;
+    let mut streams = run_streams(rt, alloc, order, standards)?;
     let run = Sections {
         sources,
         mains,
@@ -104,11 +167,16 @@ fn interpretation_of<F: Files, R: Read + Drop, O: Write + Drop>(
     })
 }
 
-/// The streams of a run.
-type Streams<R, O, F> = FileStreams<BufReader<Input<R, F>>, BufWriter<Output<O, F>>>;
+/// Refuses outputs whose file is one of the sources, one of the inputs, or another output's.
+fn spare<F: Files>(rt: &F, alloc: Global, order: &InterpretOrder<'_>) -> Result<(), Failure> {
+    let outputs = order.outputs.as_slice();
+    let files = order.sources.files.as_slice();
+    spare_files(rt, alloc, files, order.inputs.as_slice(), outputs)?;
+    spare_files(rt, alloc, &[], order.sources.gets.as_slice(), outputs)
+}
 
 /// The streams of a run, in the order of the words.
-fn streams_of<F: Files, R: Read + Drop, O: Write + Drop>(
+fn run_streams<F: Files, R: Read + Drop, O: Write + Drop>(
     rt: &F,
     alloc: Global,
     order: &InterpretOrder<'_>,
@@ -118,19 +186,22 @@ fn streams_of<F: Files, R: Read + Drop, O: Write + Drop>(
         input,
         out,
         is_terminal,
+        shows,
     } = standards;
-    let (files, bindings) = (order.sources.files.as_slice(), order.inputs.as_slice());
-    spare_files(rt, alloc, files, bindings, order.outputs.as_slice())?;
-    spare_files(
+    spare(rt, alloc, order)?;
+    let standards = Standards {
+        input: Source::Standard(input),
+        out,
+        is_terminal,
+        shows,
+    };
+    streams_of(
         rt,
         alloc,
-        &[],
-        order.sources.gets.as_slice(),
+        standards,
+        order.inputs.as_slice(),
         order.outputs.as_slice(),
-    )?;
-    let inputs = inputs(rt, alloc, Input::Standard(input), bindings)?;
-    let outputs = outputs(rt, alloc, out, is_terminal, order.outputs.as_slice())?;
-    Ok(FileStreams::new(alloc, inputs, outputs)?)
+    )
 }
 
 /// The failure of a run that finished, an output of which can't be written to its end.
@@ -140,36 +211,88 @@ fn unclosed(alloc: Global) -> Failure {
 
 /// What a run came to.
 fn came_to(alloc: Global, program: &Program<'_, '_>, run: &Interpretation) -> Result<(), Failure> {
-    let (cause, message) = match run.interpreted.outcome {
-        Outcome::Ended(Ending::Finished) if run.is_closed => return Ok(()),
-        Outcome::Ended(Ending::Finished) => return Err(unclosed(alloc)),
-        Outcome::Device => (
-            Cause::Ended(End::Device),
-            ended(alloc, program, run, "a stream failed here")?,
-        ),
-        Outcome::Ended(Ending::ZeroDivide) => (
-            Cause::Ended(End::ZeroDivide),
-            ended(alloc, program, run, "a number is divided by 0 here")?,
-        ),
-        Outcome::Going => (
-            Cause::TurnsSpent,
-            ended(
-                alloc,
-                program,
-                run,
-                "the run was here when its turns were spent",
-            )?
-            .helped(
-                alloc,
-                Some("--turns N gives more; does the loop or the recursion end?"),
-            )?,
-        ),
-        Outcome::Wild(access) => (
-            Cause::Wild(wild_of(access)),
-            wild(alloc, program, run, access)?,
-        ),
-    };
-    Err(Failure::new(cause).with(told_lines(alloc, program.named, &message)?))
+    match run.interpreted.outcome {
+        Outcome::Ended(Ending::Finished) if run.is_closed => Ok(()),
+        Outcome::Ended(Ending::Finished) => Err(unclosed(alloc)),
+        Outcome::Device => Err(failed(alloc, program, run)),
+        Outcome::Ended(Ending::ZeroDivide) => Err(divided(alloc, program, run)),
+        Outcome::Going => Err(spent(alloc, program, run)),
+        Outcome::Wild(access) => Err(gone_wild(alloc, program, run, access)),
+    }
+}
+
+/// The lines of what is said, where that could be said.
+fn lines_of(
+    alloc: Global,
+    program: &Program<'_, '_>,
+    message: Result<Message, Memory>,
+) -> Result<String, Memory> {
+    let message = message?;
+    told_lines(alloc, program.named, &message)
+}
+
+/// The failure of this cause with what is said of it; that of memory where it could not be said.
+fn told(
+    alloc: Global,
+    program: &Program<'_, '_>,
+    cause: Cause,
+    message: Result<Message, Memory>,
+) -> Failure {
+    match lines_of(alloc, program, message) {
+        Ok(lines) => Failure::new(cause).with(lines),
+        Err(_) => Failure::new(Cause::Memory),
+    }
+}
+
+/// The failure of a run of which a stream failed.
+fn failed(alloc: Global, program: &Program<'_, '_>, run: &Interpretation) -> Failure {
+    let message = ended(alloc, program, run, "a stream failed here");
+    told(alloc, program, Cause::Ended(End::Device), message)
+}
+
+/// The failure of a run that divided by zero.
+fn divided(alloc: Global, program: &Program<'_, '_>, run: &Interpretation) -> Failure {
+    let message = ended(alloc, program, run, "a number is divided by 0 here");
+    told(alloc, program, Cause::Ended(End::ZeroDivide), message)
+}
+
+/// What is said of a run whose turns were spent.
+fn ended_going(
+    alloc: Global,
+    program: &Program<'_, '_>,
+    run: &Interpretation,
+) -> Result<Message, Memory> {
+    let message = ended(
+        alloc,
+        program,
+        run,
+        "the run was here when its turns were spent",
+    )?;
+    message.helped(
+        alloc,
+        Some("--turns N gives more; does the loop or the recursion end?"),
+    )
+}
+
+/// The failure of a run whose turns were spent.
+fn spent(alloc: Global, program: &Program<'_, '_>, run: &Interpretation) -> Failure {
+    told(
+        alloc,
+        program,
+        Cause::TurnsSpent,
+        ended_going(alloc, program, run),
+    )
+}
+
+/// The failure of a run that met a wild access.
+fn gone_wild(
+    alloc: Global,
+    program: &Program<'_, '_>,
+    run: &Interpretation,
+    access: Access,
+) -> Failure {
+    let message = wild(alloc, program, run, access);
+    told(alloc, program, Cause::Wild(wild_of(access)), message)
 }
 
 /// The wild access as it is told.

@@ -1,9 +1,10 @@
 //! The command `list`.
 
 use crate::checking::verdict_of;
-use crate::loading::{all_contents, linked, segments_of, texts_of};
+use crate::growing::Growing;
+use crate::loading::{LinkedProgram, all_contents, in_memory, linked, segments_of, texts_of};
 use crate::output::{of_output, print_all};
-use bc_cert::{Judged, Verdict, check_against};
+use bc_cert::{Judged, check_against};
 use bc_core::Root;
 use bc_text_items::Segment;
 use bc_word::Memory;
@@ -15,16 +16,22 @@ use std::alloc::Global;
 use std::io::Write;
 use std::rt::Files;
 
+/// Adds this name so often.
+fn add_name<'a>(names: &mut Growing<&'a str>, name: &'a str, count: usize) {
+    for _ in 0..count {
+        names.add(name);
+    }
+}
+
 /// What each segment is called: the primitives, and each other one by its text's path.
 fn names_of<'a>(alloc: Global, texts: &[Text<'a>]) -> Result<Vec<&'a str>, Failure> {
-    let mut names = Vec::new(alloc);
-    names.push("the primitives")?;
+    let mut names = Growing::new(alloc);
+    names.add("the primitives");
     for text in texts {
-        for _ in segments_of(alloc, &[*text], false)? {
-            names.push(text.path)?;
-        }
+        let segments = segments_of(alloc, &[*text], false)?;
+        add_name(&mut names, text.path, segments.len());
     }
-    Ok(names)
+    in_memory(names.whole())
 }
 
 /// What is said of an entry.
@@ -40,19 +47,106 @@ fn said_of(alloc: Global, entry: &Judged) -> Result<String, Memory> {
     Ok(format!(in alloc; "{what}, {words} {unit}, the least")?)
 }
 
-/// The verdict of the certificate of this path, which is to be about these segments.
-fn verdict_on<F: Files>(
+/// What is said of an entry of a certificate, and of which item of which segment.
+#[derive(Drop)]
+struct Remark {
+    segment: usize,
+    item: usize,
+    said: String,
+}
+
+/// What is said of this entry.
+fn remark_on(alloc: Global, entry: &Judged) -> Result<Remark, Memory> {
+    Ok(Remark {
+        segment: (entry.segment as usize).saturating_add(1),
+        item: entry.item as usize,
+        said: said_of(alloc, entry)?,
+    })
+}
+
+/// What is said of these entries.
+fn remarks_on(alloc: Global, entries: &[Judged]) -> Result<Vec<Remark>, Memory> {
+    let mut remarks = Vec::new(alloc);
+    for entry in entries {
+        remarks.push(remark_on(alloc, entry)?)?;
+    }
+    Ok(remarks)
+}
+
+/// What is said of the entries of the certificate of this path, which is to be about these segments.
+fn certified<F: Files>(
     rt: &F,
     alloc: Global,
     path: &str,
     segments: &[Segment],
     shows: bool,
-) -> Result<Verdict, Failure> {
+) -> Result<Vec<Remark>, Failure> {
     let verdict = verdict_of(rt, alloc, path, shows)?;
     match check_against(&verdict, segments) {
-        Ok(()) => Ok(verdict),
+        Ok(()) => in_memory(remarks_on(alloc, verdict.entries.as_slice())),
         Err(mismatch) => Err(Failure::new(Cause::Against(mismatch))),
     }
+}
+
+/// What is said beside the items of a program, if the words name a certificate.
+fn remarks_of<F: Files>(
+    rt: &F,
+    alloc: Global,
+    order: &ListOrder<'_>,
+    program: &LinkedProgram,
+    shows: bool,
+) -> Result<Vec<Remark>, Failure> {
+    match order.certificate {
+        Some(path) => {
+            let own = program.segments.as_slice().get(1..).unwrap_or(&[]);
+            certified(rt, alloc, path, own, shows)
+        }
+        None => Ok(Vec::new(alloc)),
+    }
+}
+
+/// What is said, as the listing takes it.
+fn notes_of<'r>(alloc: Global, remarks: &'r [Remark]) -> Result<Vec<Note<'r>>, Memory> {
+    let mut notes = Growing::new(alloc);
+    for remark in remarks {
+        notes.add(Note {
+            segment: remark.segment,
+            item: remark.item,
+            said: remark.said.as_str(),
+        });
+    }
+    notes.whole()
+}
+
+/// The listing of a program whose segments have these names, with these remarks.
+fn listing_of<'p>(
+    alloc: Global,
+    program: &'p LinkedProgram,
+    names: &'p [&'p str],
+    remarks: &'p [Remark],
+) -> Result<String, Memory> {
+    let notes = notes_of(alloc, remarks)?;
+    let program = Program {
+        segments: program.segments.as_slice(),
+        names,
+        image: &program.image,
+        notes: notes.as_slice(),
+    };
+    image_listing(alloc, program)
+}
+
+/// The listing of these texts.
+fn listed_of<F: Files>(
+    rt: &F,
+    alloc: Global,
+    order: &ListOrder<'_>,
+    texts: &[Text<'_>],
+    shows: bool,
+) -> Result<String, Failure> {
+    let program = linked(alloc, texts, shows)?;
+    let names = names_of(alloc, texts)?;
+    let remarks = remarks_of(rt, alloc, order, &program, shows)?;
+    in_memory(listing_of(alloc, &program, names.as_slice(), remarks.as_slice()))
 }
 
 /// The listing that is asked for.
@@ -64,32 +158,7 @@ fn listed<F: Files>(
 ) -> Result<String, Failure> {
     let contents = all_contents(rt, alloc, order.texts.as_slice())?;
     let texts = texts_of(alloc, order.texts.as_slice(), contents.as_slice())?;
-    let program = linked(alloc, texts.as_slice(), shows)?;
-    let names = names_of(alloc, texts.as_slice())?;
-    let mut said = Vec::new(alloc);
-    let mut places = Vec::new(alloc);
-    if let Some(path) = order.certificate {
-        let own = program.segments.as_slice().get(1..).unwrap_or(&[]);
-        for entry in &verdict_on(rt, alloc, path, own, shows)?.entries {
-            said.push(said_of(alloc, entry)?)?;
-            places.push((entry.segment as usize, entry.item as usize))?;
-        }
-    }
-    let mut notes = Vec::new(alloc);
-    for (text, place) in said.iter().zip(&places) {
-        notes.push(Note {
-            segment: place.0.saturating_add(1),
-            item: place.1,
-            said: text.as_str(),
-        })?;
-    }
-    let program = Program {
-        segments: program.segments.as_slice(),
-        names: names.as_slice(),
-        image: &program.image,
-        notes: notes.as_slice(),
-    };
-    Ok(image_listing(alloc, program)?)
+    listed_of(rt, alloc, order, texts.as_slice(), shows)
 }
 
 /// Does what `list` asks for. `shows` says whether the place of a refusal is told.

@@ -1,7 +1,11 @@
 //! The command `explain`.
 
-use crate::compiling::{refused, spare};
+ghost use Rattle.std.specs.Prelude.{◌≤◌, length, IfOk};
+ghost use Rattle.bc_lex_tokens.specs.Token.{lexemes_of};
+
+use crate::compiling::{refused, spare_given};
 use crate::gathering::{Gathered, sources_of};
+use crate::loading::in_memory;
 use crate::output::{of_output, print_all};
 use bc_build::{Built, build};
 use bc_cert::{check_sums, write_cert};
@@ -14,12 +18,13 @@ use bcpl_explain::{Checked, explanation};
 use bcpl_faults::{Cause, Failure};
 use bcpl_files::Written;
 use bcpl_show::Files;
-use bcpl_words::ExplainOrder;
+use bcpl_words::{ExplainOrder, Sources};
 use std::alloc::Global;
 use std::io::Write;
+use std::mem::forget;
 use std::rt::Files as Access;
 
-/// What the compiler sees of a main: its index among the sources, its segment's index, and its trees.
+/// What the compiler sees of a main: its index among the sources, its segment's index, and its trees. It is forgotten at the end.
 #[derive(Drop)]
 struct Front<'s> {
     main: usize,
@@ -29,32 +34,62 @@ struct Front<'s> {
     core: Core,
 }
 
-/// What the compiler sees of a main of a program that was built, so that only memory can be missing.
-fn seen_by_compiler<'s>(
+/// The tokens of a main of a program that was built, so that only memory can be missing.
+fn tokens_of<'s>(
     alloc: Global,
     sources: &[Source<'s>],
     main: usize,
-    segment: usize,
-) -> Result<Front<'s>, Failure> {
+) -> Result<Vec<Token<'s>>, Failure>
+    ensures { IfOk result (λ tokens. length (lexemes_of tokens.items) ≤ 60000) }
+{
     if main >= sources.len() {
         return Err(Failure::new(Cause::Memory));
     }
-    let Ok(tokens) = lex(alloc, sources, main) else {
-        return Err(Failure::new(Cause::Memory));
-    };
-    let Ok(section) = parse(alloc, tokens.as_slice()) else {
-        return Err(Failure::new(Cause::Memory));
-    };
-    let Ok(core) = resolve(alloc, &section) else {
-        return Err(Failure::new(Cause::Memory));
-    };
-    Ok(Front {
-        main,
-        segment,
-        tokens,
-        section,
-        core,
-    })
+    match lex(alloc, sources, main) {
+        Ok(tokens) => Ok(tokens),
+        Err(_) => Err(Failure::new(Cause::Memory)),
+    }
+}
+
+/// Adds this, and forgets it where there is no room.
+fn keep<T: Drop>(all: &mut Vec<T>, value: T) -> Result<(), Failure> {
+    match all.push(value) {
+        Ok(()) => Ok(()),
+        Err(refused) => {
+            forget(refused);
+            Err(Failure::new(Cause::Memory))
+        }
+    }
+}
+
+/// Adds what the compiler sees of a main of a program that was built, so that only memory can be missing.
+fn add_front<'s>(
+    alloc: Global,
+    fronts: &mut Vec<Front<'s>>,
+    sources: &[Source<'s>],
+    main: usize,
+    segment: usize,
+) -> Result<(), Failure> {
+    let tokens = tokens_of(alloc, sources, main)?;
+    match parse(alloc, tokens.as_slice()) {
+        Ok(section) => match resolve(alloc, &section) {
+            Ok(core) => keep(
+                fronts,
+                Front {
+                    main,
+                    segment,
+                    tokens,
+                    section,
+                    core,
+                },
+            ),
+            Err(_) => {
+                forget(section);
+                Err(Failure::new(Cause::Memory))
+            }
+        },
+        Err(_) => Err(Failure::new(Cause::Memory)),
+    }
 }
 
 /// The entries of a segment.
@@ -80,6 +115,28 @@ fn judged(alloc: Global, built: &Built) -> Result<Checked, Failure> {
     }
 }
 
+/// A main of a program that was built, with what the compiler sees of it.
+fn program_of<'p, 's>(
+    files: Files<'p, 's>,
+    front: &'p Front<'s>,
+    built: &'p Built,
+) -> bcpl_show::Program<'p, 's> {
+    let items = match built.segments.as_slice().get(front.segment) {
+        Some(segment) => segment.items(),
+        None => &[],
+    };
+    bcpl_show::Program {
+        files,
+        main: front.main,
+        tokens: front.tokens.as_slice(),
+        section: &front.section,
+        core: &front.core,
+        items,
+        entries: entries_of(built.entries.as_slice(), front.segment),
+        first: [0, 0, 0],
+    }
+}
+
 /// The mains of a program that was built, with what the compiler sees of each.
 fn programs_of<'p, 's>(
     alloc: Global,
@@ -89,40 +146,75 @@ fn programs_of<'p, 's>(
 ) -> Result<Vec<bcpl_show::Program<'p, 's>>, Memory> {
     let mut programs = Vec::new(alloc);
     for front in fronts {
-        let items = match built.segments.as_slice().get(front.segment) {
-            Some(segment) => segment.items(),
-            None => &[],
-        };
-        programs.push(bcpl_show::Program {
-            files,
-            main: front.main,
-            tokens: front.tokens.as_slice(),
-            section: &front.section,
-            core: &front.core,
-            items,
-            entries: entries_of(built.entries.as_slice(), front.segment),
-            first: [0, 0, 0],
-        })?;
+        programs.push(program_of(files, front, built))?;
     }
     Ok(programs)
 }
 
-/// The report on these files of a program that was built, which stand behind so many sources.
-fn report_on(
+/// Adds what the compiler sees of these mains, if they stand behind so many sources.
+fn add_fronts<'s>(
     alloc: Global,
-    files: Files<'_, '_>,
+    fronts: &mut Vec<Front<'s>>,
+    sources: &[Source<'s>],
     mains: &[usize],
-    built: &Built,
     behind: usize,
-) -> Result<Vec<u8>, Failure> {
-    let mut fronts = Vec::new(alloc);
+) -> Result<(), Failure> {
     for (segment, main) in mains.iter().enumerate() {
         if *main >= behind {
-            fronts.push(seen_by_compiler(alloc, files.sources, *main, segment)?)?;
+            add_front(alloc, fronts, sources, *main, segment)?;
         }
     }
-    let programs = programs_of(alloc, files, fronts.as_slice(), built)?;
-    Ok(explanation(alloc, programs.as_slice(), judged(alloc, built)?)?)
+    Ok(())
+}
+
+/// The report on these mains of a program that was built.
+fn report_of<'p, 's>(
+    alloc: Global,
+    files: Files<'p, 's>,
+    fronts: &'p [Front<'s>],
+    built: &'p Built,
+) -> Result<Vec<u8>, Failure> {
+    let programs = programs_of(alloc, files, fronts, built)?;
+    let checked = judged(alloc, built)?;
+    in_memory(explanation(alloc, programs.as_slice(), checked))
+}
+
+/// The report on a program that was built of these sources.
+fn report_on(
+    alloc: Global,
+    gathered: &Gathered<'_, '_>,
+    given: &Sources<'_>,
+    built: &Built,
+) -> Result<Vec<u8>, Failure> {
+    let program = gathered.program();
+    let files = Files {
+        sources: program.named.sources,
+        paths: program.named.paths,
+        library: gathered.library,
+    };
+    let behind = gathered.library.saturating_add(given.gets.len());
+    let mut fronts = Vec::new(alloc);
+    let report = match add_fronts(alloc, &mut fronts, files.sources, program.mains, behind) {
+        Ok(()) => report_of(alloc, files, fronts.as_slice(), built),
+        Err(failure) => Err(failure),
+    };
+    // The process is about to end, and the system takes all memory back at once.
+    forget(fronts);
+    report
+}
+
+/// The report on the program that was gathered from these sources. `shows` says whether the place of a refusal is told.
+fn built_report(
+    alloc: Global,
+    gathered: &Gathered<'_, '_>,
+    given: &Sources<'_>,
+    shows: bool,
+) -> Result<Vec<u8>, Failure> {
+    let program = gathered.program();
+    match build(alloc, program.named.sources, program.mains) {
+        Ok(built) => report_on(alloc, gathered, given, &built),
+        Err(fault) => Err(refused(alloc, &program, fault, shows)),
+    }
 }
 
 /// The report that is asked for, and what the checker said.
@@ -135,19 +227,7 @@ fn reported<F: Access>(
     let given = &order.sources;
     let loaded = sources_of(rt, alloc, given)?;
     let gathered = Gathered::new(alloc, given, loaded.as_slice())?;
-    let program = gathered.program();
-    match build(alloc, program.named.sources, program.mains) {
-        Ok(built) => {
-            let files = Files {
-                sources: program.named.sources,
-                paths: program.named.paths,
-                library: gathered.library,
-            };
-            let behind = gathered.library.saturating_add(given.gets.len());
-            report_on(alloc, files, program.mains, &built, behind)
-        }
-        Err(fault) => Err(refused(alloc, &program, fault, shows)),
-    }
+    built_report(alloc, &gathered, given, shows)
 }
 
 /// Writes a report to the file of this path, which has all of it or stays as it was.
@@ -171,16 +251,12 @@ fn write_report<F: Access>(
 fn spare_sources<F: Access>(
     rt: &F,
     alloc: Global,
-    path: &str,
     order: &ExplainOrder<'_>,
 ) -> Result<(), Failure> {
-    for binding in &order.sources.gets {
-        spare(rt, alloc, path, binding.path)?;
+    match order.out {
+        Some(path) => spare_given(rt, alloc, path, &order.sources),
+        None => Ok(()),
     }
-    for file in &order.sources.files {
-        spare(rt, alloc, path, file)?;
-    }
-    Ok(())
 }
 
 /// Does what `explain` asks for. `shows` says whether the place of a refusal is told.
@@ -191,9 +267,7 @@ pub fn explain<F: Access, O: Write + Drop>(
     shows: bool,
     out: &mut O,
 ) -> Result<(), Failure> {
-    if let Some(path) = order.out {
-        spare_sources(rt, alloc, path, order)?;
-    }
+    spare_sources(rt, alloc, order)?;
     let report = reported(rt, alloc, order, shows)?;
     match order.out {
         Some(path) => write_report(rt, alloc, path, report.as_slice()),

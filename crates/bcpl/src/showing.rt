@@ -2,10 +2,13 @@
 
 ghost use Rattle.std.specs.Prelude.{◌≤◌, ◌<◌, length, All, IfOk};
 ghost use Rattle.bc_lex_tokens.specs.Token.{lexemes_of};
+ghost use Rattle.bc_parse_tree.specs.Size.{declarations_size};
+ghost use Rattle.bc_parse_tree.specs.View.{section_view};
 
 use crate::compiling::refused;
 use crate::explaining::Program;
 use crate::gathering::{Gathered, sources_of};
+use crate::loading::in_memory;
 use crate::output::{of_output, print_all};
 use crate::reporting::entries_of;
 use bc_build::{BuildError, Built, build};
@@ -21,6 +24,7 @@ use bcpl_show::{Files, code_listing, token_listing, tree_listing};
 use bcpl_words::{Listing, ShowOrder, Sources};
 use std::alloc::Global;
 use std::io::Write;
+use std::mem::forget;
 use std::rt::Files as Access;
 
 /// What is listed of which source.
@@ -69,13 +73,18 @@ impl<'a, 's> Shown<'a, 's> {
 
     fn token_listing(&self, alloc: Global) -> Result<Vec<u8>, Failure> {
         let tokens = self.tokens(alloc)?;
-        Ok(token_listing(alloc, self.files, self.main, tokens.as_slice())?)
+        in_memory(token_listing(alloc, self.files, self.main, tokens.as_slice()))
     }
 
     fn tree_listing(&self, alloc: Global) -> Result<Vec<u8>, Failure> {
         let tokens = self.tokens(alloc)?;
         match parse(alloc, tokens.as_slice()) {
-            Ok(section) => self.tree_of(alloc, tokens.as_slice(), &section),
+            Ok(section) => {
+                let listing = self.tree_of(alloc, tokens.as_slice(), &section);
+                // The process is about to end, and the system takes all memory back at once.
+                forget(section);
+                listing
+            }
             Err(fault) => Err(self.no_section(alloc, fault)),
         }
     }
@@ -87,7 +96,7 @@ impl<'a, 's> Shown<'a, 's> {
         section: &Section<'s>,
     ) -> Result<Vec<u8>, Failure> {
         let kinds = spell(alloc, section)?;
-        Ok(tree_listing(alloc, self.files, self.main, tokens, kinds.as_slice())?)
+        in_memory(tree_listing(alloc, self.files, self.main, tokens, kinds.as_slice()))
     }
 
     /// The program of the library and the source.
@@ -102,16 +111,39 @@ impl<'a, 's> Shown<'a, 's> {
     fn built_listing(&self, alloc: Global, listing: Listing) -> Result<Vec<u8>, Failure> {
         let built = self.built(alloc)?;
         let tokens = self.tokens(alloc)?;
-        let section = match parse(alloc, tokens.as_slice()) {
-            Ok(section) => section,
-            Err(fault) => return Err(self.no_section(alloc, fault)),
-        };
-        let Ok(core) = resolve(alloc, &section) else {
-            return Err(Failure::new(Cause::Memory));
-        };
-        match listing {
-            Listing::Scopes => self.scopes_of(alloc, &built, tokens.as_slice(), &section, &core),
-            _ => self.code_of(alloc, &built, tokens.as_slice(), &section, &core),
+        match parse(alloc, tokens.as_slice()) {
+            Ok(section) => {
+                let found = (&built, tokens.as_slice());
+                let text = self.resolved_listing(alloc, listing, found, &section);
+                // The process is about to end, and the system takes all memory back at once.
+                forget(section);
+                text
+            }
+            Err(fault) => Err(self.no_section(alloc, fault)),
+        }
+    }
+
+    /// The listing of scopes or code of a source that is built, of these tokens and this section.
+    fn resolved_listing(
+        &self,
+        alloc: Global,
+        listing: Listing,
+        found: (&Built, &[Token<'s>]),
+        section: &Section<'s>,
+    ) -> Result<Vec<u8>, Failure>
+        requires { declarations_size (section_view section.now) ≤ 60000 }
+    {
+        let (built, tokens) = found;
+        match resolve(alloc, section) {
+            Ok(core) => {
+                let text = match listing {
+                    Listing::Scopes => self.scopes_of(alloc, built, tokens, section, &core),
+                    _ => self.code_of(alloc, built, tokens, section, &core),
+                };
+                forget(core);
+                text
+            }
+            Err(_) => Err(Failure::new(Cause::Memory)),
         }
     }
 
@@ -147,7 +179,7 @@ impl<'a, 's> Shown<'a, 's> {
             core,
             setters: &setters,
         };
-        Ok(scope_listing(alloc, scopes)?)
+        in_memory(scope_listing(alloc, scopes))
     }
 
     fn code_of(
@@ -171,7 +203,7 @@ impl<'a, 's> Shown<'a, 's> {
             entries: entries_of(built.entries.as_slice(), libraries(built).len()),
             first: first_of(built),
         };
-        Ok(code_listing(alloc, program)?)
+        in_memory(code_listing(alloc, program))
     }
 }
 

@@ -20,6 +20,35 @@ fn spare<F: Files>(rt: &F, alloc: Global, path: &str, read: &[&str]) -> Result<(
     Ok(())
 }
 
+/// Refuses the output of this path where its file is one of these inputs'.
+fn spare_inputs<F: Files>(
+    rt: &F,
+    alloc: Global,
+    path: &str,
+    inputs: &[Binding<'_>],
+) -> Result<(), Failure> {
+    for input in inputs {
+        spare(rt, alloc, path, &[input.path])?;
+    }
+    Ok(())
+}
+
+/// Refuses this output where its file is that of one of these.
+fn spare_outputs<F: Files>(
+    rt: &F,
+    alloc: Global,
+    output: &Binding<'_>,
+    others: &[Binding<'_>],
+) -> Result<(), Failure> {
+    for other in others {
+        // two streams of one name are refused as such
+        if output.name != other.name && would_lose(rt, output.path, other.path) {
+            return Err(Failure::file_since(alloc, output.path, "two outputs can't be one file"));
+        }
+    }
+    Ok(())
+}
+
 /// Refuses an output of a run whose file is one of those that are read, an input's, or that of an output in front of it.
 pub fn spare_files<F: Files>(
     rt: &F,
@@ -30,19 +59,8 @@ pub fn spare_files<F: Files>(
 ) -> Result<(), Failure> {
     for (number, output) in outputs.iter().enumerate() {
         spare(rt, alloc, output.path, read)?;
-        for input in inputs {
-            spare(rt, alloc, output.path, &[input.path])?;
-        }
-        for other in outputs.get(..number).unwrap_or(&[]) {
-            // two streams of one name are refused as such
-            if output.name != other.name && would_lose(rt, output.path, other.path) {
-                return Err(Failure::file_since(
-                    alloc,
-                    output.path,
-                    "two outputs can't be one file",
-                ));
-            }
-        }
+        spare_inputs(rt, alloc, output.path, inputs)?;
+        spare_outputs(rt, alloc, output, outputs.get(..number).unwrap_or(&[]))?;
     }
     Ok(())
 }

@@ -31,22 +31,25 @@ pub fn is_watched(order: &WatchOrder<'_>) -> bool {
     order.trace.is_some() || order.profile.is_some()
 }
 
-/// Refuses files for what is noted of a run that are one of its texts, or one file.
-pub fn spare_texts<F: Files>(rt: &F, alloc: Global, order: &RunOrder<'_>) -> Result<(), Failure> {
-    for path in [order.watch.trace, order.watch.profile] {
-        if let Some(path) = path {
-            for text in &order.texts {
-                if is_one_file(rt, path, text) {
-                    return Err(Failure::file_since(
-                        alloc,
-                        path,
-                        "this is one of the texts, and would be lost",
-                    ));
-                }
-            }
-        }
+/// Refuses a file for what is noted of a run that is one of its texts.
+fn spare<F: Files>(
+    rt: &F,
+    alloc: Global,
+    path: Option<&str>,
+    texts: &[&str],
+) -> Result<(), Failure> {
+    let Some(path) = path else {
+        return Ok(());
+    };
+    if texts.iter().any(|text| is_one_file(rt, path, text)) {
+        return Err(Failure::file_since(alloc, path, "this is one of the texts, and would be lost"));
     }
-    match (order.watch.trace, order.watch.profile) {
+    Ok(())
+}
+
+/// Refuses a profile whose file is the trace's.
+fn spare_trace<F: Files>(rt: &F, alloc: Global, order: &WatchOrder<'_>) -> Result<(), Failure> {
+    match (order.trace, order.profile) {
         (Some(trace), Some(profile)) if is_one_file(rt, trace, profile) => {
             Err(Failure::file_since(
                 alloc,
@@ -58,6 +61,13 @@ pub fn spare_texts<F: Files>(rt: &F, alloc: Global, order: &RunOrder<'_>) -> Res
     }
 }
 
+/// Refuses files for what is noted of a run that are one of its texts, or one file.
+pub fn spare_texts<F: Files>(rt: &F, alloc: Global, order: &RunOrder<'_>) -> Result<(), Failure> {
+    spare(rt, alloc, order.watch.trace, order.texts.as_slice())?;
+    spare(rt, alloc, order.watch.profile, order.texts.as_slice())?;
+    spare_trace(rt, alloc, &order.watch)
+}
+
 /// Begins a file, if there is a path.
 fn begun<W: Write + Drop, F: Files<File = W>>(
     rt: &F,
@@ -65,43 +75,75 @@ fn begun<W: Write + Drop, F: Files<File = W>>(
     path: Option<&str>,
 ) -> Result<Option<Written<W>>, Failure> {
     match path {
-        Some(path) => Ok(Some(Written::begin(rt, alloc, path)?)),
+        Some(path) => match Written::begin(rt, alloc, path) {
+            Ok(written) => Ok(Some(written)),
+            Err(failure) => Err(failure),
+        },
         None => Ok(None),
     }
 }
 
-/// Ends the trace, unless a line of it could not be written.
-fn end_trace<W: Write + Drop, F: Files<File = W>>(
-    rt: &F,
-    alloc: Global,
-    mut written: Written<W>,
-    path: &str,
-    is_whole: bool,
-) -> Result<(), Failure> {
-    if is_whole {
-        written.finish(rt, alloc, path)
-    } else {
-        let failure = written.failure(alloc, path);
+/// Leaves a file as it was, if it was begun.
+fn abandon<W: Write + Drop, F: Files<File = W>>(rt: &F, written: Option<Written<W>>) {
+    if let Some(written) = written {
         written.abandon(rt);
-        Err(failure)
     }
 }
 
-/// Writes the profile.
+/// Ends a file of this path, unless it has a failure.
+fn end<W: Write + Drop, F: Files<File = W>>(
+    rt: &F,
+    alloc: Global,
+    written: Written<W>,
+    path: &str,
+    failure: Option<Failure>,
+) -> Result<(), Failure> {
+    match failure {
+        None => written.finish(rt, alloc, path),
+        Some(failure) => {
+            written.abandon(rt);
+            Err(failure)
+        }
+    }
+}
+
+/// Ends the trace, if there is one, unless a line of it could not be written.
+fn end_trace<W: Write + Drop, F: Files<File = W>>(
+    rt: &F,
+    alloc: Global,
+    trace: Option<Written<W>>,
+    order: &WatchOrder<'_>,
+    is_whole: bool,
+) -> Result<(), Failure> {
+    let Some(mut written) = trace else {
+        return Ok(());
+    };
+    let path = order.trace.unwrap_or("");
+    let failure = if is_whole {
+        None
+    } else {
+        Some(written.failure(alloc, path))
+    };
+    end(rt, alloc, written, path, failure)
+}
+
+/// Writes the profile, if there is one.
 fn end_profile<W: Write + Drop, F: Files<File = W>>(
     rt: &F,
     alloc: Global,
-    mut written: Written<W>,
-    path: &str,
+    profile: Option<Written<W>>,
+    order: &WatchOrder<'_>,
     text: &str,
 ) -> Result<(), Failure> {
-    match written.out().write_all(text.as_bytes()) {
-        Ok(()) => written.finish(rt, alloc, path),
-        Err(error) => {
-            written.abandon(rt);
-            Err(Failure::io(alloc, &error, path))
-        }
-    }
+    let Some(mut written) = profile else {
+        return Ok(());
+    };
+    let path = order.profile.unwrap_or("");
+    let failure = match written.out().write_all(text.as_bytes()) {
+        Ok(()) => None,
+        Err(error) => Some(Failure::io(alloc, &error, path)),
+    };
+    end(rt, alloc, written, path, failure)
 }
 
 impl<W: Write + Drop> Notes<W> {
@@ -115,9 +157,7 @@ impl<W: Write + Drop> Notes<W> {
         match begun(rt, alloc, order.profile) {
             Ok(profile) => Ok(Notes { trace, profile }),
             Err(failure) => {
-                if let Some(trace) = trace {
-                    trace.abandon(rt);
-                }
+                abandon(rt, trace);
                 Err(failure)
             }
         }
@@ -133,14 +173,7 @@ impl<W: Write + Drop> Notes<W> {
         text: &str,
     ) -> Result<(), Failure> {
         let Notes { trace, profile } = self;
-        if let Some(written) = trace {
-            let path = order.trace.unwrap_or("");
-            end_trace(rt, alloc, written, path, is_whole)?;
-        }
-        if let Some(written) = profile {
-            let path = order.profile.unwrap_or("");
-            end_profile(rt, alloc, written, path, text)?;
-        }
-        Ok(())
+        end_trace(rt, alloc, trace, order, is_whole)?;
+        end_profile(rt, alloc, profile, order, text)
     }
 }
