@@ -1,10 +1,10 @@
 //! The choice of each root's code.
-ghost use Rattle.std.specs.Prelude.{◌≡◌, ◌+◌, ◌≤◌, IfOk, IfSome};
+ghost use Rattle.std.specs.Prelude.{◌≡◌, ◌+◌, ◌^◌, ◌≤◌, IfOk};
 ghost use Rattle.std.specs.List.{AllZip};
 ghost use Rattle.bc_core.specs.View.{root as root_view};
 ghost use Rattle.bc_rules_defs.specs.View.{derivation as derivation_view};
 ghost use Rattle.bc_rules.specs.Code.{IsCodeOf};
-ghost use Rattle.bc_select_defs.specs.Nodes.{root_in_order};
+ghost use Rattle.bc_select_defs.specs.Nodes.{root_in_order, root_nodes};
 ghost use Rattle.bc_select.specs.Rows.{IsRowOf};
 ghost use Rattle.bc_gen.specs.Chosen.{coding};
 ghost use Rattle.bc_gen.specs.Writing.{IsNext};
@@ -12,7 +12,7 @@ ghost use Rattle.bc_gen.specs.Writing.{IsNext};
 use bc_core::Root;
 use bc_rules::{Coded, code_with_labels, next_label};
 use bc_rules_defs::Derivation;
-use bc_select::{Row, is_selectable, select};
+use bc_select::{Row, select};
 use bc_word::Memory;
 use std::alloc::Global;
 
@@ -24,16 +24,12 @@ pub(crate) struct Choice {
 }
 
 /// A root's derivation of least words, with the rows of the root's nodes.
-///
-/// No root of a section has more than 2^20 nodes.
 #[tactic(auto, using(crate::proofs::Choosing::derivation_is))]
 pub(crate) fn chosen(alloc: Global, root: &Root) -> Result<Choice, Memory>
+    requires { root_nodes (root_view root.now) ≤ 2 ^ 32 }
     ensures derivation { IfOk result (λ c. derivation_view c.derivation ≡ coding.derivation (root_view root.now)) }
     ensures rows { IfOk result (λ c. AllZip IsRowOf (root_in_order (root_view root.now)) c.rows.items) }
 {
-    if !is_selectable(root) {
-        return Err(Memory);
-    }
     let selected = select(alloc, root)?;
     Ok(Choice {
         derivation: selected.derivation,

@@ -1,5 +1,6 @@
 //! The code of roots, with the bodies of their VALOFs.
 ghost use Rattle.std.specs.Prelude.{◌≡◌, ◌+◌, ◌++◌, ◌≤◌, IfOk, IfErr, map, drop, length};
+ghost use Rattle.std.specs.List.{All};
 ghost use Rattle.bc_core.specs.Tree as tree;
 ghost use Rattle.bc_core.specs.View.{exp, root as root_view};
 ghost use Rattle.bc_rules_defs.specs.View.{derivation as derivation_view};
@@ -8,6 +9,7 @@ ghost use Rattle.bc_gen_defs.specs.Bodies.{fill as fill_of, level_of, label_ahea
 ghost use Rattle.bc_gen_defs.specs.Entries.{Plain, count_items as count_of};
 ghost use Rattle.bc_gen.specs.Chosen.{coding};
 ghost use Rattle.bc_gen.specs.Parts.{parts as parts_view};
+ghost use Rattle.bc_gen.specs.Room.{room_in, RootHasRoom, PieceHasRoom};
 ghost use Rattle.bc_gen.specs.Surroundings.{one_piece, roots_in, bodies_of, valofs_in};
 ghost use Rattle.bc_gen.specs.Writing.{RunsOut, Writes};
 
@@ -49,6 +51,7 @@ impl Writer {
         level: u16,
         expression: &CoreExp,
     ) -> Result<(), GenError>
+        requires { RootHasRoom (room_in around.now) (tree.Value level (exp expression.now)) }
         ensures { Writes result self.old self.new (roots_in around.now (tree.Value level (exp expression.now)) 0 self.old.next) }
     {
         let expression = copy_expression(self.alloc, expression)?;
@@ -65,6 +68,7 @@ impl Writer {
         expression: &CoreExp,
         target: u16,
     ) -> Result<(), GenError>
+        requires { RootHasRoom (room_in around.now) (tree.Test level sense (exp expression.now)) }
         ensures { Writes result self.old self.new (roots_in around.now (tree.Test level sense (exp expression.now)) target self.old.next) }
     {
         let expression = copy_expression(self.alloc, expression)?;
@@ -84,6 +88,7 @@ impl Writer {
         root: Root,
         target: u16,
     ) -> Result<(), GenError>
+        requires { RootHasRoom (room_in around.now) (root_view root) }
         ensures { Writes result self.old self.new (roots_in around.now (root_view root) target self.old.next) }
     {
         let Choice { derivation, rows } = chosen(self.alloc, &root)?;
@@ -133,6 +138,7 @@ impl Writer {
     /// The pieces of a root with the bodies of its VALOFs filled in; the result is how many items each body has.
     #[cycle(commands)]
     fn fill(&mut self, around: &Around<'_>, pieces: &[Piece]) -> Result<Vec<u64>, GenError>
+        requires { All (PieceHasRoom (room_in around.now)) pieces.now }
         ensures written { let x = fill_of Plain (level_of (valofs_in around.now.valofs.now))
             (bodies_of (valofs_in around.now.valofs.now) around.now.least) pieces.now self.old.next in Writes result self.old self.new (x.0, x.1) }
         ensures counts { let x = fill_of Plain (level_of (valofs_in around.now.valofs.now))
@@ -156,6 +162,7 @@ impl Writer {
         label: u16,
         bodies: &mut Vec<u64>,
     ) -> Result<(), GenError>
+        requires { PieceHasRoom (room_in around.now) piece }
         ensures written { let vs = valofs_in around.now.valofs.now in
             let x = one_piece (level_of vs) (bodies_of vs around.now.least) piece label self.old.next in Writes result self.old self.new (x.0, x.1) }
         ensures counts { let vs = valofs_in around.now.valofs.now in
@@ -174,6 +181,7 @@ impl Writer {
     /// The body of a VALOF; the result is how many items it has.
     #[cycle(commands)]
     fn body(&mut self, around: &Around<'_>, number: u64, label: u16) -> Result<u64, GenError>
+        requires { room_in around.now number }
         ensures written { Writes result self.old self.new (let vs = valofs_in around.now.valofs.now in
             bodies_of vs around.now.least number (level_of vs number) label self.old.next) }
         ensures count { IfOk result (λ found. let vs = valofs_in around.now.valofs.now in
@@ -187,6 +195,7 @@ impl Writer {
     /// The body of a VALOF, whose RESULTIS jumps to this label.
     #[cycle(commands)]
     fn valof(&mut self, around: &Around<'_>, number: u64, label: u16) -> Result<(), GenError>
+        requires { room_in around.now number }
         ensures { Writes result self.old self.new (let vs = valofs_in around.now.valofs.now in
             bodies_of vs around.now.least number (level_of vs number) label self.old.next) }
     {
