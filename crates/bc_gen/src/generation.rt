@@ -39,8 +39,7 @@ pub struct Generated {
 /// The items of a section, with the code of least words for each root, and an entry for each root.
 ///
 /// `TooManyLabels` comes only where the section takes more than 20,000 labels, and such a section gets no items.
-/// `Memory` comes where an allocation was refused; it would come too where an offset in a root's code were over
-/// 65,535, which `Core` rules out.
+/// `Memory` comes only where an allocation was refused: each number of the code has room, by what `Core` keeps.
 pub fn generate(alloc: Global, core: &Core) -> Result<Generated, GenError>
     ensures items { IfOk result (λ found. found.items ≡ section_items coding (section core.now)) }
     ensures entries { IfOk result (λ found. map entry_view found.entries.items ≡ section_entries coding (section core.now)) }

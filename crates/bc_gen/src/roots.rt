@@ -4,7 +4,7 @@ ghost use Rattle.std.specs.List.{All};
 ghost use Rattle.bc_core.specs.Tree as tree;
 ghost use Rattle.bc_core.specs.View.{exp, root as root_view};
 ghost use Rattle.bc_rules_defs.specs.View.{derivation as derivation_view};
-ghost use Rattle.bc_rules.specs.Code.{IsCodeOf};
+ghost use Rattle.bc_rules.specs.Code.{IsCodeOf, cells_of_root};
 ghost use Rattle.bc_gen_defs.specs.Bodies.{fill as fill_of, level_of, label_ahead as label_ahead_of};
 ghost use Rattle.bc_gen_defs.specs.Entries.{Plain, count_items as count_of};
 ghost use Rattle.bc_gen.specs.Chosen.{coding};
@@ -14,13 +14,14 @@ ghost use Rattle.bc_gen.specs.Surroundings.{one_piece, roots_in, bodies_of, valo
 ghost use Rattle.bc_gen.specs.Writing.{RunsOut, Writes};
 
 use crate::around::Around;
-use crate::choice::{Choice, chosen, label_behind, pieces_of};
+use crate::choice::{Choice, chosen, pieces_of};
 use crate::gen_error::GenError;
 use crate::mark::Mark;
 use crate::parts::{Part, count_items};
 use crate::writer::Writer;
 use bc_cert_write::Workings;
 use bc_core::{CoreExp, Root, copy_expression};
+use bc_rules::CodeFault;
 use bc_rules_defs::{Derivation, Piece};
 use bc_text_items::Item;
 
@@ -108,14 +109,15 @@ impl Writer {
         Ok(self.parts.insert(at, begins)?)
     }
 
-    /// The code of a root by this derivation, whose labels are taken. Where there is no code, it is told first whether labels ran out.
+    /// The code of a root by this derivation, whose labels are taken.
     fn coded(
         &mut self,
         root: &Root,
         derivation: &Derivation,
         target: u16,
     ) -> Result<Vec<Piece>, GenError>
-        requires { derivation_view derivation.now ≡ coding.derivation (root_view root.now) }
+        requires derivation { derivation_view derivation.now ≡ coding.derivation (root_view root.now) }
+        requires cells { cells_of_root (root_view root.now) ≤ 65536 }
         ensures chosen { IfOk result (λ pieces. pieces.items ≡ coding.pieces (root_view root.now) target self.old.next) }
         ensures code { IfOk result (λ pieces. IsCodeOf (root_view root.now) (derivation_view derivation.now) target self.old.next pieces.items) }
         ensures next { IfOk result (λ _. self.new.next ≡ self.old.next + coding.labels (root_view root.now)) }
@@ -125,13 +127,11 @@ impl Writer {
         let first = self.next;
         match pieces_of(self.alloc, root, derivation, target, first) {
             Ok(coded) => {
-                self.take_to(Some(coded.next))?;
+                self.take_to(coded.next)?;
                 Ok(coded.pieces)
             }
-            Err(_) => {
-                self.take_to(label_behind(root, derivation, first))?;
-                Err(GenError::Memory)
-            }
+            Err(CodeFault::NoRoom) => Err(GenError::TooManyLabels),
+            Err(CodeFault::Memory) => Err(GenError::Memory),
         }
     }
 
