@@ -9,7 +9,7 @@ use Rattle.bc_select.specs.declared.row.Row.{Row}
 use Rattle.bc_select.specs.Rows.{IsRowOf}
 
 mutual
-  length_in_order : (e : Exp) (s : ℕ) → length (in_order e s) ≡ nodes e
+  pub length_in_order : (e : Exp) (s : ℕ) → length (in_order e s) ≡ nodes e
   length_in_order (Num n) s = refl
   length_in_order (Frame k) s = refl
   length_in_order (Glob n) s = refl
