@@ -44,10 +44,10 @@ fn leaves_half(half: bool, piece: &Piece) -> bool
 /// The words that pieces of code take: an operation one, or two in the long form; data one;
 /// neighbouring bytes share a word in pairs; labels, settings of globals and bodies take none.
 ///
-/// Fewer than 2^62 pieces may be handed in.
+/// Fewer than 2^63 pieces may be handed in; no vector has more.
 #[tactic(auto, using(crate::proofs::Bytes::words_next, crate::proofs::Bytes::added_small))]
 pub fn words(pieces: &[Piece]) -> u64
-    requires { length pieces.now < 2 ^ 62 }
+    requires { length pieces.now < 2 ^ 63 }
     ensures { result ≡ words_of pieces.now }
 {
     let mut total = 0;
