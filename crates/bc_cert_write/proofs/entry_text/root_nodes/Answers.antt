@@ -22,4 +22,4 @@ returns c =
 pub marks_of-requires : goal.marks_of-requires
 marks_of-requires c =
     let n : root_nodes (root c.args.root.now) ≡ length c.args.rows.now = ∥∥₁_elim c.requires (Coded-set coded_ℕ _ _) (λ rows. nodes_by_rows (root c.args.root.now) c.args.rows.now rows) in
-    omega (arith, n, c.if-rows.false)
+    omega (arith, n)
