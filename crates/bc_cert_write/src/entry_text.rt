@@ -20,7 +20,8 @@ use bc_select::Row;
 use bc_word::Memory;
 use std::alloc::Global;
 
-/// The node lines of a root with its derivation, from the rows of its nodes, as many as it has nodes.
+/// The node lines of a root with its derivation, from the rows of its nodes, as many as it has nodes. Memory has room for fewer than 2^60 rows.
+#[tactic(auto, using(crate::proofs::Counted::few_nodes))]
 fn root_nodes(
     alloc: Global,
     text: &mut Text,

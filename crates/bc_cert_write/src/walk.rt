@@ -1,6 +1,6 @@
 //! The nodes of a root in order, each with the rules that a tree has there.
 
-ghost use Rattle.std.specs.Prelude.{◌≡◌, ◌≤◌, ◌<◌, ◌+◌, ◌*◌, ◌^◌, [], ◌++◌, OnOk, IfOk, drop, false};
+ghost use Rattle.std.specs.Prelude.{◌≡◌, ◌≤◌, ◌+◌, ◌*◌, ◌^◌, ◌++◌, OnOk, IfOk, drop, false};
 ghost use Rattle.bc_core.specs.Tree.{count};
 ghost use Rattle.bc_core.specs.Level.{side_level as side_level_of};
 ghost use Rattle.bc_core.specs.View.{exp, args, root as root_of};
@@ -27,7 +27,7 @@ fn pair(
     own: Option<&Derivation>,
     marks: &mut Vec<Mark>,
 ) -> Result<(), Memory>
-    requires { level + 2 * (1 + nodes_in (exp a.now) + nodes_in (exp b.now)) < 2 ^ 64 }
+    requires { level + 2 * (1 + nodes_in (exp a.now) + nodes_in (exp b.now)) ≤ 2 ^ 62 }
     ensures { OnOk result (marks.new.items ≡ marks.old.items
         ++ (whole_with mark (exp a.now) (level + 1) (placed (first_place (is_zero_of (exp b.now))) (tree_of own.entry))
         ++ whole_with mark (exp b.now) (level + 1) (placed (second_place (is_zero_of (exp b.now))) (tree_of own.entry)))) }
@@ -48,7 +48,7 @@ fn triple(
     own: Option<&Derivation>,
     marks: &mut Vec<Mark>,
 ) -> Result<(), Memory>
-    requires { level + 2 * (1 + nodes_in (exp c.now) + nodes_in (exp x.now) + nodes_in (exp y.now)) < 2 ^ 64 }
+    requires { level + 2 * (1 + nodes_in (exp c.now) + nodes_in (exp x.now) + nodes_in (exp y.now)) ≤ 2 ^ 62 }
     ensures { OnOk result (marks.new.items ≡ marks.old.items
         ++ ((whole_with mark (exp c.now) level (placed (first_place false) (tree_of own.entry))
         ++ whole_with mark (exp x.now) level (placed (second_place false) (tree_of own.entry)))
@@ -69,7 +69,7 @@ fn all(
     trees: &[Derivation],
     marks: &mut Vec<Mark>,
 ) -> Result<(), Memory>
-    requires { level + 2 * nodes_of_args (args arguments.now) < 2 ^ 64 }
+    requires { level + 2 * nodes_of_args (args arguments.now) ≤ 2 ^ 62 }
     ensures { OnOk result (marks.new.items ≡ marks.old.items ++ all_with mark (args arguments.now) level (derivations trees.now)) }
 {
     for (i, argument) in arguments.iter().enumerate() {
@@ -87,7 +87,7 @@ fn call(
     trees: &[Derivation],
     marks: &mut Vec<Mark>,
 ) -> Result<(), Memory>
-    requires { level + 2 * (1 + nodes_of_args (args arguments.now) + nodes_in (exp routine.now)) < 2 ^ 64 }
+    requires { level + 2 * (1 + nodes_of_args (args arguments.now) + nodes_in (exp routine.now)) ≤ 2 ^ 62 }
     ensures { OnOk result (marks.new.items ≡ marks.old.items
         ++ (all_with mark (args arguments.now) (level + 2) (derivations trees.now)
         ++ whole_with mark (exp routine.now) (level + 2 + count (args arguments.now))
@@ -107,7 +107,7 @@ fn below(
     own: Option<&Derivation>,
     marks: &mut Vec<Mark>,
 ) -> Result<(), Memory>
-    requires { level + 2 * nodes_in (exp e.now) < 2 ^ 64 }
+    requires { level + 2 * nodes_in (exp e.now) ≤ 2 ^ 62 }
     ensures { OnOk result (marks.new.items ≡ marks.old.items ++ below_with mark (exp e.now) level (tree_of own.entry)) }
 {
     match e {
@@ -135,7 +135,7 @@ fn lay(
     tree: Option<&Derivation>,
     marks: &mut Vec<Mark>,
 ) -> Result<(), Memory>
-    requires { level + 2 * nodes_in (exp e.now) < 2 ^ 64 }
+    requires { level + 2 * nodes_in (exp e.now) ≤ 2 ^ 62 }
     ensures { OnOk result (marks.new.items ≡ marks.old.items ++ whole_with mark (exp e.now) level (tree_of tree.entry)) }
 {
     let rules = rules_at(tree);
@@ -168,23 +168,13 @@ fn sides(
     tree: &Derivation,
     marks: &mut Vec<Mark>,
 ) -> Result<(), Memory>
-    requires { level + 2 * (nodes_in (exp value_side.now) + nodes_in (exp address_side.now)) < 2 ^ 64 }
+    requires { level + 2 * (nodes_in (exp value_side.now) + nodes_in (exp address_side.now)) ≤ 2 ^ 62 }
     ensures { OnOk result (marks.new.items ≡ marks.old.items
         ++ (whole_with mark (exp value_side.now) level (placed (first_place false) (Some (derivation tree.now)))
         ++ whole_with mark (exp address_side.now) level (placed (second_place false) (Some (derivation tree.now))))) }
 {
     lay(value_side, level, first_part(Some(tree), false), marks)?;
     lay(address_side, level, second_part(Some(tree), false), marks)
-}
-
-/// No marks, and room for so many. Of more than 2^32 there is room for 2^15 further ones: since a vector has room for fewer than 2^63, the
-/// levels of so many nodes are below 2^64.
-fn no_marks(alloc: Global, nodes: usize) -> Result<Vec<Mark>, Memory>
-    ensures none { IfOk result (λ marks. marks.items ≡ []) }
-    ensures few { IfOk result (λ _. 65536 + 2 * nodes < 2 ^ 64) }
-{
-    let further = if nodes > 1 << 32 { 1 << 15 } else { 0 };
-    Ok(Vec::with_capacity(alloc, nodes.saturating_add(further))?)
 }
 
 /// The nodes of a root, with the rules of its tree. There is room for so many from the start.
@@ -194,12 +184,12 @@ pub fn marks_of(
     alloc: Global,
     root: &Root,
     tree: &Derivation,
-    nodes: usize,
+    room: usize,
 ) -> Result<Vec<Mark>, Memory>
-    requires { root_nodes (root_of root.now) ≤ nodes }
+    requires { root_nodes (root_of root.now) ≤ 2 ^ 60 }
     ensures { IfOk result (λ marks. marks.items ≡ root_with mark (root_of root.now) (derivation tree.now)) }
 {
-    let mut marks = no_marks(alloc, nodes)?;
+    let mut marks = Vec::with_capacity(alloc, room)?;
     match root {
         Root::Value { level, expression } => {
             lay(expression, u64::from(*level), Some(tree), &mut marks)?

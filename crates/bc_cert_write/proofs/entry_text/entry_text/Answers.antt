@@ -1,4 +1,4 @@
-use Rattle.std.proofs.Common.{◌≡◌, ◌++◌, length, ap, sym, subst, ◌∙◌, arith}
+use Rattle.std.proofs.Common.{◌≡◌, ◌++◌, ap, sym, subst, ◌∙◌}
 use Rattle.std.proofs.Math.Logic.{∥∥₁_elim, ∥∥₁_map}
 use Rattle.std.specs.Coded.{Coded-set, coded_list, coded_ℕ}
 use Rattle.std.specs.List.{AllZip}
@@ -30,8 +30,3 @@ returns c =
 
 pub root_nodes-requires : goal.root_nodes-requires
 root_nodes-requires c = ∥∥₁_map c.requires (λ w. subst (AllZip IsRowOf (root_in_order (root c.args.entry.now.root))) (sym c.as_slice-rows.ensures.value) w.rows)
-
-pub words-words-requires : goal.words-words-requires
-words-words-requires c =
-    let v = c.args.workings.now.code in
-    omega (arith, ap length c.as_slice-code.ensures.value, v.ok.0, v.ok.1, v.small)

@@ -19,9 +19,6 @@ all-loop-i-preserved t c =
 pub call-lay-requires : goal.call-lay-requires
 call-lay-requires t c = (search rules, omega (arith, count_of_args (args c.args.arguments.now), args_count c.args.arguments.now))
 
-pub call-overflow_add-level-3 : goal.call-overflow_add-level-3
-call-overflow_add-level-3 t c = omega (arith, count_of_args (args c.args.arguments.now), args_count c.args.arguments.now)
-
 pub call-returns : goal.call-returns
 call-returns t c =
     on_ok c.lay.result (λ h. routine_behind c.args.marks.now.items c.all.new.marks.items c.lay.new.marks.items c.args.arguments.now (exp c.args.routine.now) c.args.level c.args.trees.now _ c.in_ok-all.ensures c.at.ensures h) c.lay.ensures

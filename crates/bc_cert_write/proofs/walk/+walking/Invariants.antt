@@ -1,5 +1,5 @@
 -- The nodes of the arguments so far, and those of the others, are those of all.
-use Rattle.std.proofs.Common.{◌≡◌, ◌≤◌, ◌<◌, ◌+◌, ◌*◌, ◌^◌, ◌++◌, drop}
+use Rattle.std.proofs.Common.{◌≡◌, ◌≤◌, ◌+◌, ◌*◌, ◌^◌, ◌++◌, drop}
 use Rattle.bc_core.specs.View.{exp, args}
 use Rattle.bc_core.specs.WellFormed.{nodes, nodes_of_args}
 use Rattle.bc_rules_defs.specs.View.{derivations}
@@ -9,7 +9,7 @@ use Rattle.bc_cert_write.proofs.walk.+walking.Given as goal
 abbrev pub invariant-all-loop-i : goal.invariant-all-loop-i
 invariant-all-loop-i l = record {
   so_far : l.marks.items ++ all_with mark (args (drop l.i l.arguments)) (l.level + l.i) (derivations (drop l.i l.trees)) ≡ l.fn.marks.items ++ all_with mark (args l.arguments) l.level (derivations l.trees);
-  room : l.level + l.i + 2 * nodes_of_args (args (drop l.i l.arguments)) < 2 ^ 64;
+  room : l.level + l.i + 2 * nodes_of_args (args (drop l.i l.arguments)) ≤ 2 ^ 62;
   fewer : nodes_of_args (args (drop l.i l.arguments)) ≤ nodes_of_args (args l.arguments);
 }
 
