@@ -3,6 +3,7 @@ use Rattle.std.specs.Prelude.{◌≡◌, ℕ, ◌≤◌, refl}
 use Rattle.std.proofs.Common.{arith}
 use Rattle.bc_word.specs.declared.operator.Op.TheVariants.{Multiply}
 use Rattle.bc_core.specs.Tree.{Exp, Frame, Load, Bin, Cond, Root, Value}
+use Rattle.bc_rules_defs.specs.declared.rule.Table.{Table}
 use Rattle.bc_rules_defs.specs.declared.rule.Table.TheVariants.{One}
 use Rattle.bc_rules_defs.specs.declared.rule.Mode.TheVariants.{Any}
 use Rattle.bc_rules_defs.specs.declared.rule.Aim.TheVariants.{Gets}
