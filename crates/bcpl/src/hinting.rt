@@ -190,6 +190,13 @@ fn said_of_words<F: Files>(
                 }
             }
         }
+        Some(Guess::OutOf { text, source }) => Some(format!(in alloc;
+            "the text goes to the file behind --out, as in `bcpl build --out {text} {source}`"
+        )?),
+        Some(Guess::Digits(option)) => Some(format!(in alloc;
+            "{option} takes a number in digits alone, as in `{option} 10000`"
+        )?),
+        Some(Guess::Dash(word)) => Some(format!(in alloc; "an option has two dashes: -{word}")?),
         None => None,
     })
 }
