@@ -51,7 +51,7 @@ pub fn code_of(
 ) -> Result<Vec<Piece>, Memory>
     ensures { IfOk result (λ pieces. IsCodeOf (root_of root.now) (tree derivation.now) target first pieces.items) }
 {
-    let coded = code_with_labels(alloc, root, derivation, target, first)?;
+    let coded = code_with_labels(alloc, root, derivation, target, first).map_err(|_| Memory)?;
     Ok(coded.pieces)
 }
 

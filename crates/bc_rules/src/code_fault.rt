@@ -22,9 +22,3 @@ impl From<Memory> for CodeFault {
         CodeFault::Memory
     }
 }
-
-impl From<CodeFault> for Memory {
-    fn from(_fault: CodeFault) -> Memory {
-        Memory
-    }
-}
