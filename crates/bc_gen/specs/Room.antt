@@ -24,6 +24,7 @@ abbrev pub PieceHasRoom : Bodies → Piece → Type 0
 PieceHasRoom B (pieces.Item i) = Unit {0}
 PieceHasRoom B (pieces.Body n) = B n
 
+-- The selector takes a root of at most 2^32 nodes. Where its cells are at most 65,536, its code lacks no more than labels.
 pub record RootHasRoom (B : Bodies) (r : Root) : Type 0 where
   pub nodes : root_nodes r ≤ 2 ^ 32
   pub cells : cells_of_root r ≤ 65536
@@ -34,10 +35,12 @@ abbrev pub VariablesHaveRoom : Bodies → List Variable → (k s : ℕ) → Type
 VariablesHaveRoom B [] k s = Unit {0}
 VariablesHaveRoom B (v ∷ vs) k s = RootHasRoom B (Assign s (initial_of v k) (Frame k)) × VariablesHaveRoom B vs (k + cells_of v) s
 
+-- each declaration takes its cells first, and its initialisers stand at the level behind it
 abbrev pub DeclarationsHaveRoom : Bodies → List (List Variable) → ℕ → Type 0
 DeclarationsHaveRoom B [] s = Unit {0}
 DeclarationsHaveRoom B (vs ∷ ds) s = let s1 = s + cells_of_all vs in (s1 ≤ 65535) × VariablesHaveRoom B vs s s1 × DeclarationsHaveRoom B ds s1
 
+-- a command at level s: its roots and its blocks, as `emit` has them
 abbrev mutual
   pub CommandHasRoom : Bodies → Command → ℕ → Type 0
   CommandHasRoom B (commands.Call e) s = RootHasRoom B (Value s e)
