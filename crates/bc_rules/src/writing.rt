@@ -138,6 +138,7 @@ fn no_parts(w: &mut Writer, trees: &[Derivation], node: Node, valof: bool) -> Re
 }
 
 #[cycle(writing)]
+#[tactic(auto, using(crate::proofs::Counts::one_labels))]
 fn one_part(w: &mut Writer, trees: &[Derivation], node: Node, a: Part) -> Result<(), CodeFault>
     ensures { WritesOrLacks result w.old w.new
         (code_of_parts node.entry.rule node.entry.aim (exp node.entry.of.now) (single_of a.entry.aim (exp a.entry.of.now))
@@ -230,6 +231,7 @@ fn three_parts(w: &mut Writer, trees: &[Derivation], node: Node, of: Three) -> R
 }
 
 #[cycle(writing)]
+#[tactic(auto, using(crate::proofs::Counts::count_args, crate::proofs::Counts::call_labels_next, crate::proofs::Counts::call_labels_last, crate::proofs::Counts::argument_cells))]
 fn call(w: &mut Writer, trees: &[Derivation], node: Node, of: CallOf) -> Result<(), CodeFault>
     ensures { WritesOrLacks result w.old w.new
         (code_of_parts node.entry.rule node.entry.aim (exp node.entry.of.now) (called 0 (args of.entry.arguments.now) (exp of.entry.routine.now))

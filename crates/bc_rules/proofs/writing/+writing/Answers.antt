@@ -1,5 +1,4 @@
 use Rattle.std.proofs.Common.{◌≡◌, length, ◌∙◌, arith}
-use Rattle.bc_rules.proofs.Counts.{one_labels, two_own, two_labels, three_own, three_labels, call_labels_next, call_labels_last, count_args, argument_cells}
 use Rattle.bc_rules.proofs.Written.{tree_writes, single_writes, single_writes_not, pair_writes, pair_writes_not, triple_writes, triple_writes_not, call_misfit, call_writes}
 use Rattle.bc_rules.proofs.writing.+writing.Goals.{call-then-trees-n-via-then-trees-n, call-then-trees-n-via-else-trees-n+then-trees-n-ne1}
 use Rattle.bc_rules.proofs.writing.+writing.Goals as goal
@@ -43,40 +42,3 @@ call-returns t c =
     let i : c.loop-i.i ≡ length c.args.of.arguments.now = omega arith in
     call_writes _ _ _ _ _ _ _ _ _ _ _ _ _ _ _ _ _ _ _ i (omega arith) c.index-trees-n.is c.loop-i.invariant.0 (c.new-number.ensures ∙ c.in_ok-as_word.ensures) c.loop-i.invariant.1 c.loop-i.invariant.2
     c.in_ok-write-2.ensures c.in_ok-number.ensures
-
--- where a step fails: it is no further than the whole
-pub one_part-returns-in_err-write : goal.one_part-returns-in_err-write
-one_part-returns-in_err-write t c = grind (arith, one_labels)
-
-pub two_parts-returns-in_err-first : goal.two_parts-returns-in_err-first
-two_parts-returns-in_err-first t c = grind (arith, two_own)
-
-pub two_parts-returns-in_err-target : goal.two_parts-returns-in_err-target
-two_parts-returns-in_err-target t c = grind (arith, two_own)
-
-pub two_parts-returns-in_err-write : goal.two_parts-returns-in_err-write
-two_parts-returns-in_err-write t c = grind (arith, two_labels)
-
-pub three_parts-returns-in_err-first : goal.three_parts-returns-in_err-first
-three_parts-returns-in_err-first t c = grind (arith, three_own)
-
-pub three_parts-returns-in_err-target : goal.three_parts-returns-in_err-target
-three_parts-returns-in_err-target t c = grind (arith, three_own)
-
-pub three_parts-returns-in_err-write : goal.three_parts-returns-in_err-write
-three_parts-returns-in_err-write t c = grind (arith, three_labels)
-
-pub three_parts-returns-in_err-as_word : goal.three_parts-returns-in_err-as_word
-three_parts-returns-in_err-as_word t c = grind (arith, three_labels)
-
-pub call-returns-in_err-write : goal.call-returns-in_err-write
-call-returns-in_err-write t c = grind (arith, call_labels_next, argument_cells)
-
-pub call-returns-in_err-cell : goal.call-returns-in_err-cell
-call-returns-in_err-cell t c = grind (arith, count_args)
-
-pub call-returns-in_err-level-2 : goal.call-returns-in_err-level-2
-call-returns-in_err-level-2 t c = grind (arith, count_args)
-
-pub call-returns-in_err-write-2 : goal.call-returns-in_err-write-2
-call-returns-in_err-write-2 t c = grind (arith, call_labels_last, count_args)
