@@ -14,9 +14,10 @@ use Rattle.bc_rules_defs.specs.Piece.{w, operand_words}
 use Rattle.bc_rules_defs.specs.Rules.{Derives, v0, v1, v2, v3, v4, v6, v7, v8, v9, v10, v11, v12, v13, v14, v15, v16, v17, v18, v19, v20, v21, v22, v22_valof, j1, j2, j3, j4, j5, j6, j7, j8, j9, DerivesAll, no_more, one_more}
 use Rattle.bc_rules_defs.specs.Code.{cost, all_cost}
 use Rattle.bc_cert_defs.specs.Verdict.{Judged}
-use Rattle.bc_cert_write.specs.Shown.{Shown, ended, below_bare, all_bare, bare, rules_at, below, all_shown as all_of_call, shown}
+use Rattle.bc_cert_write.specs.Shown.{Shown, ended, bare, rules_at, below, all_shown as all_of_call, shown}
 use Rattle.bc_cert_write.specs.Lines.{node_line as line_of_node}
 use Rattle.bc_cert_write.proofs.Shapes.{kept}
+use Rattle.bc_cert_write.proofs.Bare.{all_bare, bare_parts, bare_is, below_is}
 use Rattle.bc_cert_defs.specs.declared.head.Head.{Head}
 use Rattle.bc_cert_laws.specs.Entries.{NodeHasRoom}
 use Rattle.bc_cert_laws.specs.Faults.{Grown, all_shown, all_parts, parts, Ends, RulesStand, StandsBy, node, grown, nodes, Reaches, node_line}
@@ -82,14 +83,15 @@ node_grows T e s rules ns g room stands = record {
 }
 
 -- expressions without rules
-bare_grows : (T : Table) (e : Exp) (s : ℕ) → HaveRoom T (bare e s) → Grows T (parts e s) (below_bare e s) → Grows T ((e, s) ∷ []) (bare e s)
-bare_grows T e s room g = node_grows T e s [] (below_bare e s) g (all_behind (NodeHasRoom T) (below_bare e s) _ room).0 tt
+bare_grows : (T : Table) (e : Exp) (s : ℕ) → HaveRoom T (bare e s) → Grows T (parts e s) (bare_parts e s) → Grows T ((e, s) ∷ []) (bare e s)
+bare_grows T e s room g =
+    subst (Grows T ((e, s) ∷ [])) (sym (bare_is e s)) (node_grows T e s [] (bare_parts e s) g (all_behind (NodeHasRoom T) (bare_parts e s) _ (subst (HaveRoom T) (bare_is e s) room)).0 tt)
 
-abbrev bare_front : (T : Table) (e : Exp) (s : ℕ) → HaveRoom T (bare e s) → HaveRoom T (below_bare e s)
-bare_front T e s room = all_front (NodeHasRoom T) (below_bare e s) _ room
+bare_front : (T : Table) (e : Exp) (s : ℕ) → HaveRoom T (bare e s) → HaveRoom T (bare_parts e s)
+bare_front T e s room = all_front (NodeHasRoom T) (bare_parts e s) _ (subst (HaveRoom T) (bare_is e s) room)
 
 mutual
-  pub bare_parts_grow : (T : Table) (e : Exp) (s : ℕ) → HaveRoom T (below_bare e s) → Grows T (parts e s) (below_bare e s)
+  bare_parts_grow : (T : Table) (e : Exp) (s : ℕ) → HaveRoom T (bare_parts e s) → Grows T (parts e s) (bare_parts e s)
   bare_parts_grow T (Num n) s room = no_part_grows T
   bare_parts_grow T (Frame k) s room = no_part_grows T
   bare_parts_grow T (Glob n) s room = no_part_grows T
@@ -157,7 +159,7 @@ three_grow {T = T} p q r ns ms ls room f g h =
 mutual
   pub below_grows : {T : Table} {e : Exp} {aim : Aim} (d : Derives T e aim) (s : ℕ) → HaveRoom T (below d s) → IsFewest d s → Grows T (parts e s) (below d s)
   below_grows (v0 d) s room least = below_grows d s room (λ o. least (v0 o))
-  below_grows (v1 {T = T} {e = e} h) s room least = bare_parts_grow T e s room
+  below_grows (v1 {T = T} {e = e} h) s room least = subst (Grows T (parts e s)) (sym (below_is e s)) (bare_parts_grow T e s (subst (HaveRoom T) (below_is e s) room))
   below_grows (v2 {e = e} d) s room least = one_grows (e, s) _ room (λ room. whole_grows d s room (by_one d s 1 (λ o. least (v2 o))) (below_grows d s (front d s room) (by_one d s 1 (λ o. least (v2 o)))))
   below_grows (v3 {e = e} d) s room least = one_grows (e, s) _ room (λ room. whole_grows d s room (by_one d s 1 (λ o. least (v3 o))) (below_grows d s (front d s room) (by_one d s 1 (λ o. least (v3 o)))))
   below_grows (v4 {e = e} d) s room least = one_grows (e, s) _ room (λ room. whole_grows d s room (by_one d s 1 (λ o. least (v4 o))) (below_grows d s (front d s room) (by_one d s 1 (λ o. least (v4 o)))))

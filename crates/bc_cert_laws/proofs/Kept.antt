@@ -1,7 +1,7 @@
 -- What the checker keeps of a node over its parts, by the form.
 use Rattle.std.proofs.Common.{◌≡◌, ℕ, ◌+◌, max, Bool, true, false, cond, List, [], ◌∷◌, ◌++◌, map, refl, ap, sym, ◌∙◌, arith, append_assoc}
 use Rattle.std.specs.Prelude.{◌||◌}
-use Rattle.bc_core.specs.Tree.{Exp, Num, Frame, Glob, Place, Load, Neg, Not, Bin, Cond, Call, Valof, Args, no_argument, argument, count}
+use Rattle.bc_core.specs.Tree.{Exp, Args, count}
 use Rattle.bc_core.specs.Value.{has_call}
 use Rattle.bc_rules_defs.specs.declared.rule.Table.{Table}
 use Rattle.bc_rules_defs.specs.declared.rule.Rule.{Rule}
@@ -14,7 +14,8 @@ use Rattle.bc_cert_node.specs.Form.{calls_itself, is_plain}
 use Rattle.bc_cert_trees.specs.declared.mark.Mark.{Mark}
 use Rattle.bc_cert_trees.specs.Marks.{depth_from, depth_over, all_bare}
 use Rattle.bc_cert_trees.specs.Stacks.{any_calls}
-use Rattle.bc_cert_write.specs.Shown.{Shown, below_bare, bare, all_bare as all_bare_from}
+use Rattle.bc_cert_write.specs.Shown.{Shown, bare}
+use Rattle.bc_cert_write.proofs.Bare.{all_bare as all_bare_from, bare_parts}
 use Rattle.bc_cert_laws.specs.Entries.{nested, all_nested}
 use Rattle.bc_cert_laws.specs.Faults.{node}
 use Rattle.bc_cert_laws.proofs.Over.{StandsAt, AreArguments, routine, next, Over, num, frame, glob, place, valof, load, neg, not, bin, choice, call}
@@ -46,23 +47,12 @@ order_is (bin {ns = ns} {os = os} h i) rules = both (ns ++ os) _ _ _ (both ns os
 order_is (choice {ks = ks} {ns = ns} {os = os} h i j) rules = both ((ks ++ ns) ++ os) _ _ _ (both (ks ++ ns) os _ _ (both ks ns _ _ h.order i.order) j.order) refl
 order_is (call {ns = ns} h) rules = both ns _ _ _ (arguments_order h) refl
 
-mutual
-  pub bare_order : (e : Exp) (s : ℕ) → keys (bare e s) ≡ in_order e s
-  bare_order (Num n) s = refl
-  bare_order (Frame n) s = refl
-  bare_order (Glob n) s = refl
-  bare_order (Place n) s = refl
-  bare_order (Valof n) s = refl
-  bare_order (Load e) s = both (bare e s) _ _ _ (bare_order e s) refl
-  bare_order (Neg e) s = both (bare e s) _ _ _ (bare_order e s) refl
-  bare_order (Not e) s = both (bare e s) _ _ _ (bare_order e s) refl
-  bare_order (Bin op a b) s = both (bare a (s + 1) ++ bare b (s + 1)) _ _ _ (both (bare a (s + 1)) (bare b (s + 1)) _ _ (bare_order a (s + 1)) (bare_order b (s + 1))) refl
-  bare_order (Cond a b c) s = both ((bare a s ++ bare b s) ++ bare c s) _ _ _ (both (bare a s ++ bare b s) (bare c s) _ _ (both (bare a s) (bare b s) _ _ (bare_order a s) (bare_order b s)) (bare_order c s)) refl
-  bare_order (Call es f) s = both (all_bare_from es (s + 2) ++ bare f (s + 2 + count es)) _ _ _ (both (all_bare_from es (s + 2)) (bare f (s + 2 + count es)) _ _ (bares_order es (s + 2)) (bare_order f (s + 2 + count es))) refl
+bares_order : (ns : List (Exp × ℕ)) → keys (map (λ n. record { expression = n.0; level = n.1; rules = [] }) ns) ≡ ns
+bares_order [] = refl
+bares_order (n ∷ ns) = ap (λ l. n ∷ l) (bares_order ns)
 
-  bares_order : (es : Args) (s : ℕ) → keys (all_bare_from es s) ≡ all_in_order es s
-  bares_order no_argument s = refl
-  bares_order (argument e es) s = both (bare e s) (all_bare_from es (s + 1)) _ _ (bare_order e s) (bares_order es (s + 1))
+pub bare_order : (e : Exp) (s : ℕ) → keys (bare e s) ≡ in_order e s
+bare_order e s = bares_order (in_order e s)
 
 -- lists of the same nodes are cut at the same place
 pub cut : (xs ys us vs : List Shown) → keys xs ≡ keys us → xs ++ ys ≡ us ++ vs → (xs ≡ us) × (ys ≡ vs)
@@ -107,7 +97,7 @@ bare_arguments {f = f} {s = s} (next {e = e} {es = es} {ns = ns} {os = os} h i) 
     let c = two_true _ _ b in
     pair_of ns os _ _ (h.bare_to c.0) (bare_arguments i c.1 ∙ ap (λ k. all_bare_from es (s + 1) ++ bare f k) level) ∙ sym (append_assoc (bare e s) (all_bare_from es (s + 1)) (bare f (s + (1 + count es))))
 
-pub bare_to : {T : Table} {s : ℕ} {form : Form} {ns : List Shown} {ms : List Mark} {ps : List Facts} {xs : List Tree} {e : Exp} → Over T s form ns ms ps xs e → all_bare ms ≡ true → ns ≡ below_bare e s
+pub bare_to : {T : Table} {s : ℕ} {form : Form} {ns : List Shown} {ms : List Mark} {ps : List Facts} {xs : List Tree} {e : Exp} → Over T s form ns ms ps xs e → all_bare ms ≡ true → ns ≡ bare_parts e s
 bare_to num b = refl
 bare_to frame b = refl
 bare_to glob b = refl
@@ -129,7 +119,7 @@ arguments_bare {f = f} {s = s} (next {e = e} {es = es} {ns = ns} {os = os} h i) 
     let c = cut ns os (bare e s) (all_bare_from es (s + 1) ++ bare f (s + (1 + count es))) (h.order ∙ sym (bare_order e s)) (k ∙ append_assoc (bare e s) (all_bare_from es (s + 1)) (bare f (s + (1 + count es)))) in
     true_two _ _ (h.bare_from c.0) (arguments_bare i (c.1 ∙ ap (λ k. all_bare_from es (s + 1) ++ bare f k) level))
 
-pub bare_from : {T : Table} {s : ℕ} {form : Form} {ns : List Shown} {ms : List Mark} {ps : List Facts} {xs : List Tree} {e : Exp} → Over T s form ns ms ps xs e → ns ≡ below_bare e s → all_bare ms ≡ true
+pub bare_from : {T : Table} {s : ℕ} {form : Form} {ns : List Shown} {ms : List Mark} {ps : List Facts} {xs : List Tree} {e : Exp} → Over T s form ns ms ps xs e → ns ≡ bare_parts e s → all_bare ms ≡ true
 bare_from num k = refl
 bare_from frame k = refl
 bare_from glob k = refl

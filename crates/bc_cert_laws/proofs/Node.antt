@@ -30,7 +30,8 @@ use Rattle.bc_cert_trees.specs.Derived.{derived}
 use Rattle.bc_cert_trees.specs.Showing.{shown_by, nothing_shown, where_some, shown_with, shown_for}
 use Rattle.bc_cert_trees.specs.Stacks.{second_zero, is_taken, line_node, new_mark, new_facts}
 use Rattle.bc_cert_trees.specs.Wholes.{whole}
-use Rattle.bc_cert_write.specs.Shown.{Shown, bare, below_bare, rules_at, below, shown}
+use Rattle.bc_cert_write.specs.Shown.{Shown, bare, rules_at, below, shown}
+use Rattle.bc_cert_write.proofs.Bare.{bare_parts, bare_is}
 use Rattle.bc_cert_laws.specs.Entries.{nested}
 use Rattle.bc_cert_laws.specs.Faults.{Grown, all_shown, node, grown, Name, name, StandsBy, RulesStand}
 use Rattle.bc_cert_laws.specs.Standing.{over_if, chain_rules, IsChain, AreNamed, no_name, named, wrong, IsFewest, Shows, Stands, AllStand, IsOver, ShowsRules, no_rule, by_chain}
@@ -140,12 +141,12 @@ module _ {T : Table} {s : ℕ} {form : Form} {ns : List Shown} {ms : List Mark} 
 
   -- nodes without rules
   bare_tree : (rs : Rules) (rules : List Rule) → ShowsRules rs rules → is_taken rs && all_bare ms ≡ true → ns ++ node e s rules ∷ [] ≡ bare e s
-  bare_tree rs rules no_rule g = ap (λ us. us ++ node e s [] ∷ []) (bare_to o g)
+  bare_tree rs rules no_rule g = ap (λ us. us ++ node e s [] ∷ []) (bare_to o g) ∙ sym (bare_is e s)
   bare_tree rs rules (by_chain i) g = never g
 
   tree_bare : (rs : Rules) (rules : List Rule) → ShowsRules rs rules → ns ++ node e s rules ∷ [] ≡ bare e s → is_taken rs && all_bare ms ≡ true
-  tree_bare rs rules no_rule g = and_from _ _ refl (bare_from o (last_is ns (below_bare e s) (node e s []) (node e s []) g).0)
-  tree_bare rs rules (by_chain {c = ch} i) g = absurd (some_rule ch (ap (λ (x : Shown). x.rules) (last_is ns (below_bare e s) (node e s (chain_rules ch)) (node e s []) g).1))
+  tree_bare rs rules no_rule g = and_from _ _ refl (bare_from o (last_is ns (bare_parts e s) (node e s []) (node e s []) (g ∙ bare_is e s)).0)
+  tree_bare rs rules (by_chain {c = ch} i) g = absurd (some_rule ch (ap (λ (x : Shown). x.rules) (last_is ns (bare_parts e s) (node e s (chain_rules ch)) (node e s []) (g ∙ bare_is e s)).1))
 
   stands_by : (rs : Rules) (rules : List Rule) → ShowsRules rs rules → (p : Position) (sh : marks.Shown) → shown_with (node_at T s form e ps) ms c rs p ≡ Ok sh → StandsBy T e s rules (ns ++ node e s rules ∷ [])
   stands_by rs rules no_rule p sh g = tt

@@ -29,6 +29,7 @@ use Rattle.bc_cert_trees.specs.Marks.{all_bare}
 use Rattle.bc_cert_trees.specs.Showing.{has_words, agree, makes_by, makes}
 use Rattle.bc_cert_trees.specs.Derived.{trees}
 use Rattle.bc_cert_write.specs.Shown.{Shown, below_bare, rules_of_value, rules_at, below, all_shown, shown}
+use Rattle.bc_cert_write.proofs.Bare.{below_is}
 use Rattle.bc_cert_laws.specs.Standing.{IsFewest, Begins, begun}
 use Rattle.bc_cert_laws.proofs.Over.{some_same, StandsAt, AreArguments, routine, next, Over, num, valof, load, neg, not as not_over, choice, call}
 use Rattle.bc_cert_laws.proofs.Kept.{two_true, true_two, pair_of, bare_to, bare_from, cut}
@@ -61,10 +62,10 @@ agree_bare at (m ∷ ms) = ap (λ b. cond m.is_bare b false) (agree_bare (at + 1
 pub operand_begins : {T : Table} {s : ℕ} {form : Form} {ns : List Shown} {ms : List Mark} {ps : List Facts} {xs : List Tree} {e : Exp} → Over T s form ns ms ps xs e → (aim : Aim) (k : ℕ) (o : Option Operand) → operand_of e ≡ o
     → makes_by (node_at T s form e ps) ms (Some k) (of_operand aim (words_of_operand o)) ≡ true → Begins T e aim s V1 k ns
 operand_begins i (Gets Push) k None g h = cc
-operand_begins {s = s} {ms = ms} {ps = ps} i (Gets Push) k (Some o) g h =
+operand_begins {s = s} {ms = ms} {ps = ps} {e = e} i (Gets Push) k (Some o) g h =
     let c = and_parts _ _ h in
     let words = some_same (sym (nothing_more s (operand_words o + 0) 0 ps) ∙ words_are _ k c.0) in
-    record { derivation = v1 g; first = refl; counted = omega arith; parts = sym (bare_to i (sym (agree_bare 0 ms) ∙ c.1)) }
+    record { derivation = v1 g; first = refl; counted = omega arith; parts = below_is e s ∙ sym (bare_to i (sym (agree_bare 0 ms) ∙ c.1)) }
 operand_begins i (Gets Any) k o g h = cc
 operand_begins i (Jumps sense) k o g h = cc
 
@@ -73,7 +74,7 @@ pub operand_makes : {T : Table} {s : ℕ} {form : Form} {ns : List Shown} {ms : 
 operand_makes {T = T} {s = s} {form = form} {ms = ms} {ps = ps} {e = e} {o = o} i g b =
     let same : operand_words o + 0 ≡ operand_words o = omega arith in (
       ap (λ x. makes_by (node_at T s form e ps) ms (Some (operand_words o)) (of_operand (Gets Push) (words_of_operand x))) g
-          ∙ and_from _ _ (are_words _ _ (nothing_more s (operand_words o + 0) 0 ps ∙ ap Some same)) (agree_bare 0 ms ∙ bare_from i (sym b)),
+          ∙ and_from _ _ (are_words _ _ (nothing_more s (operand_words o + 0) 0 ps ∙ ap Some same)) (agree_bare 0 ms ∙ bare_from i (sym b ∙ below_is e s)),
       refl,
     )
 

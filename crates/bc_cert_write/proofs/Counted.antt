@@ -1,5 +1,7 @@
 -- A root has as many nodes as rows.
-use Rattle.std.proofs.Common.{ℕ, ◌+◌, ◌≡◌, List, [], ◌∷◌, ◌++◌, length, length-append, refl, sym, ◌∙◌, ap, suc, arith}
+use Rattle.std.proofs.Common.{ℕ, ◌+◌, ◌^◌, ◌≤◌, ◌≡◌, List, [], ◌∷◌, ◌++◌, length, length-append, refl, sym, ◌∙◌, ap, suc, arith}
+use Rattle.std.proofs.Math.Logic.{∥∥₁_elim}
+use Rattle.std.specs.Coded.{Coded-set, coded_ℕ}
 use Rattle.std.specs.List.{AllZip}
 use Rattle.bc_core.specs.Tree.{Exp, Num, Frame, Glob, Place, Load, Neg, Not, Bin, Cond, Call, Valof, Args, no_argument, argument, count, Root, Value, Test, Assign}
 use Rattle.bc_core.specs.Level.{side_level}
@@ -9,7 +11,7 @@ use Rattle.bc_select.specs.declared.row.Row.{Row}
 use Rattle.bc_select.specs.Rows.{IsRowOf}
 
 mutual
-  length_in_order : (e : Exp) (s : ℕ) → length (in_order e s) ≡ nodes e
+  pub length_in_order : (e : Exp) (s : ℕ) → length (in_order e s) ≡ nodes e
   length_in_order (Num n) s = refl
   length_in_order (Frame k) s = refl
   length_in_order (Glob n) s = refl
@@ -62,3 +64,8 @@ as_many (x ∷ xs) (y ∷ ys) h = ap suc (as_many xs ys h.1)
 
 pub nodes_by_rows : (r : Root) (rows : List Row) → AllZip IsRowOf (root_in_order r) rows → root_nodes r ≡ length rows
 nodes_by_rows r rows h = sym (length_root r) ∙ as_many (root_in_order r) rows h
+
+pub few_nodes : (r : Root) (rows : List Row) → ∥ AllZip IsRowOf (root_in_order r) rows ∥₁ → length rows ≤ 2 ^ 60 → root_nodes r ≤ 2 ^ 60
+few_nodes r rows h few =
+    let n : root_nodes r ≡ length rows = ∥∥₁_elim h (Coded-set coded_ℕ _ _) (λ h. nodes_by_rows r rows h) in
+    omega arith

@@ -1,3 +1,4 @@
+pub mod Bare
 pub mod Counted
 pub mod Digits
 pub mod Seen

@@ -13,9 +13,10 @@ use Rattle.bc_rules_defs.specs.Free.{is_zero, without_zero}
 use Rattle.bc_rules_defs.specs.Takes.{beside}
 use Rattle.bc_rules_defs.specs.Rules.{Derives, v0, v1, v2, v3, v4, v6, v7, v8, v9, v10, v11, v12, v13, v14, v15, v16, v17, v18, v19, v20, v21, v22, v22_valof, j1, j2, j3, j4, j5, j6, j7, j8, j9, DerivesAll, no_more, one_more, RootDerives, value, test, a1, a2, a3, Tree, by, no_part, one, end_with, shape, shapes, root_shape}
 use Rattle.bc_select_defs.specs.Least.{top}
-use Rattle.bc_cert_write.specs.Shown.{Shown, ended, below_bare, all_bare, bare, rules_of_value, rules_at, below, all_shown, shown, root_shown}
+use Rattle.bc_cert_write.specs.Shown.{Shown, ended, bare, rules_of_value, rules_at, below, all_shown, shown, root_shown}
 use Rattle.bc_cert_write.specs.Walked.{first, top_of, is_v0, is_j6, behind, own, at_slot, first_slot, second_slot, behind_arguments, behind_value, behind_test, chain_of_value, chain_of, rules_of, below_with, all_with, whole_with, root_with}
 use Rattle.bc_cert_write.specs.Nodes.{shown_at}
+use Rattle.bc_cert_write.proofs.Bare.{all_bare, bare_parts, bare_is, below_is}
 
 both : (xs ys us vs : List Shown) → xs ≡ us → ys ≡ vs → xs ++ ys ≡ us ++ vs
 both xs ys us vs h i = ap (λ l. l ++ ys) h ∙ ap (λ l. us ++ l) i
@@ -78,30 +79,33 @@ none_behind : (es : Args) → first (behind_arguments es no_part) ≡ None
 none_behind no_argument = refl
 none_behind (argument e es) = none_behind es
 
+bare_node : (e : Exp) (s : ℕ) → below_with shown_at e s None ≡ bare_parts e s → whole_with shown_at e s None ≡ bare e s
+bare_node e s h = ap (λ l. ended l e s []) h ∙ sym (bare_is e s)
+
 mutual
-  bare_below : (e : Exp) (s : ℕ) → below_with shown_at e s None ≡ below_bare e s
+  bare_below : (e : Exp) (s : ℕ) → below_with shown_at e s None ≡ bare_parts e s
   bare_below (Num n) s = refl
   bare_below (Frame k) s = refl
   bare_below (Glob n) s = refl
   bare_below (Place m) s = refl
-  bare_below (Load e) s = ap (λ l. ended l e s []) (bare_below e s)
-  bare_below (Neg e) s = ap (λ l. ended l e s []) (bare_below e s)
-  bare_below (Not e) s = ap (λ l. ended l e s []) (bare_below e s)
-  bare_below (Bin op a b) s = both _ _ _ _ (ap (λ l. ended l a (s + 1) []) (bare_below a (s + 1))) (ap (λ l. ended l b (s + 1) []) (bare_below b (s + 1)))
-  bare_below (Cond c x y) s = both _ _ _ _ (both _ _ _ _ (ap (λ l. ended l c s []) (bare_below c s)) (ap (λ l. ended l x s []) (bare_below x s))) (ap (λ l. ended l y s []) (bare_below y s))
+  bare_below (Load e) s = bare_node e s (bare_below e s)
+  bare_below (Neg e) s = bare_node e s (bare_below e s)
+  bare_below (Not e) s = bare_node e s (bare_below e s)
+  bare_below (Bin op a b) s = both _ _ _ _ (bare_node a (s + 1) (bare_below a (s + 1))) (bare_node b (s + 1) (bare_below b (s + 1)))
+  bare_below (Cond c x y) s = both _ _ _ _ (both _ _ _ _ (bare_node c s (bare_below c s)) (bare_node x s (bare_below x s))) (bare_node y s (bare_below y s))
   bare_below (Call es f) s =
       both _ _ _ _ (bare_all es (s + 2))
-      (ap (λ x. whole_with shown_at f (s + 2 + count es) x) (none_behind es) ∙ ap (λ l. ended l f (s + 2 + count es) []) (bare_below f (s + 2 + count es)))
+      (ap (λ x. whole_with shown_at f (s + 2 + count es) x) (none_behind es) ∙ bare_node f (s + 2 + count es) (bare_below f (s + 2 + count es)))
   bare_below (Valof n) s = refl
 
   bare_all : (es : Args) (s : ℕ) → all_with shown_at es s no_part ≡ all_bare es s
   bare_all no_argument s = refl
-  bare_all (argument e es) s = both _ _ _ _ (ap (λ l. ended l e s []) (bare_below e s)) (bare_all es (s + 1))
+  bare_all (argument e es) s = both _ _ _ _ (bare_node e s (bare_below e s)) (bare_all es (s + 1))
 
 bare_whole : (e : Exp) (s : ℕ) → whole_with shown_at e s None ≡ bare e s
-bare_whole e s = ap (λ l. ended l e s []) (bare_below e s)
+bare_whole e s = bare_node e s (bare_below e s)
 
-operand_below : (e : Exp) (s : ℕ) → below_with shown_at e s (Some (by V1 no_part)) ≡ below_bare e s
+operand_below : (e : Exp) (s : ℕ) → below_with shown_at e s (Some (by V1 no_part)) ≡ bare_parts e s
 operand_below (Load e) s = bare_below (Load e) s
 operand_below e s = bare_below e s
 
@@ -143,7 +147,7 @@ routine_tree (one_more d ds) x = routine_tree ds x
 mutual
   pub nodes_below : {T : Table} {e : Exp} {aim : Aim} (d : Derives T e aim) (s : ℕ) → below_with shown_at e s (own (Some (shape d))) ≡ below d s
   nodes_below (v0 {e = e} d) s = ap (λ y. below_with shown_at e s y) (sym (own_pushed d)) ∙ nodes_below d s
-  nodes_below (v1 {e = e} h) s = operand_below e s
+  nodes_below (v1 {e = e} h) s = operand_below e s ∙ sym (below_is e s)
   nodes_below (v2 d) s = whole d s (nodes_below d s)
   nodes_below (v3 d) s = whole d s (nodes_below d s)
   nodes_below (v4 d) s = whole d s (nodes_below d s)

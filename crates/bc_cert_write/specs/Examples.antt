@@ -1,15 +1,18 @@
--- A worked example: the lines of WRCH('A') in a routine without variables.
+-- Worked examples: the lines of WRCH('A') in a routine without variables, whose numbers have room, and nodes that show no rule.
 use Rattle.std.specs.Prelude.{ℕ, ◌≡◌, List, [], ◌∷◌, ◌++◌, Option, Some, None, refl}
+use Rattle.std.proofs.Common.{arith, inl, inr}
 use Rattle.std.specs.Fmt.{decimal}
-use Rattle.bc_core.specs.Tree.{Num, Glob, Load, Call, no_argument, argument, Root, Value}
+use Rattle.bc_core.specs.Tree.{Exp, Num, Glob, Load, Not, Call, no_argument, argument, Root, Value}
 use Rattle.bc_rules_defs.specs.declared.rule.Table.TheVariants.{Two}
 use Rattle.bc_rules_defs.specs.declared.rule.Rule.{Rule}
 use Rattle.bc_rules_defs.specs.declared.rule.Rule.TheVariants.{V0, V1, V22}
 use Rattle.bc_rules_defs.specs.Rules.{RootDerives, value, v0, v1, v22, no_more, one_more}
 use Rattle.bc_select_defs.specs.Options.{plus, more, sum, given, operand_cost, better, least_from}
 use Rattle.bc_select_defs.specs.Choices.{number_cost}
-use Rattle.bc_cert_write.specs.Certificate.{Derived, entry_text}
+use Rattle.bc_cert_write.specs.Certificate.{Derived, entry_of, entry_text}
 use Rattle.bc_cert_write.specs.Lines.{line, words_field, rules_field}
+use Rattle.bc_cert_write.specs.Shown.{Shown, below_bare}
+use Rattle.bc_cert_write.specs.Workings.{HasNoRoom}
 
 abbrev written : Root
 written = Value 2 (Call (argument (Num 65) no_argument) (Load (Glob 14)))
@@ -46,3 +49,14 @@ last_lines =
 pub sample_text : entry_text sample ≡ first_line ++ (node_lines ++ last_lines)
 unfolding plus more sum given operand_cost better least_from number_cost
 sample_text = refl
+
+pub sample_has_room : ¬ HasNoRoom (entry_of sample)
+sample_has_room h = elim h [ | inl many ↦ omega (arith, many) | inr lacks ↦ lacks.exact Two by_call refl (omega arith) (omega arith) ]
+
+-- below NOT WRCH('A') at level 5, where none shows a rule
+abbrev no_rule : Exp → ℕ → Shown
+no_rule e s = record { expression = e; level = s; rules = [] }
+
+pub bare_sample : below_bare (Not (Call (argument (Num 65) no_argument) (Load (Glob 14)))) 5
+    ≡ no_rule (Num 65) 7 ∷ no_rule (Glob 14) 8 ∷ no_rule (Load (Glob 14)) 8 ∷ no_rule (Call (argument (Num 65) no_argument) (Load (Glob 14))) 5 ∷ []
+bare_sample = refl

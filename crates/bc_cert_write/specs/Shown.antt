@@ -1,8 +1,9 @@
 -- The nodes of a root in the order of their lines, each with the rules that a derivation shows there: those used on
 -- the node itself, the outermost first. No rule is shown where a rule above takes the node as its operand, as its
 -- number or as the 0 that it drops, nor at the nodes below such a one.
-use Rattle.std.specs.Prelude.{ℕ, ◌+◌, cond, List, [], ◌∷◌, ◌++◌}
-use Rattle.bc_core.specs.Tree.{Exp, Num, Load, Neg, Not, Bin, Cond, Call, Args, no_argument, argument, count, Root}
+use Rattle.std.specs.Prelude.{ℕ, ◌+◌, ◌-◌, cond, List, [], ◌∷◌, ◌++◌, map, take}
+use Rattle.bc_core.specs.Tree.{Exp, Num, Args, count, Root}
+use Rattle.bc_core.specs.WellFormed.{nodes}
 use Rattle.bc_rules_defs.specs.declared.rule.Table.{Table}
 use Rattle.bc_rules_defs.specs.declared.rule.Aim.{Aim}
 use Rattle.bc_rules_defs.specs.declared.rule.Rule.{Rule}
@@ -10,6 +11,7 @@ use Rattle.bc_rules_defs.specs.declared.rule.Rule.TheVariants.{V0, J6}
 use Rattle.bc_rules_defs.specs.Free.{is_zero}
 use Rattle.bc_rules_defs.specs.Rules.{Derives, v0, v1, v2, v3, v4, v6, v7, v8, v9, v10, v11, v12, v13, v14, v15, v16, v17, v18, v19, v20, v21, v22, v22_valof, j1, j2, j3, j4, j5, j6, j7, j8, j9, DerivesAll, no_more, one_more, RootDerives, value, test, a1, a2, a3}
 use Rattle.bc_select_defs.specs.Least.{first_rule}
+use Rattle.bc_select_defs.specs.Nodes.{in_order}
 
 pub record Shown : Type 0 where
   pub expression : Exp
@@ -20,23 +22,12 @@ pub record Shown : Type 0 where
 abbrev pub ended : List Shown → Exp → ℕ → List Rule → List Shown
 ended parts e s rules = parts ++ record { expression = e; level = s; rules = rules } ∷ []
 
--- the nodes below one that shows no rule, or that is an operand; and with that one
-abbrev mutual
-  pub below_bare : Exp → ℕ → List Shown
-  below_bare (Load e) s = ended (below_bare e s) e s []
-  below_bare (Neg e) s = ended (below_bare e s) e s []
-  below_bare (Not e) s = ended (below_bare e s) e s []
-  below_bare (Bin op a b) s = ended (below_bare a (s + 1)) a (s + 1) [] ++ ended (below_bare b (s + 1)) b (s + 1) []
-  below_bare (Cond c x y) s = (ended (below_bare c s) c s [] ++ ended (below_bare x s) x s []) ++ ended (below_bare y s) y s []
-  below_bare (Call es f) s = all_bare es (s + 2) ++ ended (below_bare f (s + 2 + count es)) f (s + 2 + count es) []
-  below_bare _ s = []
-
-  pub all_bare : Args → ℕ → List Shown
-  all_bare no_argument s = []
-  all_bare (argument e es) s = ended (below_bare e s) e s [] ++ all_bare es (s + 1)
-
+-- the nodes of an expression where none shows a rule, and those below it: all but the last
 abbrev pub bare : Exp → ℕ → List Shown
-bare e s = ended (below_bare e s) e s []
+bare e s = map (λ n. record { expression = n.0; level = n.1; rules = [] }) (in_order e s)
+
+abbrev pub below_bare : Exp → ℕ → List Shown
+below_bare e s = take (nodes e - 1) (bare e s)
 
 -- the rules at the derivation's own node: a test by the value and a value that is pushed go on at the same node
 abbrev pub rules_of_value : {T : Table} {e : Exp} {aim : Aim} → Derives T e aim → List Rule

@@ -1,11 +1,11 @@
--- What is worked out of an entry for its lines.
-use Rattle.std.specs.Prelude.{ℕ}
+-- What is worked out of an entry for its lines, and when its numbers have no room.
+use Rattle.std.specs.Prelude.{ℕ, ◌<◌, ◌^◌, ◌⊎◌}
 use Rattle.std.specs.List.{AllZip}
 use Rattle.bc_core.specs.Tree.{Root}
 use Rattle.bc_rules_defs.specs.Rules.{Tree}
 use Rattle.bc_rules_defs.specs.Entry.{Entry}
-use Rattle.bc_rules.specs.Code.{IsCodeOf}
-use Rattle.bc_select_defs.specs.Nodes.{root_in_order}
+use Rattle.bc_rules.specs.Code.{IsCodeOf, LacksRoom}
+use Rattle.bc_select_defs.specs.Nodes.{root_in_order, root_nodes}
 use Rattle.bc_select.specs.Rows.{IsRowOf}
 use Rattle.bc_cert_write.specs.declared.workings.Workings.{Workings}
 
@@ -17,3 +17,7 @@ pub record AreWorkings (r : Root) (x : Tree) (target first : ℕ) (w : Workings)
 -- these are the workings of the entry. What can hold in but one way may stand beside fields, so it is said that there is a proof.
 abbrev pub WorkedOut : Entry → Workings → Type 0
 WorkedOut e w = ∥ AreWorkings e.root e.derivation e.target e.first w ∥₁
+
+-- its root has more than 2^32 nodes, or a number of its code is no word
+abbrev pub HasNoRoom : Entry → Type 0
+HasNoRoom e = (2 ^ 32 < root_nodes e.root) ⊎ LacksRoom e.root e.derivation e.first

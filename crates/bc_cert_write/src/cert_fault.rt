@@ -1,3 +1,4 @@
+use crate::workings_fault::WorkingsFault;
 use bc_word::Memory;
 use std::alloc::{AllocError, AllocFailed};
 use thiserror::Error;
@@ -8,7 +9,7 @@ pub enum CertFault {
     /// The writer failed.
     #[error("the certificate could not be written")]
     Write,
-    /// An allocation was refused.
+    /// An allocation was refused, or an entry has no workings for want of room.
     #[error("out of memory")]
     Memory,
 }
@@ -42,6 +43,17 @@ impl From<Memory> for CertFault {
     ghost from_gives = { λ _ e. e ≡ faults.Memory };
 
     fn from(_refused: Memory) -> CertFault {
+        CertFault::Memory
+    }
+}
+
+impl From<WorkingsFault> for CertFault {
+    ghost use Rattle.std.specs.Prelude.{◌≡◌};
+    ghost use Rattle.bc_cert_write.specs.declared.cert_fault.CertFault.TheVariants as faults;
+
+    ghost from_gives = { λ _ e. e ≡ faults.Memory };
+
+    fn from(_fault: WorkingsFault) -> CertFault {
         CertFault::Memory
     }
 }

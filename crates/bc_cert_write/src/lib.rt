@@ -14,9 +14,11 @@ mod text;
 mod trees;
 mod walk;
 mod workings;
+mod workings_fault;
 mod writing;
 
 pub use bc_rules_defs::Entry;
 pub use cert_fault::CertFault;
-pub use workings::Workings;
+pub use workings::{Workings, workings_of};
+pub use workings_fault::WorkingsFault;
 pub use writing::{write_cert, write_worked};

@@ -27,7 +27,7 @@ fn pair(
     own: Option<&Derivation>,
     marks: &mut Vec<Mark>,
 ) -> Result<(), Memory>
-    requires { level + 2 * (1 + nodes_in (exp a.now) + nodes_in (exp b.now)) ≤ 2 ^ 40 }
+    requires { level + 2 * (1 + nodes_in (exp a.now) + nodes_in (exp b.now)) ≤ 2 ^ 62 }
     ensures { OnOk result (marks.new.items ≡ marks.old.items
         ++ (whole_with mark (exp a.now) (level + 1) (placed (first_place (is_zero_of (exp b.now))) (tree_of own.entry))
         ++ whole_with mark (exp b.now) (level + 1) (placed (second_place (is_zero_of (exp b.now))) (tree_of own.entry)))) }
@@ -48,7 +48,7 @@ fn triple(
     own: Option<&Derivation>,
     marks: &mut Vec<Mark>,
 ) -> Result<(), Memory>
-    requires { level + 2 * (1 + nodes_in (exp c.now) + nodes_in (exp x.now) + nodes_in (exp y.now)) ≤ 2 ^ 40 }
+    requires { level + 2 * (1 + nodes_in (exp c.now) + nodes_in (exp x.now) + nodes_in (exp y.now)) ≤ 2 ^ 62 }
     ensures { OnOk result (marks.new.items ≡ marks.old.items
         ++ ((whole_with mark (exp c.now) level (placed (first_place false) (tree_of own.entry))
         ++ whole_with mark (exp x.now) level (placed (second_place false) (tree_of own.entry)))
@@ -69,7 +69,7 @@ fn all(
     trees: &[Derivation],
     marks: &mut Vec<Mark>,
 ) -> Result<(), Memory>
-    requires { level + 2 * nodes_of_args (args arguments.now) ≤ 2 ^ 40 }
+    requires { level + 2 * nodes_of_args (args arguments.now) ≤ 2 ^ 62 }
     ensures { OnOk result (marks.new.items ≡ marks.old.items ++ all_with mark (args arguments.now) level (derivations trees.now)) }
 {
     for (i, argument) in arguments.iter().enumerate() {
@@ -87,7 +87,7 @@ fn call(
     trees: &[Derivation],
     marks: &mut Vec<Mark>,
 ) -> Result<(), Memory>
-    requires { level + 2 * (1 + nodes_of_args (args arguments.now) + nodes_in (exp routine.now)) ≤ 2 ^ 40 }
+    requires { level + 2 * (1 + nodes_of_args (args arguments.now) + nodes_in (exp routine.now)) ≤ 2 ^ 62 }
     ensures { OnOk result (marks.new.items ≡ marks.old.items
         ++ (all_with mark (args arguments.now) (level + 2) (derivations trees.now)
         ++ whole_with mark (exp routine.now) (level + 2 + count (args arguments.now))
@@ -107,7 +107,7 @@ fn below(
     own: Option<&Derivation>,
     marks: &mut Vec<Mark>,
 ) -> Result<(), Memory>
-    requires { level + 2 * nodes_in (exp e.now) ≤ 2 ^ 40 }
+    requires { level + 2 * nodes_in (exp e.now) ≤ 2 ^ 62 }
     ensures { OnOk result (marks.new.items ≡ marks.old.items ++ below_with mark (exp e.now) level (tree_of own.entry)) }
 {
     match e {
@@ -135,7 +135,7 @@ fn lay(
     tree: Option<&Derivation>,
     marks: &mut Vec<Mark>,
 ) -> Result<(), Memory>
-    requires { level + 2 * nodes_in (exp e.now) ≤ 2 ^ 40 }
+    requires { level + 2 * nodes_in (exp e.now) ≤ 2 ^ 62 }
     ensures { OnOk result (marks.new.items ≡ marks.old.items ++ whole_with mark (exp e.now) level (tree_of tree.entry)) }
 {
     let rules = rules_at(tree);
@@ -168,7 +168,7 @@ fn sides(
     tree: &Derivation,
     marks: &mut Vec<Mark>,
 ) -> Result<(), Memory>
-    requires { level + 2 * (nodes_in (exp value_side.now) + nodes_in (exp address_side.now)) ≤ 2 ^ 40 }
+    requires { level + 2 * (nodes_in (exp value_side.now) + nodes_in (exp address_side.now)) ≤ 2 ^ 62 }
     ensures { OnOk result (marks.new.items ≡ marks.old.items
         ++ (whole_with mark (exp value_side.now) level (placed (first_place false) (Some (derivation tree.now)))
         ++ whole_with mark (exp address_side.now) level (placed (second_place false) (Some (derivation tree.now))))) }
@@ -186,7 +186,7 @@ pub fn marks_of(
     tree: &Derivation,
     room: usize,
 ) -> Result<Vec<Mark>, Memory>
-    requires { root_nodes (root_of root.now) ≤ 2 ^ 32 }
+    requires { root_nodes (root_of root.now) ≤ 2 ^ 60 }
     ensures { IfOk result (λ marks. marks.items ≡ root_with mark (root_of root.now) (derivation tree.now)) }
 {
     let mut marks = Vec::with_capacity(alloc, room)?;

@@ -1,13 +1,14 @@
 //! What is worked out of an entry for its lines.
 
 ghost use Rattle.bc_rules_defs.specs.View.{entry as entry_of};
-ghost use Rattle.std.specs.Prelude.{IfOk};
-ghost use Rattle.bc_cert_write.specs.Workings.{WorkedOut};
+ghost use Rattle.std.specs.Prelude.{◌≡◌, IfOk, IfErr};
+ghost use Rattle.bc_cert_write.specs.Workings.{WorkedOut, HasNoRoom};
+ghost use Rattle.bc_cert_write.specs.declared.workings_fault.WorkingsFault.TheVariants.{NoRoom};
 
-use bc_rules::code_of;
+use crate::workings_fault::WorkingsFault;
+use bc_rules::code_with_labels;
 use bc_rules_defs::{Entry, Piece};
 use bc_select::{Row, is_selectable, rows};
-use bc_word::Memory;
 use std::alloc::Global;
 
 /// What is worked out of an entry for its lines, which whoever chose its derivation has too.
@@ -21,21 +22,26 @@ pub struct Workings {
 
 /// The workings of an entry.
 ///
-/// `Memory` comes where an allocation was refused, where an offset or a label of the code would be over 65,535, and where
-/// the root has more than 2^32 nodes.
-pub fn workings_of(alloc: Global, entry: &Entry) -> Result<Workings, Memory>
-    ensures { IfOk result (WorkedOut (entry_of entry.now)) }
+/// `Memory` comes where an allocation was refused, and `NoRoom` only where the root has more than 2^32 nodes, or where a
+/// label of the derivation or an offset of the frame that the work on the root uses would be over 65,535. Of rules that are
+/// no derivation of the root nothing is said.
+pub fn workings_of(alloc: Global, entry: &Entry) -> Result<Workings, WorkingsFault>
+    ensures worked { IfOk result (WorkedOut (entry_of entry.now)) }
+    ensures no_room { IfErr result (λ fault. fault ≡ NoRoom → HasNoRoom (entry_of entry.now)) }
 {
     if !is_selectable(&entry.root) {
-        return Err(Memory);
+        return Err(WorkingsFault::NoRoom);
     }
     let rows = rows(alloc, &entry.root)?;
-    let code = code_of(
+    let coded = code_with_labels(
         alloc,
         &entry.root,
         &entry.derivation,
         entry.target,
         entry.first,
     )?;
-    Ok(Workings { rows, code })
+    Ok(Workings {
+        rows,
+        code: coded.pieces,
+    })
 }

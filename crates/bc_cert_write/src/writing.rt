@@ -26,8 +26,8 @@ use std::io::Write;
 /// lines of an entry at a time.
 ///
 /// `Write` comes where the writer failed: it answered an error, or took nothing. `Memory` comes where an allocation was
-/// refused, where an offset or a label in the code of an entry would be over 65,535, and where a root has more than 2^32
-/// nodes. After either the writer has taken a front of the text.
+/// refused, and at an entry for which `workings_of` answers `NoRoom`: its root has more than 2^32 nodes, or an offset of the
+/// frame or a label of its code would be over 65,535. After either the writer has taken a front of the text.
 pub fn write_cert<W: Write>(alloc: Global, entries: &[Entry], out: &mut W) -> Result<(), CertFault>
     ensures written { (ds : List Derived) → map entry_seen entries.now ≡ map entry_of ds
         → OnOk result (Appends (W.contents out.old) (W.contents out.new) (certificate ds)) }
@@ -46,7 +46,7 @@ pub fn write_cert<W: Write>(alloc: Global, entries: &[Entry], out: &mut W) -> Re
 }
 
 /// The same, with the workings of the entries, which whoever chose the derivations has: the n-th are those of the n-th
-/// entry.
+/// entry. `Memory` comes only where an allocation was refused.
 pub fn write_worked<W: Write>(
     alloc: Global,
     entries: &[Entry],

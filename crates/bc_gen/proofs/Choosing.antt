@@ -1,14 +1,14 @@
 -- The choice is that of the derivations of least words.
-use Rattle.std.proofs.Common.{ℕ, ◌+◌, ◌≤◌, ◌≡◌, List, Option, Some, None, sym, arith}
-use Rattle.std.specs.Option.{SomeIff}
+use Rattle.std.proofs.Common.{ℕ, ◌+◌, ◌<◌, ◌≤◌, ◌≡◌, Bool, true, false, List, Some, refl, sym}
+use Rattle.std.specs.Prelude.{nat_le}
+use Rattle.std.proofs.lemmas.Bool.{leb-true, leb-false}
 use Rattle.bc_core.specs.Tree.{Root}
 use Rattle.bc_rules_defs.specs.declared.rule.Table.TheVariants.{Two}
 use Rattle.bc_rules_defs.specs.declared.piece.Piece.{Piece}
 use Rattle.bc_rules_defs.specs.Rules.{Tree, root_shape}
 use Rattle.bc_select_defs.specs.Chosen.{chosen}
-use Rattle.bc_rules.specs.Code.{IsCodeOf, IsNextLabel}
+use Rattle.bc_rules.specs.Code.{IsCodeOf, IsNextLabel, LacksRoom, cells_of_root}
 use Rattle.bc_gen.specs.Chosen.{coding}
-use Rattle.bc_gen.specs.Writing.{IsNext}
 
 pub derivation_is : (r : Root) (x : Tree) → x ≡ root_shape (chosen Two r) → x ≡ coding.derivation r
 unfolding coding
@@ -18,13 +18,16 @@ pub code_is : (r : Root) (x : Tree) (t f : ℕ) (ps : List Piece) → IsCodeOf r
 unfolding coding
 code_is r x t f ps h e = h.exact Two (chosen Two r) (sym e)
 
-next_is : (r : Root) (x : Tree) (f : ℕ) (n : Option ℕ) → IsNextLabel r x f n → x ≡ coding.derivation r → SomeIff n (f + coding.labels r ≤ 65536) (f + coding.labels r)
+-- the label behind those of a derivation
+pub next_is : (r : Root) (x : Tree) (f m : ℕ) → IsNextLabel r x f (Some m) → x ≡ coding.derivation r → m ≡ f + coding.labels r
 unfolding coding
-next_is r x f n h e = h.exact Two (chosen Two r) (sym e)
+next_is r x f m h e = (h.exact Two (chosen Two r) (sym e)).1
 
-pub next_gives : (r : Root) (x : Tree) (f : ℕ) (n : Option ℕ) → IsNextLabel r x f n → x ≡ coding.derivation r → IsNext n (f + coding.labels r)
-next_gives r x f None h e = let k = next_is r x f None h e in omega (arith, k)
-next_gives r x f (Some v) h e = (next_is r x f (Some v) h e).1
-
-pub next_given : (r : Root) (x : Tree) (f m : ℕ) → IsNextLabel r x f (Some m) → x ≡ coding.derivation r → m ≡ f + coding.labels r
-next_given r x f m h e = next_gives r x f (Some m) h e
+-- where a number has no room, and offsets have, labels have none
+pub labels_lack : (r : Root) (x : Tree) (f : ℕ) → LacksRoom r x f → x ≡ coding.derivation r → cells_of_root r ≤ 65536 → 65536 < f + coding.labels r
+unfolding coding
+labels_lack r x f h e c = by (nat_le (f + coding.labels r) 65536) refl
+  where
+    by : (t : Bool) → nat_le (f + coding.labels r) 65536 ≡ t → 65536 < f + coding.labels r
+    by true k = absurd (h.exact Two (chosen Two r) (sym e) (leb-true _ _ k) c)
+    by false k = leb-false _ _ k

@@ -20,6 +20,7 @@ use Rattle.bc_gen.specs.declared.writer.Writer.{Writer}
 use Rattle.bc_gen.specs.declared.parts.Part.{Part}
 use Rattle.bc_gen.specs.Parts.{part, parts}
 use Rattle.bc_gen.specs.Chosen.{coding}
+use Rattle.bc_gen.specs.Room.{Bodies, CommandHasRoom}
 use Rattle.bc_gen.specs.Surroundings.{label_in, label_pairs, exits_of, roots_in, valofs_in, bodies_of}
 use Rattle.bc_gen.specs.Writing.{Writes, Puts}
 use Rattle.bc_gen.proofs.Rises.{out_of_memory}
@@ -140,6 +141,10 @@ block_writes (Ok x) roots E outer ds is s inner ls w0 w1 w2 w3 eo el n1 p1 h2 ei
 pub command_writes : {X : Type 0} (r : Result X GenError) (w0 w1 : Writer) (roots : Roots Marked) (s : ℕ) (E : Exits) (f : ℕ) (k k1 : commands.Command)
     → k ≡ k1 → Writes r w0 w1 (emit Plain roots k1 s E f) → Writes r w0 w1 (emit Plain roots k s E f)
 command_writes r w0 w1 roots s E f k k1 e h = subst (λ (x : commands.Command). Writes r w0 w1 (emit Plain roots x s E f)) (sym e) h
+
+-- what a command needs, by its form
+pub command_room : (B : Bodies) (k k1 : commands.Command) (s : ℕ) → k ≡ k1 → CommandHasRoom B k s → CommandHasRoom B k1 s
+command_room B k k1 s e r = subst (λ (x : commands.Command). CommandHasRoom B x s) e r
 
 append_nothing : (xs : List Marked) → xs ++ [] ≡ xs
 append_nothing [] = refl

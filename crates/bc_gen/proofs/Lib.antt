@@ -8,3 +8,4 @@ pub mod Choosing
 pub mod Rises
 pub mod Outs
 pub mod Workings
+pub mod Room

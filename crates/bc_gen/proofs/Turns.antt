@@ -1,5 +1,5 @@
 -- One turn of each loop.
-use Rattle.std.proofs.Common.{ℕ, ◌+◌, ◌<◌, ◌≡◌, List, [], ◌∷◌, ◌++◌, map, drop, length, get_or, refl, ap, sym, ◌∙◌, ◌≤◌, append_assoc, add_assoc, add-zero, drop_of_length-le}
+use Rattle.std.proofs.Common.{ℕ, zero, suc, subst, arith, ◌+◌, ◌<◌, ◌≡◌, List, [], ◌∷◌, ◌++◌, map, drop, length, get_or, refl, ap, sym, ◌∙◌, ◌≤◌, append_assoc, add_assoc, add-zero, drop_of_length-le}
 use Rattle.std.proofs.lemmas.List.{drop_more}
 use Rattle.bc_core.specs.declared.command.ListItem.{ListItem}
 use Rattle.bc_core.specs.declared.command.ListItem.TheVariants as entries
@@ -12,9 +12,10 @@ use Rattle.bc_core.specs.Level.{cells_of, cells_of_all, cells_declared}
 use Rattle.bc_core.specs.View.{items, items_before, command, variable, declarations}
 use Rattle.bc_rules_defs.specs.declared.piece.Piece.{Piece}
 use Rattle.bc_rules_defs.specs.declared.piece.Piece.TheVariants as pieces
-use Rattle.bc_gen_defs.specs.Emit.{Code, Roots, Exits, emit, emit_items, emit_variable, emit_variables, emit_declarations}
+use Rattle.bc_gen_defs.specs.Emit.{Code, Roots, Exits, emit, emit_items, emit_variable, emit_variables, emit_declarations, entries_in}
 use Rattle.bc_gen_defs.specs.Bodies.{BodiesCode, fill, label_ahead}
 use Rattle.bc_gen_defs.specs.Entries.{Marked, Plain, count_items}
+use Rattle.bc_gen.specs.Room.{Bodies, VariablesHaveRoom, DeclarationsHaveRoom, ItemsHaveRoom}
 use Rattle.bc_gen.specs.Surroundings.{initial_of, next_entry, one_piece}
 use Rattle.bc_gen.specs.declared.writer.Writer.{Writer}
 use Rattle.bc_gen.proofs.Forms.{there, Wrote}
@@ -120,3 +121,49 @@ fill_turn levels bodies ps i p l bs bs1 w0 w w1 whole h g el made inv =
 
 pub declarations_end : (xs : List Declaration) (i l l0 : ℕ) → length xs ≤ i → l + cells_declared (declarations (drop i xs)) ≡ l0 → l ≡ l0
 declarations_end xs i l l0 h e = sym (add-zero l) ∙ sym (ap (λ (ys : List Declaration). l + cells_declared (declarations ys)) (drop_of_length-le xs h)) ∙ e
+
+-- what the parts of a loop's list need
+first_room : (B : Bodies) (x : ListItem) (is : Items) (s : ℕ) → ItemsHaveRoom B (items_before x is) s → ItemsHaveRoom B (items_before x no_item) s × ItemsHaveRoom B is s
+first_room B (entries.Command c) is s r = ((r.0, tt), r.1)
+first_room B (entries.Case k) is s r = (tt, r)
+first_room B entries.Default is s r = (tt, r)
+first_room B (entries.Label l) is s r = (tt, r)
+
+pub item_room : (B : Bodies) (xs : List ListItem) (i : ℕ) (x : ListItem) (s : ℕ) → i < length xs → x ≡ get_or xs i x → ItemsHaveRoom B (items xs) s
+    → ItemsHaveRoom B (items_before x no_item) s
+item_room B xs i x s h e r = subst (λ (y : ListItem). ItemsHaveRoom B (items_before y no_item) s) (sym e) (at xs i h r)
+  where
+    at : (xs : List ListItem) (i : ℕ) → i < length xs → ItemsHaveRoom B (items xs) s → ItemsHaveRoom B (items_before (get_or xs i x) no_item) s
+    at [] i h r = absurd (omega (arith, h))
+    at (y ∷ xs) zero h r = (first_room B y (items xs) s r).0
+    at (y ∷ xs) (suc i) h r = let g : i < length xs = omega (arith, h) in at xs i g (first_room B y (items xs) s r).1
+
+first_entry : (x : ListItem) (is : Items) (f : ℕ) → f + entries_in (items_before x is) ≡ next_entry x f + entries_in is
+first_entry (entries.Command c) is f = refl
+first_entry (entries.Case k) is f = omega arith
+first_entry entries.Default is f = omega arith
+first_entry (entries.Label l) is f = refl
+
+pub entries_turn : (xs : List ListItem) (i : ℕ) (x : ListItem) (f : ℕ) → i < length xs → x ≡ get_or xs i x
+    → f + entries_in (items (drop i xs)) ≡ next_entry x f + entries_in (items (drop (i + 1) xs))
+entries_turn xs i x f h e =
+    let d : drop i xs ≡ x ∷ drop (i + 1) xs = drop_more xs i x h ∙ ap (λ (v : ListItem). v ∷ drop (i + 1) xs) (sym e) in
+    ap (λ (ys : List ListItem). f + entries_in (items ys)) d ∙ first_entry x (items (drop (i + 1) xs)) f
+
+pub declaration_room : (B : Bodies) (xs : List Declaration) (i : ℕ) (x : Declaration) (l : ℕ) → i < length xs → x ≡ get_or xs i x
+    → DeclarationsHaveRoom B (declarations (drop i xs)) l → DeclarationsHaveRoom B (map variable x.variables.items ∷ declarations (drop (i + 1) xs)) l
+declaration_room B xs i x l h e r =
+    let d : drop i xs ≡ x ∷ drop (i + 1) xs = drop_more xs i x h ∙ ap (λ (v : Declaration). v ∷ drop (i + 1) xs) (sym e) in
+    subst (λ (ys : List Declaration). DeclarationsHaveRoom B (declarations ys) l) d r
+
+pub variable_room : (B : Bodies) (xs : List Variable) (i : ℕ) (x : Variable) (k s : ℕ) → i < length xs → x ≡ get_or xs i x
+    → VariablesHaveRoom B (map variable (drop i xs)) k s → VariablesHaveRoom B (variable x ∷ map variable (drop (i + 1) xs)) k s
+variable_room B xs i x k s h e r =
+    let d : drop i xs ≡ x ∷ drop (i + 1) xs = drop_more xs i x h ∙ ap (λ (v : Variable). v ∷ drop (i + 1) xs) (sym e) in
+    subst (λ (ys : List Variable). VariablesHaveRoom B (map variable ys) k s) d r
+
+pub cells_turn : (xs : List Variable) (i : ℕ) (x : Variable) → i < length xs → x ≡ get_or xs i x
+    → cells_of_all (map variable (drop i xs)) ≡ cells_of (variable x) + cells_of_all (map variable (drop (i + 1) xs))
+cells_turn xs i x h e =
+    let d : drop i xs ≡ x ∷ drop (i + 1) xs = drop_more xs i x h ∙ ap (λ (v : Variable). v ∷ drop (i + 1) xs) (sym e) in
+    ap (λ (ys : List Variable). cells_of_all (map variable ys)) d

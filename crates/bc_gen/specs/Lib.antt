@@ -1,4 +1,5 @@
 pub mod Chosen
 pub mod Parts
+pub mod Room
 pub mod Surroundings
 pub mod Writing

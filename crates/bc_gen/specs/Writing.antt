@@ -1,5 +1,5 @@
 -- For proofs: what one call writes behind the code that is there.
-use Rattle.std.specs.Prelude.{◌≡◌, ℕ, ◌<◌, ◌++◌, List, Option, Some, None, Result, Ok, Err}
+use Rattle.std.specs.Prelude.{◌≡◌, ℕ, ◌<◌, ◌++◌, List, Result, Ok, Err}
 use Rattle.bc_gen_defs.specs.Emit.{Code}
 use Rattle.bc_gen_defs.specs.Entries.{Marked}
 use Rattle.bc_gen.specs.declared.gen_error.GenError.{GenError}
@@ -21,8 +21,3 @@ Writes (Err e) before after code = RunsOut e code.1
 abbrev pub Puts : {X : Type 0} → Result X GenError → Writer → Writer → List Marked → Type 0
 Puts (Ok x) before after ps = (parts after.parts.items ≡ parts before.parts.items ++ ps) × (after.next ≡ before.next)
 Puts (Err e) before after ps = e ≡ errors.Memory
-
--- the next label of a root, which is none where it is no word
-abbrev pub IsNext : Option ℕ → ℕ → Type 0
-IsNext None n = 65536 < n
-IsNext (Some m) n = m ≡ n

@@ -1,18 +1,18 @@
 //! The choice of each root's code.
-ghost use Rattle.std.specs.Prelude.{◌≡◌, ◌+◌, ◌≤◌, IfOk, IfSome};
+ghost use Rattle.std.specs.Prelude.{◌≡◌, ◌+◌, ◌^◌, ◌<◌, ◌≤◌, IfOk, IfErr};
 ghost use Rattle.std.specs.List.{AllZip};
 ghost use Rattle.bc_core.specs.View.{root as root_view};
 ghost use Rattle.bc_rules_defs.specs.View.{derivation as derivation_view};
-ghost use Rattle.bc_rules.specs.Code.{IsCodeOf};
-ghost use Rattle.bc_select_defs.specs.Nodes.{root_in_order};
+ghost use Rattle.bc_rules.specs.declared.code_fault.CodeFault.TheVariants.{NoRoom};
+ghost use Rattle.bc_rules.specs.Code.{IsCodeOf, cells_of_root};
+ghost use Rattle.bc_select_defs.specs.Nodes.{root_in_order, root_nodes};
 ghost use Rattle.bc_select.specs.Rows.{IsRowOf};
 ghost use Rattle.bc_gen.specs.Chosen.{coding};
-ghost use Rattle.bc_gen.specs.Writing.{IsNext};
 
 use bc_core::Root;
-use bc_rules::{Coded, code_with_labels, next_label};
+use bc_rules::{CodeFault, Coded, code_with_labels};
 use bc_rules_defs::Derivation;
-use bc_select::{Row, is_selectable, select};
+use bc_select::{Row, select};
 use bc_word::Memory;
 use std::alloc::Global;
 
@@ -24,16 +24,12 @@ pub(crate) struct Choice {
 }
 
 /// A root's derivation of least words, with the rows of the root's nodes.
-///
-/// No root of a section has more than 2^20 nodes.
 #[tactic(auto, using(crate::proofs::Choosing::derivation_is))]
 pub(crate) fn chosen(alloc: Global, root: &Root) -> Result<Choice, Memory>
+    requires { root_nodes (root_view root.now) ≤ 2 ^ 32 }
     ensures derivation { IfOk result (λ c. derivation_view c.derivation ≡ coding.derivation (root_view root.now)) }
     ensures rows { IfOk result (λ c. AllZip IsRowOf (root_in_order (root_view root.now)) c.rows.items) }
 {
-    if !is_selectable(root) {
-        return Err(Memory);
-    }
     let selected = select(alloc, root)?;
     Ok(Choice {
         derivation: selected.derivation,
@@ -41,28 +37,23 @@ pub(crate) fn chosen(alloc: Global, root: &Root) -> Result<Choice, Memory>
     })
 }
 
-/// The label behind those of a derivation, the first of which is this one; none where one is no word.
-#[tactic(auto, using(crate::proofs::Choosing::next_gives))]
-pub(crate) fn label_behind(root: &Root, derivation: &Derivation, first: u16) -> Option<u32>
-    requires { derivation_view derivation.now ≡ coding.derivation (root_view root.now) }
-    ensures { IsNext result (first + coding.labels (root_view root.now)) }
-{
-    next_label(root, derivation, first)
-}
-
 /// The code of a root by this derivation, with its labels from `first` on, and the label behind them.
-#[tactic(auto, using(crate::proofs::Choosing::code_is, crate::proofs::Choosing::next_given))]
+///
+/// `NoRoom` comes only where one of these labels would be over 65,535.
+#[tactic(auto, using(crate::proofs::Choosing::code_is, crate::proofs::Choosing::next_is, crate::proofs::Choosing::labels_lack))]
 pub(crate) fn pieces_of(
     alloc: Global,
     root: &Root,
     derivation: &Derivation,
     target: u16,
     first: u16,
-) -> Result<Coded, Memory>
-    requires { derivation_view derivation.now ≡ coding.derivation (root_view root.now) }
+) -> Result<Coded, CodeFault>
+    requires derivation { derivation_view derivation.now ≡ coding.derivation (root_view root.now) }
+    requires cells { cells_of_root (root_view root.now) ≤ 65536 }
     ensures chosen { IfOk result (λ c. c.pieces.items ≡ coding.pieces (root_view root.now) target first) }
     ensures code { IfOk result (λ c. IsCodeOf (root_view root.now) (derivation_view derivation.now) target first c.pieces.items) }
     ensures next { IfOk result (λ c. c.next ≡ first + coding.labels (root_view root.now)) }
+    ensures no_room { IfErr result (λ fault. fault ≡ NoRoom → 65536 < first + coding.labels (root_view root.now)) }
 {
     code_with_labels(alloc, root, derivation, target, first)
 }

@@ -1,12 +1,13 @@
 //! The code of commands, one function for each kind.
-ghost use Rattle.std.specs.Prelude.{◌≡◌, ◌+◌, IfOk, map, [], ◌∷◌};
+ghost use Rattle.std.specs.Prelude.{◌≡◌, ◌+◌, ◌≤◌, IfOk, map, [], ◌∷◌};
 ghost use Rattle.bc_core.specs.Tree as tree;
 ghost use Rattle.bc_core.specs.Commands as forms;
 ghost use Rattle.bc_core.specs.View.{exp, variable as variable_view, declarations as declarations_view, command as command_view, items as items_view, items_before, block_of};
 ghost use Rattle.bc_core.specs.Level.{cells_of as cells_of_variable, cells_of_all as cells_of_variables, cells_declared};
 ghost use Rattle.bc_core.specs.Command.{step_of_for as step_of};
-ghost use Rattle.bc_gen_defs.specs.Emit.{emit, emit_block, emit_items, emit_variables, emit_declarations, table_of, end_of_for as end_of, zero_item, execute as execute_item};
+ghost use Rattle.bc_gen_defs.specs.Emit.{emit, emit_block, emit_items, emit_variables, emit_declarations, entries_in, table_of, end_of_for as end_of, zero_item, execute as execute_item};
 ghost use Rattle.bc_gen_defs.specs.Entries.{Plain};
+ghost use Rattle.bc_gen.specs.Room.{room_in, RootHasRoom, VariablesHaveRoom, DeclarationsHaveRoom, CommandHasRoom, BlockHasRoom, ItemsHaveRoom};
 ghost use Rattle.bc_gen.specs.Surroundings.{initial_of, roots_in, exits_of};
 ghost use Rattle.bc_gen.specs.Writing.{Writes, Puts};
 
@@ -20,13 +21,6 @@ use bc_core::{
 use bc_word::{Memory, Op, Word};
 use std::alloc::Global;
 
-/// The offset so many cells behind another. No frame of a section has an offset past 65,535.
-pub(crate) fn behind(offset: u16, cells: u16) -> Result<u16, Memory>
-    ensures { IfOk result (λ found. found ≡ offset + cells) }
-{
-    offset.checked_add(cells).ok_or(Memory)
-}
-
 /// The content of the cell at this offset of the frame.
 fn variable(alloc: Global, offset: u16) -> Result<Box<CoreExp>, Memory>
     ensures { IfOk result (λ e. exp e.value ≡ tree.Load (tree.Frame offset)) }
@@ -37,6 +31,7 @@ fn variable(alloc: Global, offset: u16) -> Result<Box<CoreExp>, Memory>
 
 /// Whether a FOR is past its limit: its variable at this offset is greater, or less where it counts down.
 fn end_of_for(alloc: Global, by: Word, offset: u16) -> Result<CoreExp, Memory>
+    requires { offset + 1 ≤ 65535 }
     ensures { IfOk result (λ e. exp e ≡ end_of by offset) }
 {
     let op = if by.get() < 32768 {
@@ -45,7 +40,7 @@ fn end_of_for(alloc: Global, by: Word, offset: u16) -> Result<CoreExp, Memory>
         Op::Less
     };
     let variable_now = variable(alloc, offset)?;
-    Ok(CoreExp::Bin(op, variable_now, variable(alloc, behind(offset, 1)?)?))
+    Ok(CoreExp::Bin(op, variable_now, variable(alloc, offset + 1)?))
 }
 
 /// The sum of a FOR's variable at this offset and its step.
@@ -58,32 +53,35 @@ fn step_of_for(alloc: Global, by: Word, offset: u16) -> Result<CoreExp, Memory>
 }
 
 /// How many cells a variable takes: its own, and those of its vector.
-fn cells_of(variable: &Variable) -> Result<u16, Memory>
-    ensures { IfOk result (λ cells. cells ≡ cells_of_variable (variable_view variable.now)) }
+fn cells_of(variable: &Variable) -> u16
+    requires { cells_of_variable (variable_view variable.now) ≤ 65535 }
+    ensures { result ≡ cells_of_variable (variable_view variable.now) }
 {
     match variable {
-        Variable::Value(_) => Ok(1),
-        Variable::Vector(greatest) => behind(greatest.get(), 2),
+        Variable::Value(_) => 1,
+        Variable::Vector(greatest) => greatest.get() + 2,
     }
 }
 
-fn cells_of_all(variables: &[Variable]) -> Result<u16, Memory>
-    ensures { IfOk result (λ cells. cells ≡ cells_of_variables (map variable_view variables.now)) }
+fn cells_of_all(variables: &[Variable]) -> u16
+    requires { cells_of_variables (map variable_view variables.now) ≤ 65535 }
+    ensures { result ≡ cells_of_variables (map variable_view variables.now) }
 {
     let mut cells = 0u16;
     for each in variables {
-        cells = behind(cells, cells_of(each)?)?;
+        cells += cells_of(each);
     }
-    Ok(cells)
+    cells
 }
 
 /// What a variable at this offset is set to.
 fn initial(alloc: Global, variable: &Variable, offset: u16) -> Result<CoreExp, Memory>
+    requires { offset + 1 ≤ 65535 }
     ensures { IfOk result (λ e. exp e ≡ initial_of (variable_view variable.now) offset) }
 {
     match variable {
         Variable::Value(value) => Ok(copy_expression(alloc, value)?),
-        Variable::Vector(_) => Ok(CoreExp::Frame(behind(offset, 1)?)),
+        Variable::Vector(_) => Ok(CoreExp::Frame(offset + 1)),
     }
 }
 
@@ -96,6 +94,7 @@ impl Writer {
         level: u16,
         command: &Command,
     ) -> Result<(), GenError>
+        requires { CommandHasRoom (room_in around.now) (command_view command.now) level }
         ensures { Writes result self.old self.new (emit Plain (roots_in around.now) (command_view command.now) level (exits_of around.now) self.old.next) }
     {
         match command {
@@ -142,6 +141,7 @@ impl Writer {
         value: &CoreExp,
         address: &CoreExp,
     ) -> Result<(), GenError>
+        requires { RootHasRoom (room_in around.now) (tree.Assign level (exp value.now) (exp address.now)) }
         ensures { Writes result self.old self.new (roots_in around.now (tree.Assign level (exp value.now) (exp address.now)) 0 self.old.next) }
     {
         let value = copy_expression(self.alloc, value)?;
@@ -163,6 +163,7 @@ impl Writer {
         value: CoreExp,
         offset: u16,
     ) -> Result<(), GenError>
+        requires { RootHasRoom (room_in around.now) (tree.Assign level (exp value) (tree.Frame offset)) }
         ensures { Writes result self.old self.new (roots_in around.now (tree.Assign level (exp value) (tree.Frame offset)) 0 self.old.next) }
     {
         let root = Root::Assign {
@@ -181,6 +182,7 @@ impl Writer {
         condition: &Condition,
         body: &Block,
     ) -> Result<(), GenError>
+        requires { CommandHasRoom (room_in around.now) (forms.If condition.now.sense (exp condition.now.test) (block_of body.now)) level }
         ensures { Writes result self.old self.new
             (emit Plain (roots_in around.now) (forms.If condition.now.sense (exp condition.now.test) (block_of body.now)) level
             (exits_of around.now) self.old.next) }
@@ -200,6 +202,7 @@ impl Writer {
         this: &Block,
         that: &Block,
     ) -> Result<(), GenError>
+        requires { CommandHasRoom (room_in around.now) (forms.Test (exp test.now) (block_of this.now) (block_of that.now)) level }
         ensures { Writes result self.old self.new
             (emit Plain (roots_in around.now) (forms.Test (exp test.now) (block_of this.now) (block_of that.now)) level
             (exits_of around.now) self.old.next) }
@@ -222,6 +225,7 @@ impl Writer {
         condition: &Condition,
         body: &Block,
     ) -> Result<(), GenError>
+        requires { CommandHasRoom (room_in around.now) (forms.While condition.now.sense (exp condition.now.test) (block_of body.now)) level }
         ensures { Writes result self.old self.new
             (emit Plain (roots_in around.now) (forms.While condition.now.sense (exp condition.now.test) (block_of body.now)) level
             (exits_of around.now) self.old.next) }
@@ -237,6 +241,7 @@ impl Writer {
 
     #[cycle(commands)]
     fn repeat(&mut self, around: &Around<'_>, level: u16, body: &Block) -> Result<(), GenError>
+        requires { CommandHasRoom (room_in around.now) (forms.Repeat (block_of body.now)) level }
         ensures { Writes result self.old self.new
             (emit Plain (roots_in around.now) (forms.Repeat (block_of body.now)) level (exits_of around.now) self.old.next) }
     {
@@ -256,6 +261,7 @@ impl Writer {
         body: &Block,
         condition: &Condition,
     ) -> Result<(), GenError>
+        requires { CommandHasRoom (room_in around.now) (forms.RepeatWhile (block_of body.now) condition.now.sense (exp condition.now.test)) level }
         ensures { Writes result self.old self.new
             (emit Plain (roots_in around.now) (forms.RepeatWhile (block_of body.now) condition.now.sense (exp condition.now.test)) level
             (exits_of around.now) self.old.next) }
@@ -280,6 +286,7 @@ impl Writer {
         by: Word,
         body: &Block,
     ) -> Result<(), GenError>
+        requires { CommandHasRoom (room_in around.now) (forms.For (exp start.now) (exp limit.now) by (block_of body.now)) offset }
         ensures { Writes result self.old self.new
             (emit Plain (roots_in around.now) (forms.For (exp start.now) (exp limit.now) by (block_of body.now)) offset
             (exits_of around.now) self.old.next) }
@@ -287,11 +294,11 @@ impl Writer {
         let again = self.take(1)?;
         let past = self.take(1)?;
         let onward = self.take(1)?;
-        let level = behind(offset, 2)?;
+        let level = offset + 2;
         let start = copy_expression(self.alloc, start)?;
         self.set(around, level, start, offset)?;
         let limit = copy_expression(self.alloc, limit)?;
-        self.set(around, level, limit, behind(offset, 1)?)?;
+        self.set(around, level, limit, offset + 1)?;
         self.label(again)?;
         let end = end_of_for(self.alloc, by, offset)?;
         self.test(around, level, true, &end, past)?;
@@ -311,6 +318,7 @@ impl Writer {
         value: &CoreExp,
         list: &[ListItem],
     ) -> Result<(), GenError>
+        requires { CommandHasRoom (room_in around.now) (forms.SwitchOn (exp value.now) (items_view list.now)) level }
         ensures { Writes result self.old self.new (emit Plain (roots_in around.now) (forms.SwitchOn (exp value.now) (items_view list.now)) level
             (exits_of around.now) self.old.next) }
     {
@@ -333,12 +341,13 @@ impl Writer {
 
     /// A value and an address for each CASE, where the first CASE or DEFAULT has this label.
     fn table(&mut self, first: u16, list: &[ListItem]) -> Result<(), GenError>
+        requires { first + entries_in (items_view list.now) ≤ 65535 }
         ensures { Puts result self.old self.new (table_of Plain (items_view list.now) first) }
     {
         let mut entry = first;
         for item in list {
             let label = entry;
-            entry = entry_behind(item, entry)?;
+            entry = entry_behind(item, entry);
             if let ListItem::Case(value) = item {
                 self.data(*value)?;
                 self.data_label(label)?;
@@ -349,6 +358,7 @@ impl Writer {
 
     #[cycle(commands)]
     fn resultis(&mut self, around: &Around<'_>, level: u16, value: &CoreExp) -> Result<(), GenError>
+        requires { CommandHasRoom (room_in around.now) (forms.ResultIs (exp value.now)) level }
         ensures { Writes result self.old self.new
             (emit Plain (roots_in around.now) (forms.ResultIs (exp value.now)) level (exits_of around.now) self.old.next) }
     {
@@ -363,6 +373,7 @@ impl Writer {
         level: u16,
         block: &Block,
     ) -> Result<(), GenError>
+        requires { BlockHasRoom (room_in around.now) (block_of block.now) level }
         ensures { Writes result self.old self.new (emit_block Plain (roots_in around.now) (block_of block.now) level (exits_of around.now) self.old.next) }
     {
         let labels = self.list_labels(&block.list, around.labels)?;
@@ -382,12 +393,13 @@ impl Writer {
         level: u16,
         declarations: &[Declaration],
     ) -> Result<u16, GenError>
+        requires { DeclarationsHaveRoom (room_in around.now) (declarations_view declarations.now) level }
         ensures written { Writes result self.old self.new (emit_declarations (roots_in around.now) (declarations_view declarations.now) level self.old.next) }
         ensures behind { IfOk result (λ found. found ≡ level + cells_declared (declarations_view declarations.now)) }
     {
         let mut level = level;
         for declaration in declarations {
-            let inner = behind(level, cells_of_all(&declaration.variables)?)?;
+            let inner = level + cells_of_all(&declaration.variables);
             self.variables(around, inner, &declaration.variables, level)?;
             level = inner;
         }
@@ -403,13 +415,15 @@ impl Writer {
         variables: &[Variable],
         offset: u16,
     ) -> Result<(), GenError>
+        requires room { VariablesHaveRoom (room_in around.now) (map variable_view variables.now) offset level }
+        requires offsets { offset + cells_of_variables (map variable_view variables.now) ≤ 65535 }
         ensures { Writes result self.old self.new (emit_variables (roots_in around.now) (map variable_view variables.now) offset level self.old.next) }
     {
         let mut offset = offset;
         for variable in variables {
             let value = initial(self.alloc, variable, offset)?;
             self.set(around, level, value, offset)?;
-            offset = behind(offset, cells_of(variable)?)?;
+            offset += cells_of(variable);
         }
         Ok(())
     }
@@ -423,13 +437,15 @@ impl Writer {
         list: &[ListItem],
         first: u16,
     ) -> Result<(), GenError>
+        requires room { ItemsHaveRoom (room_in around.now) (items_view list.now) level }
+        requires entries { first + entries_in (items_view list.now) ≤ 65535 }
         ensures { Writes result self.old self.new (emit_items Plain (roots_in around.now) (items_view list.now) level
             (exits_of around.now) first self.old.next) }
     {
         let mut entry = first;
         for item in list {
             self.list_item(around, level, item, entry)?;
-            entry = entry_behind(item, entry)?;
+            entry = entry_behind(item, entry);
         }
         Ok(())
     }
@@ -442,6 +458,7 @@ impl Writer {
         item: &ListItem,
         entry: u16,
     ) -> Result<(), GenError>
+        requires { ItemsHaveRoom (room_in around.now) (items_before item.now forms.no_item) level }
         ensures { Writes result self.old self.new (emit_items Plain (roots_in around.now) (items_before item.now forms.no_item) level
             (exits_of around.now) entry self.old.next) }
     {

@@ -1,6 +1,6 @@
 //! The items of a section.
-ghost use Rattle.std.specs.Prelude.{◌≡◌, ◌++◌, ◌∷◌, ◌≤◌, IfOk, IfErr, map, length};
-ghost use Rattle.std.specs.List.{AllZip};
+ghost use Rattle.std.specs.Prelude.{◌≡◌, ◌++◌, ◌∷◌, ◌≤◌, ◌<◌, IfOk, IfErr, IfSome, map, length};
+ghost use Rattle.std.specs.List.{All, AllZip};
 ghost use Rattle.bc_text_items.specs.declared.item.Item.TheVariants as item;
 ghost use Rattle.bc_core.specs.Level.{level_behind_parameters};
 ghost use Rattle.bc_core.specs.View.{body_of, place_of, section};
@@ -10,11 +10,11 @@ ghost use Rattle.bc_gen_defs.specs.Bodies.{body_exits, emit_body};
 ghost use Rattle.bc_gen_defs.specs.Entries.{Plain, section_entries};
 ghost use Rattle.bc_gen_defs.specs.Section.{emit_routines, data_items, setting, setting_items, section_items, labels_suffice};
 ghost use Rattle.bc_gen.specs.Chosen.{coding};
+ghost use Rattle.bc_gen.specs.Room.{room_in, BodyHasRoom, RoutineHasRoom, SettingHasRoom, StringHasRoom};
 ghost use Rattle.bc_gen.specs.Surroundings.{exits_of, roots_in};
 ghost use Rattle.bc_gen.specs.Writing.{Writes};
 
 use crate::around::Around;
-use crate::commands::behind;
 use crate::gen_error::GenError;
 use crate::parts::{Apart, separated};
 use crate::writer::Writer;
@@ -39,9 +39,7 @@ pub struct Generated {
 /// The items of a section, with the code of least words for each root, and an entry for each root.
 ///
 /// `TooManyLabels` comes only where the section takes more than 20,000 labels, and such a section gets no items.
-/// `Memory` comes where an allocation was refused, or where an offset of a frame, the number of a global or the
-/// length of a string would be larger than its instruction or its byte allows, a block's list had 65,536 CASEs, or
-/// a root had more than 2^32 nodes: of a section that `resolve` gives none is, and none has.
+/// `Memory` comes only where an allocation was refused: each number of the code has room, by what `Core` keeps.
 pub fn generate(alloc: Global, core: &Core) -> Result<Generated, GenError>
     ensures items { IfOk result (λ found. found.items ≡ section_items coding (section core.now)) }
     ensures entries { IfOk result (λ found. map entry_view found.entries.items ≡ section_entries coding (section core.now)) }
@@ -77,6 +75,7 @@ impl Writer {
     fn routines(&mut self, around: &Around<'_>, places: &[Place]) -> Result<(), GenError>
         requires few { length places.now ≤ 20000 }
         requires outside { exits_of around.now ≡ body_exits 0 }
+        requires room { All (RoutineHasRoom (room_in around.now)) (map place_of places.now) }
         ensures { Writes result self.old self.new (emit_routines Plain (roots_in around.now) 0 (map place_of places.now) self.old.next) }
     {
         let mut label = 0u16;
@@ -91,11 +90,13 @@ impl Writer {
     }
 
     fn routine(&mut self, around: &Around<'_>, routine: &Routine) -> Result<(), GenError>
-        requires { exits_of around.now ≡ body_exits 0 }
+        requires outside { exits_of around.now ≡ body_exits 0 }
+        requires level { level_behind_parameters routine.now.parameters ≤ 65535 }
+        requires room { BodyHasRoom (room_in around.now) (body_of routine.now.body) (level_behind_parameters routine.now.parameters) }
         ensures { Writes result self.old self.new
             (emit_body Plain (roots_in around.now) (body_of routine.now.body) (level_behind_parameters routine.now.parameters) self.old.next) }
     {
-        let level = behind(2, routine.parameters)?;
+        let level = 2 + routine.parameters;
         match &routine.body {
             Body::Value(value) => {
                 self.value(around, level, value)?;
@@ -111,7 +112,8 @@ impl Writer {
 
 /// The statics, tables and strings, each with the label of its place.
 fn put_data(items: &mut Vec<Item>, places: &[Place]) -> Result<(), Memory>
-    requires { length places.now ≤ 20000 }
+    requires few { length places.now ≤ 20000 }
+    requires room { All StringHasRoom (map place_of places.now) }
     ensures { IfOk result (λ _. items.new.items ≡ items.old.items ++ data_items 0 (map place_of places.now)) }
 {
     let mut label = 0u16;
@@ -147,12 +149,10 @@ fn put_words(items: &mut Vec<Item>, words: &[Word]) -> Result<(), Memory>
 
 /// The length of a string, and its bytes.
 fn put_string(items: &mut Vec<Item>, bytes: &[u8]) -> Result<(), Memory>
+    requires { length bytes.now ≤ 255 }
     ensures { IfOk result (λ _. items.new.items ≡ items.old.items ++ item.Byte (length bytes.now) ∷ map item.Byte bytes.now) }
 {
-    match u8::try_from(bytes.len()) {
-        Ok(length) => items.push(Item::Byte(length))?,
-        Err(_) => return Err(Memory),
-    }
+    items.push(Item::Byte(bytes.len() as u8))?;
     for byte in bytes {
         items.push(Item::Byte(*byte))?;
     }
@@ -161,7 +161,8 @@ fn put_string(items: &mut Vec<Item>, bytes: &[u8]) -> Result<(), Memory>
 
 /// The globals that routines set.
 fn put_settings(items: &mut Vec<Item>, places: &[Place]) -> Result<(), Memory>
-    requires { length places.now ≤ 20000 }
+    requires few { length places.now ≤ 20000 }
+    requires room { All SettingHasRoom (map place_of places.now) }
     ensures { IfOk result (λ _. items.new.items ≡ items.old.items ++ setting_items 0 (map place_of places.now)) }
 {
     let mut label = 0u16;
@@ -176,14 +177,15 @@ fn put_settings(items: &mut Vec<Item>, places: &[Place]) -> Result<(), Memory>
 
 /// The global that a routine sets to its label, if it sets one.
 fn put_setting(items: &mut Vec<Item>, global: Option<u16>, label: u16) -> Result<(), Memory>
+    requires { IfSome global (λ n. n < 512) }
     ensures { IfOk result (λ _. items.new.items ≡ items.old.items ++ setting global label) }
 {
     let Some(global) = global else { return Ok(()) };
-    match GlobalNumber::new(global) {
-        None => Err(Memory),
-        Some(number) => Ok(items.push(Item::Global {
-            number,
-            label: Word::new(label),
-        })?),
-    }
+    let Some(number) = GlobalNumber::new(global) else {
+        unreachable!()
+    };
+    Ok(items.push(Item::Global {
+        number,
+        label: Word::new(label),
+    })?)
 }

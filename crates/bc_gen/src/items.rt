@@ -1,9 +1,9 @@
 //! What one call puts behind the code that is there.
-ghost use Rattle.std.specs.Prelude.{◌≡◌, ℕ, ◌+◌, ◌≤◌, IfOk, IfErr, [], ◌∷◌};
+ghost use Rattle.std.specs.Prelude.{◌≡◌, ◌+◌, IfOk, IfErr, [], ◌∷◌};
 ghost use Rattle.bc_text_items.specs.declared.item.Item.TheVariants as items;
 ghost use Rattle.bc_gen_defs.specs.Emit.{jump as jump_item, execute as execute_item, zero_item};
 ghost use Rattle.bc_gen_defs.specs.Entries.{Plain};
-ghost use Rattle.bc_gen.specs.Writing.{IsNext, Puts, RunsOut};
+ghost use Rattle.bc_gen.specs.Writing.{Puts, RunsOut};
 
 use crate::gen_error::GenError;
 use crate::parts::Part;
@@ -30,18 +30,16 @@ impl Writer {
     }
 
     /// The labels up to this one are taken.
-    pub(crate) fn take_to(&mut self, next: Option<u32>) -> Result<(), GenError>
-        ensures next { IfOk result (λ _. next ≡ Some self.new.next) }
-        ensures out { IfErr result (λ e. (n : ℕ) → IsNext next n → RunsOut e n) }
+    pub(crate) fn take_to(&mut self, next: u32) -> Result<(), GenError>
+        ensures next { IfOk result (λ _. self.new.next ≡ next) }
+        ensures out { IfErr result (λ e. RunsOut e next) }
         ensures parts { self.new.parts ≡ self.old.parts }
     {
-        match next {
-            Some(next) if next <= u32::from(GREATEST_LABEL) + 1 => {
-                self.next = next as u16;
-                Ok(())
-            }
-            _ => Err(GenError::TooManyLabels),
+        if next > u32::from(GREATEST_LABEL) + 1 {
+            return Err(GenError::TooManyLabels);
         }
+        self.next = next as u16;
+        Ok(())
     }
 
     pub(crate) fn put(&mut self, item: Item) -> Result<(), GenError>

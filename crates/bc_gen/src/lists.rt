@@ -1,16 +1,14 @@
 //! The labels of command lists.
-ghost use Rattle.std.specs.Prelude.{◌≡◌, ◌+◌, ◌++◌, IfOk, IfErr};
+ghost use Rattle.std.specs.Prelude.{◌≡◌, ◌+◌, ◌++◌, ◌≤◌, IfOk, IfErr};
 ghost use Rattle.bc_core.specs.View.{items};
 ghost use Rattle.bc_gen_defs.specs.Emit.{labels_in, defaulted, cases_in, entries_in};
 ghost use Rattle.bc_gen.specs.Surroundings.{label_pairs, next_entry};
 ghost use Rattle.bc_gen.specs.Writing.{RunsOut};
 
 use crate::around::Numbered;
-use crate::commands::behind;
 use crate::gen_error::GenError;
 use crate::writer::Writer;
 use bc_core::ListItem;
-use bc_word::Memory;
 
 /// The labels of a SWITCHON's list.
 #[derive(Clone, Copy)]
@@ -24,12 +22,13 @@ pub(crate) struct CaseLabels {
 }
 
 /// The label of the next CASE or DEFAULT behind an item, where that of the next one from the item on is this.
-pub(crate) fn entry_behind(item: &ListItem, entry: u16) -> Result<u16, Memory>
-    ensures { IfOk result (λ found. found ≡ next_entry item.now entry) }
+pub(crate) fn entry_behind(item: &ListItem, entry: u16) -> u16
+    requires { next_entry item.now entry ≤ 65535 }
+    ensures { result ≡ next_entry item.now entry }
 {
     match item {
-        ListItem::Case(_) | ListItem::Default => behind(entry, 1),
-        ListItem::Command(_) | ListItem::Label(_) => Ok(entry),
+        ListItem::Case(_) | ListItem::Default => entry + 1,
+        ListItem::Command(_) | ListItem::Label(_) => entry,
     }
 }
 

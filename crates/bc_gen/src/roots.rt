@@ -1,24 +1,27 @@
 //! The code of roots, with the bodies of their VALOFs.
 ghost use Rattle.std.specs.Prelude.{◌≡◌, ◌+◌, ◌++◌, ◌≤◌, IfOk, IfErr, map, drop, length};
+ghost use Rattle.std.specs.List.{All};
 ghost use Rattle.bc_core.specs.Tree as tree;
 ghost use Rattle.bc_core.specs.View.{exp, root as root_view};
 ghost use Rattle.bc_rules_defs.specs.View.{derivation as derivation_view};
-ghost use Rattle.bc_rules.specs.Code.{IsCodeOf};
+ghost use Rattle.bc_rules.specs.Code.{IsCodeOf, cells_of_root};
 ghost use Rattle.bc_gen_defs.specs.Bodies.{fill as fill_of, level_of, label_ahead as label_ahead_of};
 ghost use Rattle.bc_gen_defs.specs.Entries.{Plain, count_items as count_of};
 ghost use Rattle.bc_gen.specs.Chosen.{coding};
 ghost use Rattle.bc_gen.specs.Parts.{parts as parts_view};
+ghost use Rattle.bc_gen.specs.Room.{room_in, RootHasRoom, PieceHasRoom};
 ghost use Rattle.bc_gen.specs.Surroundings.{one_piece, roots_in, bodies_of, valofs_in};
 ghost use Rattle.bc_gen.specs.Writing.{RunsOut, Writes};
 
 use crate::around::Around;
-use crate::choice::{Choice, chosen, label_behind, pieces_of};
+use crate::choice::{Choice, chosen, pieces_of};
 use crate::gen_error::GenError;
 use crate::mark::Mark;
 use crate::parts::{Part, count_items};
 use crate::writer::Writer;
 use bc_cert_write::Workings;
 use bc_core::{CoreExp, Root, copy_expression};
+use bc_rules::CodeFault;
 use bc_rules_defs::{Derivation, Piece};
 use bc_text_items::Item;
 
@@ -49,6 +52,7 @@ impl Writer {
         level: u16,
         expression: &CoreExp,
     ) -> Result<(), GenError>
+        requires { RootHasRoom (room_in around.now) (tree.Value level (exp expression.now)) }
         ensures { Writes result self.old self.new (roots_in around.now (tree.Value level (exp expression.now)) 0 self.old.next) }
     {
         let expression = copy_expression(self.alloc, expression)?;
@@ -65,6 +69,7 @@ impl Writer {
         expression: &CoreExp,
         target: u16,
     ) -> Result<(), GenError>
+        requires { RootHasRoom (room_in around.now) (tree.Test level sense (exp expression.now)) }
         ensures { Writes result self.old self.new (roots_in around.now (tree.Test level sense (exp expression.now)) target self.old.next) }
     {
         let expression = copy_expression(self.alloc, expression)?;
@@ -84,6 +89,7 @@ impl Writer {
         root: Root,
         target: u16,
     ) -> Result<(), GenError>
+        requires { RootHasRoom (room_in around.now) (root_view root) }
         ensures { Writes result self.old self.new (roots_in around.now (root_view root) target self.old.next) }
     {
         let Choice { derivation, rows } = chosen(self.alloc, &root)?;
@@ -103,14 +109,15 @@ impl Writer {
         Ok(self.parts.insert(at, begins)?)
     }
 
-    /// The code of a root by this derivation, whose labels are taken. Where there is no code, it is told first whether labels ran out.
+    /// The code of a root by this derivation, whose labels are taken.
     fn coded(
         &mut self,
         root: &Root,
         derivation: &Derivation,
         target: u16,
     ) -> Result<Vec<Piece>, GenError>
-        requires { derivation_view derivation.now ≡ coding.derivation (root_view root.now) }
+        requires derivation { derivation_view derivation.now ≡ coding.derivation (root_view root.now) }
+        requires cells { cells_of_root (root_view root.now) ≤ 65536 }
         ensures chosen { IfOk result (λ pieces. pieces.items ≡ coding.pieces (root_view root.now) target self.old.next) }
         ensures code { IfOk result (λ pieces. IsCodeOf (root_view root.now) (derivation_view derivation.now) target self.old.next pieces.items) }
         ensures next { IfOk result (λ _. self.new.next ≡ self.old.next + coding.labels (root_view root.now)) }
@@ -120,19 +127,18 @@ impl Writer {
         let first = self.next;
         match pieces_of(self.alloc, root, derivation, target, first) {
             Ok(coded) => {
-                self.take_to(Some(coded.next))?;
+                self.take_to(coded.next)?;
                 Ok(coded.pieces)
             }
-            Err(_) => {
-                self.take_to(label_behind(root, derivation, first))?;
-                Err(GenError::Memory)
-            }
+            Err(CodeFault::NoRoom) => Err(GenError::TooManyLabels),
+            Err(CodeFault::Memory) => Err(GenError::Memory),
         }
     }
 
     /// The pieces of a root with the bodies of its VALOFs filled in; the result is how many items each body has.
     #[cycle(commands)]
     fn fill(&mut self, around: &Around<'_>, pieces: &[Piece]) -> Result<Vec<u64>, GenError>
+        requires { All (PieceHasRoom (room_in around.now)) pieces.now }
         ensures written { let x = fill_of Plain (level_of (valofs_in around.now.valofs.now))
             (bodies_of (valofs_in around.now.valofs.now) around.now.least) pieces.now self.old.next in Writes result self.old self.new (x.0, x.1) }
         ensures counts { let x = fill_of Plain (level_of (valofs_in around.now.valofs.now))
@@ -156,6 +162,7 @@ impl Writer {
         label: u16,
         bodies: &mut Vec<u64>,
     ) -> Result<(), GenError>
+        requires { PieceHasRoom (room_in around.now) piece }
         ensures written { let vs = valofs_in around.now.valofs.now in
             let x = one_piece (level_of vs) (bodies_of vs around.now.least) piece label self.old.next in Writes result self.old self.new (x.0, x.1) }
         ensures counts { let vs = valofs_in around.now.valofs.now in
@@ -174,6 +181,7 @@ impl Writer {
     /// The body of a VALOF; the result is how many items it has.
     #[cycle(commands)]
     fn body(&mut self, around: &Around<'_>, number: u64, label: u16) -> Result<u64, GenError>
+        requires { room_in around.now number }
         ensures written { Writes result self.old self.new (let vs = valofs_in around.now.valofs.now in
             bodies_of vs around.now.least number (level_of vs number) label self.old.next) }
         ensures count { IfOk result (λ found. let vs = valofs_in around.now.valofs.now in
@@ -187,6 +195,7 @@ impl Writer {
     /// The body of a VALOF, whose RESULTIS jumps to this label.
     #[cycle(commands)]
     fn valof(&mut self, around: &Around<'_>, number: u64, label: u16) -> Result<(), GenError>
+        requires { room_in around.now number }
         ensures { Writes result self.old self.new (let vs = valofs_in around.now.valofs.now in
             bodies_of vs around.now.least number (level_of vs number) label self.old.next) }
     {

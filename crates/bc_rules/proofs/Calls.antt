@@ -1,5 +1,5 @@
 -- Whether a call or a VALOF stands in an expression, by the parts of a rule.
-use Rattle.std.proofs.Common.{◌≡◌, ℕ, Bool, true, false, not, cond, ◌||◌, Option, Some, None, refl, ap, sym, ◌∙◌}
+use Rattle.std.proofs.Common.{◌≡◌, ℕ, Bool, true, false, not, cond, ◌||◌, Option, Some, None, refl, ap, sym, subst, ◌∙◌}
 use Rattle.bc_word.specs.declared.operator.Op.{Op}
 use Rattle.bc_word.specs.declared.operator.Op.TheVariants.{Add, Subtract, Equal, NotEqual, And, Or}
 use Rattle.bc_word.specs.Mirror.{mirror_of}
@@ -225,3 +225,7 @@ tells_call e (called i es g) f h = h
 
 pub whole_call : (r : Rule) (aim : Aim) (e : Exp) → (parts_of r aim e ≡ no_rule → ⊥) → parts_call (parts_of r aim e) ≡ has_call e
 whole_call r aim e f = tells_call e (parts_of r aim e) f (parts_tell r aim e)
+
+-- no parts, where the rule applies: those of a VALOF just where a call or a VALOF stands there
+pub leaf_calls : (r : Rule) (aim : Aim) (e : Exp) (v : Bool) → leaf v ≡ parts_of r aim e → v ≡ has_call e
+leaf_calls r aim e v h = subst (λ p. Tells e p) (sym h) (parts_tell r aim e)

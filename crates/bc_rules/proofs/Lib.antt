@@ -5,4 +5,5 @@ pub mod Bridge
 pub mod Counts
 pub mod Bytes
 pub mod Labels
+pub mod Cells
 pub mod Written

@@ -1,7 +1,6 @@
 -- What the steps of writing add up to.
-use Rattle.std.proofs.Common.{◌≡◌, ◌==◌, Option, Result, Ok, Err, ℕ, zero, suc, ◌+◌, ◌<◌, ◌≤◌, Bool, true, false, cond, List, [], ◌∷◌, ◌++◌, length, get_or, drop, refl, sym, ap, ◌∙◌, arith, append_assoc, append-nil, add-zero, length-drop}
+use Rattle.std.proofs.Common.{◌≡◌, ◌==◌, Option, Result, Ok, Err, ℕ, zero, suc, ◌+◌, ◌<◌, ◌≤◌, max, Bool, true, false, cond, List, [], ◌∷◌, ◌++◌, length, get_or, drop, refl, sym, ap, subst, ◌∙◌, arith, append_assoc, append-nil, add-zero, length-drop}
 use Rattle.std.proofs.lemmas.List.{drop_all}
-use Rattle.std.specs.Prelude.{OnOk}
 use Rattle.bc_core.specs.declared.expression.CoreExp.{CoreExp}
 use Rattle.bc_core.specs.Tree.{Exp, Args, no_argument, argument, Root, Assign}
 use Rattle.bc_core.specs.Operand.{operand_of}
@@ -18,10 +17,13 @@ use Rattle.bc_rules_defs.specs.Rules.{Tree, Trees, by, no_part, part, one, two, 
 use Rattle.bc_rules_defs.specs.Parts.{Parts, no_rule, leaf, single, pair, triple, called, parts_of, assignment_parts}
 use Rattle.bc_rules_defs.specs.ByShape.{own_labels, part_level, first_target, with_operand, between, leaf_code, behind_single, behind_pair, behind_sides, labels_by, labels_of_parts, labels_of_sides, code_by, code_of_parts, code_of_sides, root_labels_by, root_code_by}
 use Rattle.bc_rules_defs.specs.View.{derivation, derivations}
+use Rattle.bc_rules.specs.declared.code_fault.CodeFault.{CodeFault}
 use Rattle.bc_rules.specs.declared.writer.Writer.{Writer}
-use Rattle.bc_rules.specs.Adds.{Writes, Adds, Takes}
-use Rattle.bc_rules.specs.Code.{IsCodeOf}
+use Rattle.bc_rules.specs.Adds.{Writes, Adds, Takes, least_for, WritesOrLacks}
+use Rattle.bc_rules.specs.Code.{IsCodeOf, cells_of_root}
+use Rattle.bc_rules.specs.Levels.{cells, cells_of_parts, cells_of_sides}
 use Rattle.bc_rules_defs.proofs.ByShape.{root_code_same}
+use Rattle.bc_rules.proofs.Cells.{parts_within, sides_within}
 use Rattle.bc_rules.proofs.Trees.{tree_view, one_tree, two_trees, three_trees, next_tree}
 
 then_adds : {u v w : Writer} {xs ys : List Piece} {n : ℕ} → Writes u v xs n → Adds v w ys → Writes u w (xs ++ ys) n
@@ -154,16 +156,24 @@ triple_writes_not r aim e m n l a b c s t (x ∷ y ∷ []) u h = nothing u
 triple_writes_not r aim e m n l a b c s t (x ∷ y ∷ z ∷ []) u h = absurd (h (omega arith))
 triple_writes_not r aim e m n l a b c s t (x ∷ y ∷ z ∷ k ∷ xs) u h = nothing u
 
+-- the labels and the cells of a part are no more than the whole's
+within : (y : CodeFault) (next n m c k : ℕ) → least_for y ≤ max (next + n) c → n ≡ m → c ≤ k → least_for y ≤ max (next + m) k
+within y next n m c k h i j = omega arith
+
 -- a derivation as it lies in memory
-pub tree_writes : {X Y : Type 0} (z : Result X Y) (d : Derivation) (xs : List Derivation) (aim : Aim) (e : Exp) (s t : ℕ) (p : Parts) (u w : Writer) → xs ≡ (out-Derivation d).parts.items → p ≡ parts_of (out-Derivation d).rule aim e
-    → OnOk z (Writes u w (code_of_parts (out-Derivation d).rule aim e p (derivations xs) s t u.next) (labels_of_parts (out-Derivation d).rule p (derivations xs)))
-    → OnOk z (Writes u w (code_by (derivation d) aim e s t u.next) (labels_by (derivation d) aim e))
+pub tree_writes : {X : Type 0} (z : Result X CodeFault) (d : Derivation) (xs : List Derivation) (aim : Aim) (e : Exp) (s t : ℕ) (p : Parts) (u w : Writer) → xs ≡ (out-Derivation d).parts.items → p ≡ parts_of (out-Derivation d).rule aim e
+    → WritesOrLacks z u w (code_of_parts (out-Derivation d).rule aim e p (derivations xs) s t u.next) (labels_of_parts (out-Derivation d).rule p (derivations xs)) (cells_of_parts (out-Derivation d).rule p s)
+    → WritesOrLacks z u w (code_by (derivation d) aim e s t u.next) (labels_by (derivation d) aim e) (cells e s)
 tree_writes (Ok x) d xs aim e s t p u w k h i =
     let r = (out-Derivation d).rule in
     let tree : by r (derivations xs) ≡ derivation d = ap (λ ys. by r (derivations ys)) k ∙ sym (tree_view d) in
     writes_as i (ap (λ q. code_of_parts r aim e q (derivations xs) s t u.next) h ∙ ap (λ x. code_by x aim e s t u.next) tree)
     (ap (λ q. labels_of_parts r q (derivations xs)) h ∙ ap (λ x. labels_by x aim e) tree)
-tree_writes (Err x) d xs aim e s t p u w k h i = tt
+tree_writes (Err y) d xs aim e s t p u w k h i =
+    let r = (out-Derivation d).rule in
+    let tree : by r (derivations xs) ≡ derivation d = ap (λ ys. by r (derivations ys)) k ∙ sym (tree_view d) in
+    within y u.next _ _ _ _ i (ap (λ q. labels_of_parts r q (derivations xs)) h ∙ ap (λ x. labels_by x aim e) tree)
+    (subst (λ q. cells_of_parts r q s ≤ cells e s) (sym h) (parts_within r aim e s))
 
 pub none_writes : (r : Rule) (aim : Aim) (e : Exp) (s t : ℕ) (ds : Trees) (u : Writer) → Writes u u (code_of_parts r aim e no_rule ds s t u.next) (labels_of_parts r no_rule ds)
 none_writes r aim e s t ds u = nothing u
@@ -233,15 +243,19 @@ call_writes r aim e xs es g i s t l o d x u v w z C L h n hx hl ho j k p q =
     record { pieces = last.pieces ∙ k; next = last.next ∙ j }
 
 -- an assignment
-pub assignment_writes : {X Y : Type 0} (z : Result X Y) (d : Derivation) (xs : List Derivation) (v a : Exp) (s t : ℕ) (p : Parts) (u w : Writer) → xs ≡ (out-Derivation d).parts.items → p ≡ assignment_parts (out-Derivation d).rule v a
-    → OnOk z (Writes u w (code_of_sides (out-Derivation d).rule a p (derivations xs) s t u.next) (labels_of_sides p (derivations xs)))
-    → OnOk z (Writes u w (root_code_by (Assign s v a) (derivation d) t u.next) (root_labels_by (Assign s v a) (derivation d)))
+pub assignment_writes : {X : Type 0} (z : Result X CodeFault) (d : Derivation) (xs : List Derivation) (v a : Exp) (s t : ℕ) (p : Parts) (u w : Writer) → xs ≡ (out-Derivation d).parts.items → p ≡ assignment_parts (out-Derivation d).rule v a
+    → WritesOrLacks z u w (code_of_sides (out-Derivation d).rule a p (derivations xs) s t u.next) (labels_of_sides p (derivations xs)) (cells_of_sides p s)
+    → WritesOrLacks z u w (root_code_by (Assign s v a) (derivation d) t u.next) (root_labels_by (Assign s v a) (derivation d)) (cells_of_root (Assign s v a))
 assignment_writes (Ok x) d xs v a s t p u w k h i =
     let r = (out-Derivation d).rule in
     let tree : by r (derivations xs) ≡ derivation d = ap (λ ys. by r (derivations ys)) k ∙ sym (tree_view d) in
     writes_as i (ap (λ q. code_of_sides r a q (derivations xs) s t u.next) h ∙ ap (λ x. root_code_by (Assign s v a) x t u.next) tree)
     (ap (λ q. labels_of_sides q (derivations xs)) h ∙ ap (λ x. root_labels_by (Assign s v a) x) tree)
-assignment_writes (Err x) d xs v a s t p u w k h i = tt
+assignment_writes (Err y) d xs v a s t p u w k h i =
+    let r = (out-Derivation d).rule in
+    let tree : by r (derivations xs) ≡ derivation d = ap (λ ys. by r (derivations ys)) k ∙ sym (tree_view d) in
+    within y u.next _ _ _ _ i (ap (λ q. labels_of_sides q (derivations xs)) h ∙ ap (λ x. root_labels_by (Assign s v a) x) tree)
+    (subst (λ q. cells_of_sides q s ≤ cells_of_root (Assign s v a)) (sym h) (sides_within r v a s))
 
 pub side_writes : (r : Rule) (address : Exp) (m : Aim) (a : Exp) (s t : ℕ) (o : Option Operand) (xs : List Derivation) (d x : Derivation) (u v w : Writer) → length xs ≡ 1
     → x ≡ get_or xs 0 d → o ≡ operand_of address

@@ -1,4 +1,4 @@
--- What `code_of` and `next_label` give, and the offsets that a root's work uses.
+-- What `code_of` and `next_label` give, the offsets that a root's work uses, and when numbers lack room.
 use Rattle.std.specs.Prelude.{◌≡◌, ℕ, ◌+◌, ◌≤◌, Option, List}
 use Rattle.std.specs.Option.{SomeIff}
 use Rattle.bc_core.specs.Tree.{Root, Value, Test, Assign}
@@ -17,6 +17,10 @@ cells_of_root (Assign s v a) = cells_of_assignment (λ n s. 0) v a s
 -- the label behind those of the root's derivation with these rules; none where one of these is no word
 pub record IsNextLabel (r : Root) (x : Tree) (first : ℕ) (next : Option ℕ) : Type 0 where
   pub exact : (T : Table) (d : RootDerives T r) → root_shape d ≡ x → SomeIff next (first + root_labels d ≤ 65536) (first + root_labels d)
+
+-- an offset of the frame, or a label of the root's derivation with these rules, is no word
+pub record LacksRoom (r : Root) (x : Tree) (first : ℕ) : Type 0 where
+  pub exact : (T : Table) (d : RootDerives T r) → root_shape d ≡ x → first + root_labels d ≤ 65536 → cells_of_root r ≤ 65536 → ⊥
 
 -- the code of the root's derivation with these rules
 pub record IsCodeOf (r : Root) (x : Tree) (target first : ℕ) (pieces : List Piece) : Type 0 where

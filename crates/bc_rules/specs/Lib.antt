@@ -5,3 +5,4 @@ pub mod View
 pub mod Levels
 pub mod Words
 pub mod Adds
+pub mod Examples

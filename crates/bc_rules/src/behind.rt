@@ -1,11 +1,13 @@
 //! What stands between the parts of a rule, and behind them.
 
-ghost use Rattle.std.specs.Prelude.{◌≡◌, [], OnOk};
+ghost use Rattle.std.specs.Prelude.{◌≡◌, ◌+◌, max, cond, [], OnOk};
 ghost use Rattle.bc_core.specs.View.{exp};
-ghost use Rattle.bc_rules_defs.specs.ByShape.{left_operand as left_operand_of, right_operand as right_operand_of, right_constant as right_constant_of, operator_mirror, leaf_code, behind_single as behind_single_of, between as between_of, behind_pair as behind_pair_of, behind_sides as behind_sides_of, with_operand, less_constant, operator_number};
+ghost use Rattle.bc_core.specs.Value.{has_call};
+ghost use Rattle.bc_rules_defs.specs.ByShape.{left_operand as left_operand_of, right_operand as right_operand_of, right_constant as right_constant_of, operator_mirror, leaf_code, behind_single as behind_single_of, between as between_of, behind_pair as behind_pair_of, behind_sides as behind_sides_of, with_operand, less_constant, operator_number, own_labels};
 ghost use Rattle.bc_rules_defs.specs.Piece.{on};
-ghost use Rattle.bc_rules.specs.Adds.{Adds};
+ghost use Rattle.bc_rules.specs.Adds.{Adds, OkOrLacks};
 
+use crate::code_fault::CodeFault;
 use crate::parts::Part;
 use crate::writer::{Writer, more};
 use bc_core::{CoreExp, Operand, constant, operand};
@@ -86,16 +88,23 @@ fn apply_mirror(w: &mut Writer, e: &CoreExp) -> Result<(), Memory>
 /// The code of a rule without parts.
 ///
 /// `first` is the label of a VALOF.
-pub fn leaf(w: &mut Writer, rule: Rule, node: Part, target: u16, first: u32) -> Result<(), Memory>
-    ensures { OnOk result (Adds w.old w.new (leaf_code rule node.entry.aim (exp node.entry.of.now) target first)) }
+pub fn leaf(
+    w: &mut Writer,
+    rule: Rule,
+    node: Part,
+    target: u16,
+    first: u32,
+) -> Result<(), CodeFault>
+    ensures { OkOrLacks result (λ _. Adds w.old w.new (leaf_code rule node.entry.aim (exp node.entry.of.now) target first))
+        (first + cond (has_call (exp node.entry.of.now)) 1 0) }
 {
     match rule {
-        Rule::V1 => operate(w, Function::Load, operand(node.of)),
+        Rule::V1 => Ok(operate(w, Function::Load, operand(node.of))?),
         _ => match node.of {
             CoreExp::Num(n) => match node.aim {
                 Aim::Jumps(sense) => {
                     if jumps(sense, *n) {
-                        w.jump(Function::Jump, target)
+                        Ok(w.jump(Function::Jump, target)?)
                     } else {
                         Ok(())
                     }
@@ -144,8 +153,8 @@ pub fn behind_single(w: &mut Writer, rule: Rule, node: Part, target: u16) -> Res
 }
 
 /// What stands between two parts.
-pub fn between(w: &mut Writer, rule: Rule, level: u32) -> Result<(), Memory>
-    ensures { OnOk result (Adds w.old w.new (between_of rule level)) }
+pub fn between(w: &mut Writer, rule: Rule, level: u32) -> Result<(), CodeFault>
+    ensures { OkOrLacks result (λ _. Adds w.old w.new (between_of rule level)) (level + 1) }
 {
     match rule {
         Rule::V15 | Rule::V16 | Rule::V17 | Rule::V18 | Rule::V19 => {
@@ -162,30 +171,30 @@ pub fn behind_pair(
     e: &CoreExp,
     level: u32,
     first: u32,
-) -> Result<(), Memory>
-    ensures { OnOk result (Adds w.old w.new (behind_pair_of rule (exp e.now) level first)) }
+) -> Result<(), CodeFault>
+    ensures { OkOrLacks result (λ _. Adds w.old w.new (behind_pair_of rule (exp e.now) level first)) (max (first + own_labels rule) (level + 2)) }
 {
     match rule {
-        Rule::V12 => apply(w, e),
-        Rule::V13 => apply_mirror(w, e),
+        Rule::V12 => Ok(apply(w, e)?),
+        Rule::V13 => Ok(apply_mirror(w, e)?),
         Rule::V14 => {
             w.execute(9)?;
-            w.execute(2)
+            Ok(w.execute(2)?)
         }
         Rule::V15 => {
             w.cell(Function::Load, true, level)?;
-            apply_mirror(w, e)
+            Ok(apply_mirror(w, e)?)
         }
         Rule::V16 => {
             w.cell(Function::Load, true, level)?;
-            apply(w, e)
+            Ok(apply(w, e)?)
         }
         Rule::V17 => {
             let next = more(level, 1)?;
             w.cell(Function::Store, false, next)?;
             w.cell(Function::Load, true, level)?;
             w.cell(Function::Load, true, next)?;
-            apply(w, e)
+            Ok(apply(w, e)?)
         }
         Rule::V18 => w.cell(Function::Add, true, level),
         Rule::V19 => {
@@ -198,8 +207,8 @@ pub fn behind_pair(
 }
 
 /// What stands behind the two sides of an assignment.
-pub fn behind_sides(w: &mut Writer, rule: Rule, level: u32) -> Result<(), Memory>
-    ensures { OnOk result (Adds w.old w.new (behind_sides_of rule level)) }
+pub fn behind_sides(w: &mut Writer, rule: Rule, level: u32) -> Result<(), CodeFault>
+    ensures { OkOrLacks result (λ _. Adds w.old w.new (behind_sides_of rule level)) (level + 2) }
 {
     match rule {
         Rule::A2 => w.cell(Function::Store, true, level),

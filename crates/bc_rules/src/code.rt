@@ -1,15 +1,18 @@
-ghost use Rattle.std.specs.Prelude.{IfOk, OnOk, Some};
+ghost use Rattle.std.specs.Prelude.{◌≡◌, IfOk, IfErr, Some};
 ghost use Rattle.bc_core.specs.Tree.{Assign};
 ghost use Rattle.bc_core.specs.View.{exp, root as root_of};
 ghost use Rattle.bc_rules_defs.specs.View.{derivation as tree, derivations};
 ghost use Rattle.bc_rules_defs.specs.Parts.{single as single_of, pair as pair_of};
 ghost use Rattle.bc_rules_defs.specs.ByShape.{labels_of_sides, code_of_sides, root_labels_by, root_code_by};
-ghost use Rattle.bc_rules.specs.Code.{IsCodeOf, IsNextLabel};
-ghost use Rattle.bc_rules.specs.Adds.{Writes};
+ghost use Rattle.bc_rules.specs.declared.code_fault.CodeFault.TheVariants.{NoRoom};
+ghost use Rattle.bc_rules.specs.Code.{IsCodeOf, IsNextLabel, LacksRoom, cells_of_root};
+ghost use Rattle.bc_rules.specs.Levels.{cells_of_sides};
+ghost use Rattle.bc_rules.specs.Adds.{WritesOrLacks};
 ghost use Rattle.bc_rules.specs.View.{parts};
 
 use crate::applying::assignment_parts;
 use crate::behind::{behind_sides, operate};
+use crate::code_fault::CodeFault;
 use crate::counting::root_labels;
 use crate::parts::{Part, Parts};
 use crate::writer::{Writer, more};
@@ -38,7 +41,7 @@ pub fn next_label(root: &Root, derivation: &Derivation, first: u16) -> Option<u3
 /// tree that is no derivation of the root nothing is said.
 ///
 /// `Memory` comes where an allocation was refused, or where a label or an offset of the frame would be
-/// over 65,535.
+/// over 65,535: `code_with_labels` tells the two apart.
 pub fn code_of(
     alloc: Global,
     root: &Root,
@@ -48,7 +51,7 @@ pub fn code_of(
 ) -> Result<Vec<Piece>, Memory>
     ensures { IfOk result (λ pieces. IsCodeOf (root_of root.now) (tree derivation.now) target first pieces.items) }
 {
-    let coded = code_with_labels(alloc, root, derivation, target, first)?;
+    let coded = code_with_labels(alloc, root, derivation, target, first).map_err(|_| Memory)?;
     Ok(coded.pieces)
 }
 
@@ -63,21 +66,24 @@ pub struct Coded {
 
 /// What `code_of` and `next_label` give, by one walk over the derivation.
 ///
-/// `Memory` comes where `code_of` answers it.
+/// `Memory` comes where an allocation was refused, and `NoRoom` only where a label of the derivation or
+/// an offset of the frame that the work on the root uses would be over 65,535.
+#[tactic(auto, using(crate::proofs::Labels::fault_lacks, crate::proofs::Labels::label_lacks))]
 pub fn code_with_labels(
     alloc: Global,
     root: &Root,
     derivation: &Derivation,
     target: u16,
     first: u16,
-) -> Result<Coded, Memory>
+) -> Result<Coded, CodeFault>
     ensures code { IfOk result (λ c. IsCodeOf (root_of root.now) (tree derivation.now) target first c.pieces.items) }
     ensures next { IfOk result (λ c. IsNextLabel (root_of root.now) (tree derivation.now) first (Some c.next)) }
+    ensures no_room { IfErr result (λ fault. fault ≡ NoRoom → LacksRoom (root_of root.now) (tree derivation.now) first) }
 {
     let mut w = Writer::new(alloc, first);
     write_root(&mut w, root, derivation, target)?;
     if w.next > 65_536 {
-        return Err(Memory);
+        return Err(CodeFault::NoRoom);
     }
     Ok(Coded {
         pieces: w.pieces,
@@ -86,9 +92,9 @@ pub fn code_with_labels(
 }
 
 /// Writes the code of a root's derivation.
-fn write_root(w: &mut Writer, root: &Root, d: &Derivation, target: u16) -> Result<(), Memory>
-    ensures { OnOk result (Writes w.old w.new (root_code_by (root_of root.now) (tree d.now) target w.old.next)
-        (root_labels_by (root_of root.now) (tree d.now))) }
+fn write_root(w: &mut Writer, root: &Root, d: &Derivation, target: u16) -> Result<(), CodeFault>
+    ensures { WritesOrLacks result w.old w.new (root_code_by (root_of root.now) (tree d.now) target w.old.next)
+        (root_labels_by (root_of root.now) (tree d.now)) (cells_of_root (root_of root.now)) }
 {
     match root {
         Root::Value { level, expression } => {
@@ -141,9 +147,11 @@ struct Assignment<'a> {
 
 /// Writes the code of an assignment's derivation.
 #[tactic(auto, using(crate::proofs::Written::assignment_writes))]
-fn assign(w: &mut Writer, d: &Derivation, of: Assignment, place: Place) -> Result<(), Memory>
-    ensures { OnOk result (Writes w.old w.new (root_code_by (Assign place.level (exp of.entry.value.now) (exp of.entry.address.now))
-        (tree d.now) place.target w.old.next) (root_labels_by (Assign place.level (exp of.entry.value.now) (exp of.entry.address.now)) (tree d.now))) }
+fn assign(w: &mut Writer, d: &Derivation, of: Assignment, place: Place) -> Result<(), CodeFault>
+    ensures { WritesOrLacks result w.old w.new
+        (root_code_by (Assign place.level (exp of.entry.value.now) (exp of.entry.address.now)) (tree d.now) place.target w.old.next)
+        (root_labels_by (Assign place.level (exp of.entry.value.now) (exp of.entry.address.now)) (tree d.now))
+        (cells_of_root (Assign place.level (exp of.entry.value.now) (exp of.entry.address.now))) }
 {
     let to = To {
         rule: d.rule,
@@ -168,10 +176,11 @@ struct To<'a> {
 
 /// Writes the code of an assignment's rule over its parts.
 #[tactic(auto, using(crate::proofs::Written::nothing))]
-fn write_sides(w: &mut Writer, trees: &[Derivation], to: To, of: Parts) -> Result<(), Memory>
-    ensures { OnOk result (Writes w.old w.new
+fn write_sides(w: &mut Writer, trees: &[Derivation], to: To, of: Parts) -> Result<(), CodeFault>
+    ensures { WritesOrLacks result w.old w.new
         (code_of_sides to.entry.rule (exp to.entry.address.now) (parts of.entry)
-        (derivations trees.now) to.entry.place.level to.entry.place.target w.old.next) (labels_of_sides (parts of.entry) (derivations trees.now))) }
+        (derivations trees.now) to.entry.place.level to.entry.place.target w.old.next)
+        (labels_of_sides (parts of.entry) (derivations trees.now)) (cells_of_sides (parts of.entry) to.entry.place.level) }
 {
     match of {
         Parts::Single(a) => one_side(w, trees, to, a),
@@ -180,11 +189,13 @@ fn write_sides(w: &mut Writer, trees: &[Derivation], to: To, of: Parts) -> Resul
     }
 }
 
-#[tactic(auto, using(crate::proofs::Written::side_writes, crate::proofs::Written::side_writes_not))]
-fn one_side(w: &mut Writer, trees: &[Derivation], to: To, a: Part) -> Result<(), Memory>
-    ensures { OnOk result (Writes w.old w.new (code_of_sides to.entry.rule (exp to.entry.address.now) (single_of a.entry.aim (exp a.entry.of.now))
+#[tactic(auto, using(crate::proofs::Written::side_writes, crate::proofs::Counts::one_side_labels))]
+fn one_side(w: &mut Writer, trees: &[Derivation], to: To, a: Part) -> Result<(), CodeFault>
+    ensures { WritesOrLacks result w.old w.new
+        (code_of_sides to.entry.rule (exp to.entry.address.now) (single_of a.entry.aim (exp a.entry.of.now))
         (derivations trees.now) to.entry.place.level to.entry.place.target w.old.next)
-        (labels_of_sides (single_of a.entry.aim (exp a.entry.of.now)) (derivations trees.now))) }
+        (labels_of_sides (single_of a.entry.aim (exp a.entry.of.now)) (derivations trees.now))
+        (cells_of_sides (single_of a.entry.aim (exp a.entry.of.now)) to.entry.place.level) }
 {
     if trees.len() != 1 {
         return Ok(());
@@ -194,12 +205,13 @@ fn one_side(w: &mut Writer, trees: &[Derivation], to: To, a: Part) -> Result<(),
     Ok(())
 }
 
-#[tactic(auto, using(crate::proofs::Written::sides_write, crate::proofs::Written::sides_write_not))]
-fn two_sides(w: &mut Writer, trees: &[Derivation], to: To, of: Sides) -> Result<(), Memory>
-    ensures { OnOk result (Writes w.old w.new
+#[tactic(auto, using(crate::proofs::Written::sides_write, crate::proofs::Counts::two_sides_labels))]
+fn two_sides(w: &mut Writer, trees: &[Derivation], to: To, of: Sides) -> Result<(), CodeFault>
+    ensures { WritesOrLacks result w.old w.new
         (code_of_sides to.entry.rule (exp to.entry.address.now) (pair_of of.entry.a.aim (exp of.entry.a.of.now) of.entry.b.aim (exp of.entry.b.of.now))
         (derivations trees.now) to.entry.place.level to.entry.place.target w.old.next)
-        (labels_of_sides (pair_of of.entry.a.aim (exp of.entry.a.of.now) of.entry.b.aim (exp of.entry.b.of.now)) (derivations trees.now))) }
+        (labels_of_sides (pair_of of.entry.a.aim (exp of.entry.a.of.now) of.entry.b.aim (exp of.entry.b.of.now)) (derivations trees.now))
+        (cells_of_sides (pair_of of.entry.a.aim (exp of.entry.a.of.now) of.entry.b.aim (exp of.entry.b.of.now)) to.entry.place.level) }
 {
     if trees.len() != 2 {
         return Ok(());

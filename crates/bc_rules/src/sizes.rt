@@ -1,4 +1,4 @@
-ghost use Rattle.std.specs.Prelude.{◌≡◌, ◌<◌, ◌^◌, length};
+ghost use Rattle.std.specs.Prelude.{◌≡◌};
 ghost use Rattle.bc_text_items.specs.Sizes.{size};
 ghost use Rattle.bc_rules_defs.specs.Piece.{words as words_of};
 ghost use Rattle.bc_rules.specs.Words.{added_words, half_left};
@@ -43,11 +43,8 @@ fn leaves_half(half: bool, piece: &Piece) -> bool
 
 /// The words that pieces of code take: an operation one, or two in the long form; data one;
 /// neighbouring bytes share a word in pairs; labels, settings of globals and bodies take none.
-///
-/// Fewer than 2^62 pieces may be handed in.
 #[tactic(auto, using(crate::proofs::Bytes::words_next, crate::proofs::Bytes::added_small))]
 pub fn words(pieces: &[Piece]) -> u64
-    requires { length pieces.now < 2 ^ 62 }
     ensures { result ≡ words_of pieces.now }
 {
     let mut total = 0;

@@ -1,10 +1,11 @@
-ghost use Rattle.std.specs.Prelude.{◌≡◌, [], ◌∷◌, ◌++◌, ◌+◌, true, false, IfOk, OnOk};
+ghost use Rattle.std.specs.Prelude.{◌≡◌, [], ◌∷◌, ◌++◌, ◌+◌, true, false, OnOk};
 ghost use Rattle.bc_text_items.specs.declared.item.Item.TheVariants.{Operation};
 ghost use Rattle.bc_rules_defs.specs.Piece.{on, X, jump_if as jump_if_of, label as label_of};
 ghost use Rattle.bc_rules_defs.specs.declared.piece.Piece.TheVariants.{Item as item};
 ghost use Rattle.bc_text_items.specs.declared.item.Base.TheVariants.{P};
-ghost use Rattle.bc_rules.specs.Adds.{Adds, Takes};
+ghost use Rattle.bc_rules.specs.Adds.{Adds, Takes, OkOrLacks};
 
+use crate::code_fault::CodeFault;
 use bc_core::Operand;
 use bc_rules_defs::Piece;
 use bc_text_items::{Base, Function, Item};
@@ -21,32 +22,32 @@ fn push(pieces: &mut Vec<Piece>, piece: Piece) -> Result<(), Memory>
     Ok(())
 }
 
-/// A number as a word; `Memory` where it is over 65,535.
-pub fn as_word(n: u32) -> Result<u16, Memory>
-    ensures { IfOk result (λ word. word ≡ n) }
+/// A number as a word; `NoRoom` where it is over 65,535.
+pub fn as_word(n: u32) -> Result<u16, CodeFault>
+    ensures { OkOrLacks result (λ word. word ≡ n) (n + 1) }
 {
     if n < 65_536 {
         Ok(n as u16)
     } else {
-        Err(Memory)
+        Err(CodeFault::NoRoom)
     }
 }
 
-/// So much more than a number; `Memory` where that is over 65,536.
-pub fn more(n: u32, by: u32) -> Result<u32, Memory>
-    ensures { IfOk result (λ sum. sum ≡ n + by) }
+/// So much more than a number; `NoRoom` where that is over 65,536.
+pub fn more(n: u32, by: u32) -> Result<u32, CodeFault>
+    ensures { OkOrLacks result (λ sum. sum ≡ n + by) (n + by) }
 {
     let sum = n as u64 + by as u64;
     if sum <= 65_536 {
         Ok(sum as u32)
     } else {
-        Err(Memory)
+        Err(CodeFault::NoRoom)
     }
 }
 
 /// Code as it is written, and the next free label.
 ///
-/// What would be an offset or a label over 65,535 is answered by `Memory`.
+/// What would be an offset or a label over 65,535 is answered by `NoRoom`.
 #[derive(Drop)]
 pub struct Writer {
     pub pieces: Vec<Piece>,
@@ -54,7 +55,7 @@ pub struct Writer {
 }
 
 impl Writer {
-    ghost use Rattle.bc_rules.specs.Adds.{Adds, Takes};
+    ghost use Rattle.bc_rules.specs.Adds.{Adds, Takes, OkOrLacks};
 
     /// No code yet, with the labels from this one on.
     pub fn new(alloc: Global, first: u16) -> Writer
@@ -68,8 +69,8 @@ impl Writer {
     }
 
     /// Takes so many labels, and gives the first of them.
-    pub fn take(&mut self, count: u32) -> Result<u32, Memory>
-        ensures first { IfOk result (λ first. first ≡ self.old.next) }
+    pub fn take(&mut self, count: u32) -> Result<u32, CodeFault>
+        ensures first { OkOrLacks result (λ first. first ≡ self.old.next) (self.old.next + count) }
         ensures takes { OnOk result (Takes self.old self.new count) }
     {
         let first = self.next;
@@ -96,16 +97,16 @@ impl Writer {
     }
 
     /// An operation on the frame's cell at an offset, or with `indirect` on that which it holds.
-    pub fn cell(&mut self, function: Function, indirect: bool, offset: u32) -> Result<(), Memory>
-        ensures { OnOk result (Adds self.old self.new (item (Operation function indirect P offset) ∷ [])) }
+    pub fn cell(&mut self, function: Function, indirect: bool, offset: u32) -> Result<(), CodeFault>
+        ensures { OkOrLacks result (λ _. Adds self.old self.new (item (Operation function indirect P offset) ∷ [])) (offset + 1) }
     {
         let number = Word::new(as_word(offset)?);
-        self.add(Piece::Item(Item::Operation {
+        Ok(self.add(Piece::Item(Item::Operation {
             function,
             indirect,
             base: Base::P,
             number,
-        }))
+        }))?)
     }
 
     /// An operation with a number.
@@ -151,10 +152,10 @@ impl Writer {
     }
 
     /// A label.
-    pub fn label(&mut self, n: u32) -> Result<(), Memory>
-        ensures { OnOk result (Adds self.old self.new (label_of n ∷ [])) }
+    pub fn label(&mut self, n: u32) -> Result<(), CodeFault>
+        ensures { OkOrLacks result (λ _. Adds self.old self.new (label_of n ∷ [])) (n + 1) }
     {
         let number = Word::new(as_word(n)?);
-        self.add(Piece::Item(Item::Label(number)))
+        Ok(self.add(Piece::Item(Item::Label(number)))?)
     }
 }

@@ -1,22 +1,24 @@
 //! The code of a derivation, rule by rule.
 
-ghost use Rattle.std.specs.Prelude.{◌≡◌, IfOk, OnOk};
+ghost use Rattle.std.specs.Prelude.{◌≡◌, ◌+◌};
 ghost use Rattle.bc_core.specs.View.{exp, args};
 ghost use Rattle.bc_rules_defs.specs.View.{derivation, derivations};
-ghost use Rattle.bc_rules_defs.specs.Parts.{leaf as leaf_of, single as single_of, pair as pair_of, triple as triple_of, called};
-ghost use Rattle.bc_rules_defs.specs.ByShape.{part_level as part_level_of, first_target as first_target_of, labels_by, labels_of_parts, code_by, code_of_parts};
+ghost use Rattle.bc_rules_defs.specs.Parts.{leaf as leaf_of, single as single_of, pair as pair_of, triple as triple_of, called, parts_of as parts_by};
+ghost use Rattle.bc_rules_defs.specs.ByShape.{own_labels as own_labels_of, part_level as part_level_of, first_target as first_target_of, labels_by, labels_of_parts, code_by, code_of_parts};
 ghost use Rattle.bc_rules.specs.View.{parts};
-ghost use Rattle.bc_rules.specs.Adds.{Writes};
+ghost use Rattle.bc_rules.specs.Levels.{cells, held_cells, cells_of_parts};
+ghost use Rattle.bc_rules.specs.Adds.{OkOrLacks, WritesOrLacks};
 
 use crate::applying::parts_of;
 use crate::behind::{behind_pair, behind_single, between, leaf};
+use crate::code_fault::CodeFault;
 use crate::counting::own_labels;
 use crate::parts::{Part, Parts};
 use crate::writer::{Writer, as_word, more};
 use bc_core::CoreExp;
 use bc_rules_defs::{Aim, Derivation, Mode, Rule};
 use bc_text_items::Function;
-use bc_word::{Memory, Word};
+use bc_word::Word;
 
 /// Where the code of a part stands: its level, and the label that it jumps to.
 #[derive(Clone, Copy)]
@@ -26,8 +28,8 @@ pub struct Place {
 }
 
 /// The level of a rule's only part.
-fn part_level(rule: Rule, level: u32) -> Result<u32, Memory>
-    ensures { IfOk result (λ it. it ≡ part_level_of rule level) }
+fn part_level(rule: Rule, level: u32) -> Result<u32, CodeFault>
+    ensures { OkOrLacks result (λ it. it ≡ part_level_of rule level) (held_cells rule level) }
 {
     match rule {
         Rule::V0 | Rule::V2 | Rule::V3 | Rule::V4 | Rule::J1 | Rule::J6 => Ok(level),
@@ -36,8 +38,8 @@ fn part_level(rule: Rule, level: u32) -> Result<u32, Memory>
 }
 
 /// The label that the first of two parts jumps to.
-fn first_target(rule: Rule, target: u16, first: u32) -> Result<u16, Memory>
-    ensures { IfOk result (λ it. it ≡ first_target_of rule target first) }
+fn first_target(rule: Rule, target: u16, first: u32) -> Result<u16, CodeFault>
+    ensures { OkOrLacks result (λ it. it ≡ first_target_of rule target first) (first + own_labels_of rule) }
 {
     match rule {
         Rule::J3 | Rule::J5 => as_word(first),
@@ -80,9 +82,10 @@ struct CallOf<'a> {
 /// Writes the code of a derivation.
 #[cycle(writing)]
 #[tactic(auto, using(crate::proofs::Written::tree_writes))]
-pub fn write(w: &mut Writer, d: &Derivation, part: Part, place: Place) -> Result<(), Memory>
-    ensures { OnOk result (Writes w.old w.new (code_by (derivation d.now) part.entry.aim (exp part.entry.of.now) place.level place.target w.old.next)
-        (labels_by (derivation d.now) part.entry.aim (exp part.entry.of.now))) }
+pub fn write(w: &mut Writer, d: &Derivation, part: Part, place: Place) -> Result<(), CodeFault>
+    ensures { WritesOrLacks result w.old w.new
+        (code_by (derivation d.now) part.entry.aim (exp part.entry.of.now) place.level place.target w.old.next)
+        (labels_by (derivation d.now) part.entry.aim (exp part.entry.of.now)) (cells (exp part.entry.of.now) place.level) }
 {
     let node = Node {
         rule: d.rule,
@@ -97,9 +100,12 @@ pub fn write(w: &mut Writer, d: &Derivation, part: Part, place: Place) -> Result
 /// Writes the code of a rule over its parts.
 #[cycle(writing)]
 #[tactic(auto, using(crate::proofs::Written::none_writes))]
-fn write_parts(w: &mut Writer, trees: &[Derivation], node: Node, of: Parts) -> Result<(), Memory>
-    ensures { OnOk result (Writes w.old w.new (code_of_parts node.entry.rule node.entry.aim (exp node.entry.of.now) (parts of.entry)
-        (derivations trees.now) node.entry.level node.entry.target w.old.next) (labels_of_parts node.entry.rule (parts of.entry) (derivations trees.now))) }
+fn write_parts(w: &mut Writer, trees: &[Derivation], node: Node, of: Parts) -> Result<(), CodeFault>
+    requires { parts of ≡ parts_by node.rule node.aim (exp node.of.now) }
+    ensures { WritesOrLacks result w.old w.new
+        (code_of_parts node.entry.rule node.entry.aim (exp node.entry.of.now) (parts of.entry)
+        (derivations trees.now) node.entry.level node.entry.target w.old.next)
+        (labels_of_parts node.entry.rule (parts of.entry) (derivations trees.now)) (cells_of_parts node.entry.rule (parts of.entry) node.entry.level) }
 {
     match of {
         Parts::NoRule => Ok(()),
@@ -111,10 +117,13 @@ fn write_parts(w: &mut Writer, trees: &[Derivation], node: Node, of: Parts) -> R
     }
 }
 
-#[tactic(auto, using(crate::proofs::Written::leaf_writes, crate::proofs::Written::leaf_writes_not))]
-fn no_parts(w: &mut Writer, trees: &[Derivation], node: Node, valof: bool) -> Result<(), Memory>
-    ensures { OnOk result (Writes w.old w.new (code_of_parts node.entry.rule node.entry.aim (exp node.entry.of.now) (leaf_of valof)
-        (derivations trees.now) node.entry.level node.entry.target w.old.next) (labels_of_parts node.entry.rule (leaf_of valof) (derivations trees.now))) }
+#[tactic(auto, using(crate::proofs::Written::leaf_writes, crate::proofs::Counts::leaf_labels))]
+fn no_parts(w: &mut Writer, trees: &[Derivation], node: Node, valof: bool) -> Result<(), CodeFault>
+    requires { leaf_of valof ≡ parts_by node.rule node.aim (exp node.of.now) }
+    ensures { WritesOrLacks result w.old w.new
+        (code_of_parts node.entry.rule node.entry.aim (exp node.entry.of.now) (leaf_of valof)
+        (derivations trees.now) node.entry.level node.entry.target w.old.next)
+        (labels_of_parts node.entry.rule (leaf_of valof) (derivations trees.now)) 0 }
 {
     if !trees.is_empty() {
         return Ok(());
@@ -129,12 +138,13 @@ fn no_parts(w: &mut Writer, trees: &[Derivation], node: Node, valof: bool) -> Re
 }
 
 #[cycle(writing)]
-#[tactic(auto, using(crate::proofs::Written::single_writes, crate::proofs::Written::single_writes_not))]
-fn one_part(w: &mut Writer, trees: &[Derivation], node: Node, a: Part) -> Result<(), Memory>
-    ensures { OnOk result (Writes w.old w.new
+#[tactic(auto, using(crate::proofs::Counts::one_labels))]
+fn one_part(w: &mut Writer, trees: &[Derivation], node: Node, a: Part) -> Result<(), CodeFault>
+    ensures { WritesOrLacks result w.old w.new
         (code_of_parts node.entry.rule node.entry.aim (exp node.entry.of.now) (single_of a.entry.aim (exp a.entry.of.now))
         (derivations trees.now) node.entry.level node.entry.target w.old.next)
-        (labels_of_parts node.entry.rule (single_of a.entry.aim (exp a.entry.of.now)) (derivations trees.now))) }
+        (labels_of_parts node.entry.rule (single_of a.entry.aim (exp a.entry.of.now)) (derivations trees.now))
+        (cells_of_parts node.entry.rule (single_of a.entry.aim (exp a.entry.of.now)) node.entry.level) }
 {
     if trees.len() != 1 {
         return Ok(());
@@ -158,13 +168,14 @@ fn one_part(w: &mut Writer, trees: &[Derivation], node: Node, a: Part) -> Result
 }
 
 #[cycle(writing)]
-#[tactic(auto, using(crate::proofs::Written::pair_writes, crate::proofs::Written::pair_writes_not))]
-fn two_parts(w: &mut Writer, trees: &[Derivation], node: Node, of: Sides) -> Result<(), Memory>
-    ensures { OnOk result (Writes w.old w.new
+#[tactic(auto, using(crate::proofs::Counts::two_own, crate::proofs::Counts::two_labels))]
+fn two_parts(w: &mut Writer, trees: &[Derivation], node: Node, of: Sides) -> Result<(), CodeFault>
+    ensures { WritesOrLacks result w.old w.new
         (code_of_parts node.entry.rule node.entry.aim (exp node.entry.of.now)
         (pair_of of.entry.a.aim (exp of.entry.a.of.now) of.entry.b.aim (exp of.entry.b.of.now))
         (derivations trees.now) node.entry.level node.entry.target w.old.next)
-        (labels_of_parts node.entry.rule (pair_of of.entry.a.aim (exp of.entry.a.of.now) of.entry.b.aim (exp of.entry.b.of.now)) (derivations trees.now))) }
+        (labels_of_parts node.entry.rule (pair_of of.entry.a.aim (exp of.entry.a.of.now) of.entry.b.aim (exp of.entry.b.of.now)) (derivations trees.now))
+        (cells_of_parts node.entry.rule (pair_of of.entry.a.aim (exp of.entry.a.of.now) of.entry.b.aim (exp of.entry.b.of.now)) node.entry.level) }
 {
     if trees.len() != 2 {
         return Ok(());
@@ -188,14 +199,16 @@ fn two_parts(w: &mut Writer, trees: &[Derivation], node: Node, of: Sides) -> Res
 }
 
 #[cycle(writing)]
-#[tactic(auto, using(crate::proofs::Written::triple_writes, crate::proofs::Written::triple_writes_not))]
-fn three_parts(w: &mut Writer, trees: &[Derivation], node: Node, of: Three) -> Result<(), Memory>
-    ensures { OnOk result (Writes w.old w.new
+#[tactic(auto, using(crate::proofs::Counts::three_own, crate::proofs::Counts::three_labels))]
+fn three_parts(w: &mut Writer, trees: &[Derivation], node: Node, of: Three) -> Result<(), CodeFault>
+    ensures { WritesOrLacks result w.old w.new
         (code_of_parts node.entry.rule node.entry.aim (exp node.entry.of.now)
         (triple_of of.entry.a.aim (exp of.entry.a.of.now) of.entry.b.aim (exp of.entry.b.of.now) of.entry.c.aim (exp of.entry.c.of.now))
         (derivations trees.now) node.entry.level node.entry.target w.old.next)
         (labels_of_parts node.entry.rule (triple_of of.entry.a.aim (exp of.entry.a.of.now) of.entry.b.aim (exp of.entry.b.of.now) of.entry.c.aim
-        (exp of.entry.c.of.now)) (derivations trees.now))) }
+        (exp of.entry.c.of.now)) (derivations trees.now))
+        (cells_of_parts node.entry.rule (triple_of of.entry.a.aim (exp of.entry.a.of.now) of.entry.b.aim (exp of.entry.b.of.now) of.entry.c.aim
+        (exp of.entry.c.of.now)) node.entry.level) }
 {
     if trees.len() != 3 {
         return Ok(());
@@ -218,11 +231,13 @@ fn three_parts(w: &mut Writer, trees: &[Derivation], node: Node, of: Three) -> R
 }
 
 #[cycle(writing)]
-fn call(w: &mut Writer, trees: &[Derivation], node: Node, of: CallOf) -> Result<(), Memory>
-    ensures { OnOk result (Writes w.old w.new
+#[tactic(auto, using(crate::proofs::Counts::count_args, crate::proofs::Counts::call_labels_next, crate::proofs::Counts::call_labels_last, crate::proofs::Counts::argument_cells))]
+fn call(w: &mut Writer, trees: &[Derivation], node: Node, of: CallOf) -> Result<(), CodeFault>
+    ensures { WritesOrLacks result w.old w.new
         (code_of_parts node.entry.rule node.entry.aim (exp node.entry.of.now) (called 0 (args of.entry.arguments.now) (exp of.entry.routine.now))
         (derivations trees.now) node.entry.level node.entry.target w.old.next)
-        (labels_of_parts node.entry.rule (called 0 (args of.entry.arguments.now) (exp of.entry.routine.now)) (derivations trees.now))) }
+        (labels_of_parts node.entry.rule (called 0 (args of.entry.arguments.now) (exp of.entry.routine.now)) (derivations trees.now))
+        (cells_of_parts node.entry.rule (called 0 (args of.entry.arguments.now) (exp of.entry.routine.now)) node.entry.level) }
 {
     let aim = Aim::Gets(Mode::Any);
     let mut level = more(node.level, 2)?;

@@ -174,26 +174,43 @@ pub fn with_hints<T: Drop, F: Files>(
 }
 
 /// What is said of a text without its number of instructions: what it looks like, or how the number is given.
-fn said_of_steps<F: Files>(rt: &F, alloc: Global, path: &str) -> Result<String, Memory> {
+fn said_of_steps<F: Files>(rt: &F, alloc: Global, path: &str) -> Result<Option<String>, Memory> {
     match hint_of(rt, alloc, Wanted::Text, path) {
-        Some(said) => Ok(said),
-        None => Ok(format!(in alloc;
+        Some(said) => Ok(Some(said)),
+        None => Ok(Some(format!(in alloc;
             "--steps N is the most instructions that the run may take, as in `bcpl run --steps 1000000 {path}`"
-        )?),
+        )?)),
     }
 }
 
 /// What is said of a source without the file that its text goes to: what it looks like, or how the file is given.
-fn said_of_out<F: Files>(rt: &F, alloc: Global, path: &str) -> Result<String, Memory> {
+fn said_of_out<F: Files>(rt: &F, alloc: Global, path: &str) -> Result<Option<String>, Memory> {
     match hint_of(rt, alloc, Wanted::Source, path) {
-        Some(said) => Ok(said),
+        Some(said) => Ok(Some(said)),
         None => {
             let bare = bare(path);
-            Ok(format!(in alloc;
+            Ok(Some(format!(in alloc;
                 "--out OUT is the file that the text goes to, as in `bcpl build --out {bare}.int {path}`"
-            )?)
+            )?))
         }
     }
+}
+
+/// What is said of a text that stands where --out and the text are to.
+fn said_of_text(alloc: Global, text: &str, source: &str) -> Result<Option<String>, Memory> {
+    Ok(Some(format!(in alloc;
+        "the text goes to the file behind --out, as in `bcpl build --out {text} {source}`"
+    )?))
+}
+
+/// What is said of an option whose number is none.
+fn said_of_digits(alloc: Global, option: &str) -> Result<Option<String>, Memory> {
+    Ok(Some(format!(in alloc; "{option} takes a number in digits alone, as in `{option} 10000`")?))
+}
+
+/// What is said of an option with one dash.
+fn said_of_dash(alloc: Global, word: &str) -> Result<Option<String>, Memory> {
+    Ok(Some(format!(in alloc; "an option has two dashes: -{word}")?))
 }
 
 /// What is said of what words lack.
@@ -204,8 +221,11 @@ fn said_of_guess<F: Files>(
 ) -> Result<Option<String>, Memory> {
     match guess {
         Guess::Command(path) => Ok(hint_of(rt, alloc, Wanted::Command, path)),
-        Guess::Steps(path) => Ok(Some(said_of_steps(rt, alloc, path)?)),
-        Guess::Out(path) => Ok(Some(said_of_out(rt, alloc, path)?)),
+        Guess::Steps(path) => said_of_steps(rt, alloc, path),
+        Guess::Out(path) => said_of_out(rt, alloc, path),
+        Guess::OutOf { text, source } => said_of_text(alloc, text, source),
+        Guess::Digits(option) => said_of_digits(alloc, option),
+        Guess::Dash(word) => said_of_dash(alloc, word),
     }
 }
 

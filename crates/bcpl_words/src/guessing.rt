@@ -12,7 +12,19 @@ pub enum Guess<'a> {
     Steps(&'a str),
     /// `--out`, behind `build` and with this source.
     Out(&'a str),
+    /// `--out` in front of this text, which stands behind a source.
+    OutOf { text: &'a str, source: &'a str },
+    /// A number in digits behind this option.
+    Digits(&'a str),
+    /// A second dash in front of this option.
+    Dash(&'a str),
 }
+
+/// The options that take a number.
+const NUMBERED: [&str; 4] = ["--steps", "--turns", "--from", "--count"];
+
+/// What the name of a source ends in.
+const SOURCE: &str = ".bcpl";
 
 /// Whether an option stands among the words that begins so.
 fn has_option(words: &[&str], option: &str) -> bool {
@@ -27,6 +39,62 @@ fn last_file<'a>(words: &[&'a str]) -> Option<&'a str> {
     }
 }
 
+/// The word in front of the last one, if it is a source's name and the last one is no source's.
+fn source_before<'a>(words: &[&'a str], last: &str) -> Option<&'a str> {
+    let (_, front) = words.split_last()?;
+    match front.last() {
+        Some(word) if word.ends_with(SOURCE) && !last.ends_with(SOURCE) => Some(word),
+        _ => None,
+    }
+}
+
+/// What a `build` of this last file lacks, which has no `--out`.
+fn out_for<'a>(words: &[&'a str], file: &'a str) -> Guess<'a> {
+    match source_before(words, file) {
+        Some(source) => Guess::OutOf { text: file, source },
+        None => Guess::Out(file),
+    }
+}
+
+/// What these words lack, behind which something must stand.
+fn lacking<'a>(words: &[&'a str], first: &str) -> Option<Guess<'a>> {
+    let file = last_file(words)?;
+    match first {
+        "run" if !has_option(words, "--steps") => Some(Guess::Steps(file)),
+        "build" if !has_option(words, "--out") && !has_option(words, "-o") => {
+            Some(out_for(words, file))
+        }
+        _ => None,
+    }
+}
+
+/// Whether a word is of digits alone.
+fn is_of_digits(word: &str) -> bool {
+    !word.is_empty() && word.bytes().all(|byte| byte.is_ascii_digit())
+}
+
+/// The option behind which the first word stands that should be a number and has more than digits.
+fn unnumbered<'a>(words: &[&'a str]) -> Option<&'a str> {
+    let mut before = "";
+    for word in words {
+        if NUMBERED.contains(&before) && !is_of_digits(word) {
+            return Some(before);
+        }
+        before = word;
+    }
+    None
+}
+
+/// The first word that has one dash and more than one letter, as an option with two dashes has.
+fn with_one_dash<'a>(words: &[&'a str]) -> Option<&'a str> {
+    for word in words {
+        if word.len() > 2 && word.starts_with('-') && !word.starts_with("--") {
+            return Some(word);
+        }
+    }
+    None
+}
+
 /// What these words lack, which ask for nothing since they are bad in this way; none where that can't be guessed.
 pub fn guess_of<'a>(words: &[&'a str], bad: &BadWords<'_>) -> Option<Guess<'a>> {
     let kind = match bad {
@@ -34,18 +102,11 @@ pub fn guess_of<'a>(words: &[&'a str], bad: &BadWords<'_>) -> Option<Guess<'a>> 
         BadWords::Option { .. } | BadWords::Memory => return None,
     };
     let first = words.first()?;
-    if kind == ErrorKind::InvalidSubcommand {
-        return Some(Guess::Command(first));
-    }
-    if kind != ErrorKind::MissingRequiredArgument {
-        return None;
-    }
-    let file = last_file(words)?;
-    match *first {
-        "run" if !has_option(words, "--steps") => Some(Guess::Steps(file)),
-        "build" if !has_option(words, "--out") && !has_option(words, "-o") => {
-            Some(Guess::Out(file))
-        }
+    match kind {
+        ErrorKind::InvalidSubcommand => Some(Guess::Command(first)),
+        ErrorKind::MissingRequiredArgument => lacking(words, first),
+        ErrorKind::ValueValidation => unnumbered(words).map(Guess::Digits),
+        ErrorKind::UnknownArgument => with_one_dash(words).map(Guess::Dash),
         _ => None,
     }
 }

@@ -17,14 +17,14 @@ returns c =
     on_ok c.code_line.result (λ h.
     let e = entry c.args.entry.now in
     let pieces = c.args.workings.now.code.items in
-    let n : c.in_ok-words.words ≡ words pieces = c.in_ok-words.ensures ∙ ap words c.as_slice-code.ensures.value in
+    let n : c.words-words.result ≡ words pieces = c.words-words.ensures ∙ ap words c.as_slice-code.ensures.value in
     let t3 = c.root_line.new.text.bytes.items in
     let k : c.code_line.new.text.bytes.items ≡ t3 ++ code_line pieces c.args.entry.now.bodies.items =
     h ∙ ap (λ p. t3 ++ code_line p c.as_slice.result.now) c.as_slice-code.ensures.value ∙ ap (λ b. t3 ++ code_line pieces b) c.as_slice.ensures.value in
     record {
       exact = λ d same.
           ∥∥₁_elim c.requires (Coded-set (coded_list coded_ℕ) _ _) (λ w.
-          (text_of_entry e pieces c.in_ok-words.words _ c.entry_line.new.text.bytes.items c.root_nodes.new.text.bytes.items t3 c.code_line.new.text.bytes.items
+          (text_of_entry e pieces c.words-words.result _ c.entry_line.new.text.bytes.items c.root_nodes.new.text.bytes.items t3 c.code_line.new.text.bytes.items
           w.code n c.clear.ensures c.in_ok-entry_line.ensures c.in_ok-root_nodes.ensures c.in_ok-root_line.ensures k).exact d same);
     }) c.code_line.ensures
 

@@ -9,7 +9,7 @@ use Rattle.bc_cert_write.proofs.walk.+walking.Given as goal
 abbrev pub invariant-all-loop-i : goal.invariant-all-loop-i
 invariant-all-loop-i l = record {
   so_far : l.marks.items ++ all_with mark (args (drop l.i l.arguments)) (l.level + l.i) (derivations (drop l.i l.trees)) ≡ l.fn.marks.items ++ all_with mark (args l.arguments) l.level (derivations l.trees);
-  room : l.level + l.i + 2 * nodes_of_args (args (drop l.i l.arguments)) ≤ 2 ^ 40;
+  room : l.level + l.i + 2 * nodes_of_args (args (drop l.i l.arguments)) ≤ 2 ^ 62;
   fewer : nodes_of_args (args (drop l.i l.arguments)) ≤ nodes_of_args (args l.arguments);
 }
 

@@ -7,6 +7,7 @@ use Rattle.bc_gen.specs.Parts.{parts}
 use Rattle.bc_gen.specs.Surroundings.{roots_in}
 use Rattle.bc_gen.proofs.Forms.{there}
 use Rattle.bc_gen.proofs.Outs.{refused}
+use Rattle.bc_gen.proofs.Room.{routines_have_room, settings_have_room, strings_have_room}
 use Rattle.bc_gen.proofs.Whole.{routines_are, items_are, places_up, routines_end}
 use Rattle.bc_gen.proofs.generation.generate.Goals as goal
 
@@ -36,3 +37,13 @@ returns-in_err-routines-clause-refused c =
     (routines_code coding (section c.args.core.now)).1 c.from_residual-in_err-routines.ensures.1 c.in_err-routines.ensures
     (routines_end c.args.core.now c.places-places.result.now c.valofs.result.now c.body-around.result 1 c.take.new.self.next
     c.places-places.ensures.places c.valofs.ensures.valofs refl c.in_ok-take.ensures.taken.1 c.body-around.ensures.roots)
+
+pub routines-requires-clause-room : goal.routines-requires-clause-room
+routines-requires-clause-room c =
+    rw (c.places-places.ensures.places, c.body-around.ensures.least, c.body-around.ensures.valofs, c.valofs.ensures.valofs) (routines_have_room (section c.args.core.now) c.places-places.ensures.fits)
+
+pub put_data-requires-clause-room : goal.put_data-requires-clause-room
+put_data-requires-clause-room c = rw c.places-places.ensures.places (strings_have_room (section c.args.core.now) c.places-places.ensures.fits)
+
+pub put_settings-requires-clause-room : goal.put_settings-requires-clause-room
+put_settings-requires-clause-room c = rw c.places-places.ensures.places (settings_have_room (section c.args.core.now) c.places-places.ensures.fits)

@@ -15,17 +15,20 @@ use Rattle.bc_gen.specs.declared.mark.Mark.{Mark}
 use Rattle.bc_gen.specs.declared.parts.Part.{Part}
 use Rattle.bc_gen.specs.declared.parts.Part.TheVariants as variants
 use Rattle.bc_gen.specs.Parts.{parts, mark}
+use Rattle.bc_gen.specs.Room.{room_in}
 use Rattle.bc_gen.specs.Surroundings.{roots_in, exits_of, valofs_in, bodies_of, label_in, one_piece}
 use Rattle.bc_gen.proofs.Weights.{weight, weight_of_items, weight_of_block, weight_of_valofs, weight_if, weight_test, weight_while, weight_repeat, weight_repeat_while, weight_for, weight_switchon, weight_nested, weight_of_one, weight_of_valof}
-use Rattle.bc_gen.proofs.Forms.{if_writes, test_writes, while_writes, repeat_writes, repeat_while_writes, for_writes, switchon_writes, block_writes, command_writes, writes_nothing, written_is, grown, root_marked, two_taken, three_taken}
-use Rattle.bc_gen.proofs.Turns.{list_turn, declarations_turn, declarations_end, variables_turn, fill_turn}
-use Rattle.bc_gen.proofs.Bodies.{none_before, none_behind, outside, valof_writes}
+use Rattle.bc_gen.proofs.Forms.{if_writes, test_writes, while_writes, repeat_writes, repeat_while_writes, for_writes, switchon_writes, block_writes, command_room, command_writes, writes_nothing, written_is, grown, root_marked, two_taken, three_taken}
+use Rattle.bc_gen.proofs.Turns.{list_turn, entries_turn, item_room, declarations_turn, declaration_room, declarations_end, variables_turn, variable_room, cells_turn, fill_turn}
+use Rattle.bc_gen.proofs.Bodies.{none_before, none_behind, outside, valof_has_room, valof_writes}
 use Rattle.bc_gen.proofs.Outs.{block_declared, block_labelled, bodies_grow, declarations_out, ended, fails, fill_out, for_ended, for_limited, for_started, for_stepped, for_taken, for_tested, grown_on, if_taken, if_tested, less_one, less_two, limited, list_out, repeat_done, repeat_taken, repeat_while_done, repeat_while_half, repeat_while_taken, rising, root_taken, second, second_of_three, started, switchon_done, switchon_taken, switchon_valued, test_done, test_half, test_taken, test_tested, tested, third, valof_out, variables_out, while_done, while_taken, while_tested}
 use Rattle.bc_gen.proofs.Rises.{less}
 use Rattle.bc_gen.proofs.writer.Writer.+commands.Goals as goal
 
 pub command-if_command-requires : goal.command-if_command-requires
-command-if_command-requires t c = let w = ap (λ x. weight (command x)) c.in-If.is ∙ weight_if c.in-If.condition c.in-If.body in (omega (arith, w), tt)
+command-if_command-requires t c =
+    let w = ap (λ x. weight (command x)) c.in-If.is ∙ weight_if c.in-If.condition c.in-If.body in
+    (omega (arith, w), command_room (room_in c.args.around.now) _ _ c.args.level (ap command c.in-If.is ∙ if_view c.in-If.condition c.in-If.body) c.requires)
 
 pub command-returns-in-If : goal.command-returns-in-If
 command-returns-in-If t c =
@@ -33,7 +36,9 @@ command-returns-in-If t c =
     (ap command c.in-If.is ∙ if_view c.in-If.condition c.in-If.body) c.if_command.ensures
 
 pub command-test_command-requires : goal.command-test_command-requires
-command-test_command-requires t c = let w = ap (λ x. weight (command x)) c.in-Test.is ∙ weight_test c.in-Test.test c.in-Test.this c.in-Test.that in (omega (arith, w), tt)
+command-test_command-requires t c =
+    let w = ap (λ x. weight (command x)) c.in-Test.is ∙ weight_test c.in-Test.test c.in-Test.this c.in-Test.that in
+    (omega (arith, w), command_room (room_in c.args.around.now) _ _ c.args.level (ap command c.in-Test.is ∙ test_view c.in-Test.test c.in-Test.this c.in-Test.that) c.requires)
 
 pub command-returns-in-Test : goal.command-returns-in-Test
 command-returns-in-Test t c =
@@ -41,7 +46,9 @@ command-returns-in-Test t c =
     (ap command c.in-Test.is ∙ test_view c.in-Test.test c.in-Test.this c.in-Test.that) c.test_command.ensures
 
 pub command-while_loop-requires : goal.command-while_loop-requires
-command-while_loop-requires t c = let w = ap (λ x. weight (command x)) c.in-While.is ∙ weight_while c.in-While.condition c.in-While.body in (omega (arith, w), tt)
+command-while_loop-requires t c =
+    let w = ap (λ x. weight (command x)) c.in-While.is ∙ weight_while c.in-While.condition c.in-While.body in
+    (omega (arith, w), command_room (room_in c.args.around.now) _ _ c.args.level (ap command c.in-While.is ∙ while_view c.in-While.condition c.in-While.body) c.requires)
 
 pub command-returns-in-While : goal.command-returns-in-While
 command-returns-in-While t c =
@@ -49,7 +56,9 @@ command-returns-in-While t c =
     (ap command c.in-While.is ∙ while_view c.in-While.condition c.in-While.body) c.while_loop.ensures
 
 pub command-repeat-requires : goal.command-repeat-requires
-command-repeat-requires t c = let w = ap (λ x. weight (command x)) c.in-Repeat.is ∙ weight_repeat c.in-Repeat.body in (omega (arith, w), tt)
+command-repeat-requires t c =
+    let w = ap (λ x. weight (command x)) c.in-Repeat.is ∙ weight_repeat c.in-Repeat.body in
+    (omega (arith, w), command_room (room_in c.args.around.now) _ _ c.args.level (ap command c.in-Repeat.is ∙ repeat_view c.in-Repeat.body) c.requires)
 
 pub command-returns-in-Repeat : goal.command-returns-in-Repeat
 command-returns-in-Repeat t c =
@@ -57,7 +66,9 @@ command-returns-in-Repeat t c =
     (ap command c.in-Repeat.is ∙ repeat_view c.in-Repeat.body) c.repeat.ensures
 
 pub command-repeat_while-requires : goal.command-repeat_while-requires
-command-repeat_while-requires t c = let w = ap (λ x. weight (command x)) c.in-RepeatWhile.is ∙ weight_repeat_while c.in-RepeatWhile.body c.in-RepeatWhile.condition in (omega (arith, w), tt)
+command-repeat_while-requires t c =
+    let w = ap (λ x. weight (command x)) c.in-RepeatWhile.is ∙ weight_repeat_while c.in-RepeatWhile.body c.in-RepeatWhile.condition in
+    (omega (arith, w), command_room (room_in c.args.around.now) _ _ c.args.level (ap command c.in-RepeatWhile.is ∙ repeat_while_view c.in-RepeatWhile.body c.in-RepeatWhile.condition) c.requires)
 
 pub command-returns-in-RepeatWhile : goal.command-returns-in-RepeatWhile
 command-returns-in-RepeatWhile t c =
@@ -65,7 +76,9 @@ command-returns-in-RepeatWhile t c =
     (ap command c.in-RepeatWhile.is ∙ repeat_while_view c.in-RepeatWhile.body c.in-RepeatWhile.condition) c.repeat_while.ensures
 
 pub command-for_loop-requires : goal.command-for_loop-requires
-command-for_loop-requires t c = let w = ap (λ x. weight (command x)) c.in-For.is ∙ weight_for c.in-For.start c.in-For.limit c.in-For.by c.in-For.body in (omega (arith, w), tt)
+command-for_loop-requires t c =
+    let w = ap (λ x. weight (command x)) c.in-For.is ∙ weight_for c.in-For.start c.in-For.limit c.in-For.by c.in-For.body in
+    (omega (arith, w), command_room (room_in c.args.around.now) _ _ c.args.level (ap command c.in-For.is ∙ for_view c.in-For.start c.in-For.limit c.in-For.by c.in-For.body) c.requires)
 
 pub command-returns-in-For : goal.command-returns-in-For
 command-returns-in-For t c =
@@ -73,7 +86,9 @@ command-returns-in-For t c =
     (ap command c.in-For.is ∙ for_view c.in-For.start c.in-For.limit c.in-For.by c.in-For.body) c.for_loop.ensures
 
 pub command-block-requires : goal.command-block-requires
-command-block-requires t c = let w = ap (λ x. weight (command x)) c.in-Nested.is ∙ weight_nested c.in-Nested.body in (omega (arith, w), tt)
+command-block-requires t c =
+    let w = ap (λ x. weight (command x)) c.in-Nested.is ∙ weight_nested c.in-Nested.body in
+    (omega (arith, w), command_room (room_in c.args.around.now) _ _ c.args.level (ap command c.in-Nested.is ∙ nested_view c.in-Nested.body) c.requires)
 
 pub command-returns-in-Nested : goal.command-returns-in-Nested
 command-returns-in-Nested t c =
@@ -84,7 +99,7 @@ pub command-switchon-requires : goal.command-switchon-requires
 command-switchon-requires t c =
     let w = ap (λ x. weight (command x)) c.in-SwitchOn.is ∙ weight_switchon c.in-SwitchOn.value c.in-SwitchOn.list in
     let d = ap (λ xs. weight_of_items (items xs)) c.deref.ensures.value in
-    (omega (arith, w, d), tt)
+    (omega (arith, w, d), rw c.deref.ensures.value (command_room (room_in c.args.around.now) _ _ c.args.level (ap command c.in-SwitchOn.is ∙ switchon_view c.in-SwitchOn.value c.in-SwitchOn.list) c.requires))
 
 pub command-returns-in-SwitchOn : goal.command-returns-in-SwitchOn
 command-returns-in-SwitchOn t c =
@@ -95,13 +110,22 @@ pub list-list_item-requires : goal.list-list_item-requires
 list-list_item-requires t c =
     let w = weight_of_one c.args.list.now c.loop-item.item-index c.item-item.result c.loop-item-test.true in
     let e = ap (λ y. weight_of_items (items_before y no_item)) c.item-item.is in
-    (omega (arith, w, e), tt)
+    (omega (arith, w, e), item_room (room_in c.args.around.now) c.args.list.now c.loop-item.item-index c.item-item.result c.args.level c.loop-item-test.true c.item-item.is c.requires.room)
 
 pub list-loop-item-preserved : goal.list-loop-item-preserved
 list-loop-item-preserved t c =
-    list_turn (roots_in c.args.around.now) c.args.level (exits_of c.args.around.now) c.args.list.now c.loop-item.item-index c.item-item.result c.loop-item.entry c.in_ok-entry.entry c.args.self.now c.loop-item.self c.list_item.new.self
+    let e = entries_turn c.args.list.now c.loop-item.item-index c.item-item.result c.loop-item.entry c.loop-item-test.true c.item-item.is in
+    let turned = list_turn (roots_in c.args.around.now) c.args.level (exits_of c.args.around.now) c.args.list.now c.loop-item.item-index c.item-item.result c.loop-item.entry c.entry_behind-entry.result c.args.self.now c.loop-item.self c.list_item.new.self
     (emit_items Plain (roots_in c.args.around.now) (items c.args.list.now) c.args.level (exits_of c.args.around.now) c.args.first c.args.self.now.next)
-    c.loop-item-test.true c.item-item.is c.in_ok-entry.ensures c.in_ok-list_item.ensures c.loop-item.invariant
+    c.loop-item-test.true c.item-item.is c.entry_behind-entry.ensures c.in_ok-list_item.ensures (c.loop-item.invariant.0, c.loop-item.invariant.1) in
+    (turned.0, turned.1, omega (arith, e, c.entry_behind-entry.ensures, c.loop-item.invariant.2))
+
+pub block-list-requires : goal.block-list-requires
+block-list-requires t c =
+    let d = ap (λ xs. weight_of_items (items xs)) c.deref-4.ensures.value in
+    let n = ap (λ xs. entries_in (items xs)) c.deref-4.ensures.value in
+    let k = rw c.deref-2.ensures.value at c.in_ok-inner.ensures.behind in
+    (omega (arith, d), (rw (c.deref-4.ensures.value, k) c.requires.2, omega (arith, n, c.requires.1)))
 
 pub block-returns : goal.block-returns
 block-returns t c =
@@ -152,10 +176,10 @@ pub for_loop-returns : goal.for_loop-returns
 for_loop-returns t c =
     for_writes c.label-3.result (roots_in c.args.around.now) (roots_in c.in_loop.result) (exits_of c.args.around.now) (exits_of c.in_loop.result)
     (exp c.args.start.now) (exp c.args.limit.now) (exp c.in_ok-start.start) (exp c.in_ok-limit.limit) (exp c.in_ok-end.end) (exp c.in_ok-step.step) c.args.by (block_of c.args.body.now)
-    c.args.offset c.in_ok-level.level c.in_ok-behind.field-0 c.in_ok-again.again c.in_ok-past.past c.in_ok-onward.onward
+    c.args.offset (c.args.offset + 2) (c.args.offset + 1) c.in_ok-again.again c.in_ok-past.past c.in_ok-onward.onward
     c.args.self.now c.take.new.self c.take-2.new.self c.take-3.new.self c.set.new.self c.set-2.new.self c.label.new.self c.test.new.self c.block.new.self c.label-2.new.self c.set-3.new.self c.jump.new.self c.label-3.new.self
     c.in_ok-again.ensures.taken c.in_ok-again.ensures.parts c.in_ok-past.ensures.taken c.in_ok-past.ensures.parts c.in_ok-onward.ensures.taken c.in_ok-onward.ensures.parts
-    (ap roots_in c.in_loop.ensures) (ap exits_of c.in_loop.ensures) c.in_ok-level.ensures c.in_ok-behind.ensures c.in_ok-start.ensures c.in_ok-limit.ensures c.in_ok-end.ensures c.in_ok-step.ensures
+    (ap roots_in c.in_loop.ensures) (ap exits_of c.in_loop.ensures) refl refl c.in_ok-start.ensures c.in_ok-limit.ensures c.in_ok-end.ensures c.in_ok-step.ensures
     c.in_ok-set.ensures c.in_ok-set-2.ensures c.in_ok-label.ensures c.in_ok-test.ensures c.in_ok-block.ensures c.in_ok-label-2.ensures c.in_ok-set-3.ensures c.in_ok-jump.ensures c.label-3.ensures
 
 pub switchon-returns : goal.switchon-returns
@@ -172,12 +196,14 @@ switchon-returns t c =
 
 pub declarations-loop-declaration-preserved : goal.declarations-loop-declaration-preserved
 declarations-loop-declaration-preserved t c =
-    let cells = rw c.deref.ensures.value at c.in_ok-cells_of_all.ensures in
+    let cells = rw c.deref.ensures.value at c.cells_of_all.ensures in
     let wrote = rw c.deref-in-loop-declaration.ensures.value at c.in_ok-variables.ensures in
-    declarations_turn (roots_in c.args.around.now) c.args.declarations.now c.loop-declaration.declaration-index c.declaration-item.result c.loop-declaration.level c.in_ok-inner.inner c.in_ok-cells_of_all.field-0
+    let room = declaration_room (room_in c.args.around.now) c.args.declarations.now c.loop-declaration.declaration-index c.declaration-item.result c.loop-declaration.level c.loop-declaration-test.true c.declaration-item.is c.loop-declaration.invariant.3 in
+    let turned = declarations_turn (roots_in c.args.around.now) c.args.declarations.now c.loop-declaration.declaration-index c.declaration-item.result c.loop-declaration.level (c.loop-declaration.level + c.cells_of_all.result) c.cells_of_all.result
     (c.args.level + cells_declared (declarations c.args.declarations.now)) c.args.self.now c.loop-declaration.self c.variables.new.self
     (emit_declarations (roots_in c.args.around.now) (declarations c.args.declarations.now) c.args.level c.args.self.now.next)
-    c.loop-declaration-test.true c.declaration-item.is cells c.in_ok-inner.ensures wrote c.loop-declaration.invariant
+    c.loop-declaration-test.true c.declaration-item.is cells refl wrote (c.loop-declaration.invariant.0, c.loop-declaration.invariant.1, c.loop-declaration.invariant.2) in
+    (turned.0, turned.1, turned.2, rw cells room.2)
 
 pub declarations-returns-clause-behind : goal.declarations-returns-clause-behind
 declarations-returns-clause-behind t c =
@@ -185,9 +211,12 @@ declarations-returns-clause-behind t c =
 
 pub variables-loop-variable-preserved : goal.variables-loop-variable-preserved
 variables-loop-variable-preserved t c =
-    variables_turn (roots_in c.args.around.now) c.args.level c.args.variables.now c.loop-variable.variable-index c.variable-item.result (exp c.in_ok-value.value) c.loop-variable.offset c.in_ok-offset.offset c.in_ok-cells_of.field-0
+    let room = variable_room (room_in c.args.around.now) c.args.variables.now c.loop-variable.variable-index c.variable-item.result c.loop-variable.offset c.args.level c.loop-variable-test.true c.variable-item.is c.loop-variable.invariant.2 in
+    let cells = cells_turn c.args.variables.now c.loop-variable.variable-index c.variable-item.result c.loop-variable-test.true c.variable-item.is in
+    let turned = variables_turn (roots_in c.args.around.now) c.args.level c.args.variables.now c.loop-variable.variable-index c.variable-item.result (exp c.in_ok-value.value) c.loop-variable.offset (c.loop-variable.offset + c.cells_of-offset.result) c.cells_of-offset.result
     c.args.self.now c.loop-variable.self c.set.new.self (emit_variables (roots_in c.args.around.now) (map variable c.args.variables.now) c.args.offset c.args.level c.args.self.now.next)
-    c.loop-variable-test.true c.variable-item.is c.in_ok-value.ensures c.in_ok-cells_of.ensures c.in_ok-offset.ensures c.in_ok-set.ensures c.loop-variable.invariant
+    c.loop-variable-test.true c.variable-item.is c.in_ok-value.ensures c.cells_of-offset.ensures refl c.in_ok-set.ensures (c.loop-variable.invariant.0, c.loop-variable.invariant.1) in
+    (turned.0, turned.1, rw c.cells_of-offset.ensures room.1, omega (arith, cells, c.cells_of-offset.ensures, c.loop-variable.invariant.3))
 
 pub fill-loop-i-preserved : goal.fill-loop-i-preserved
 fill-loop-i-preserved t c =
@@ -235,8 +264,11 @@ valof-block-requires t c =
     let w = weight_of_valof cvs c.args.around.now.least n v c.if-number-around.false c.in-Some.ensures.lookup.3.0 in
     let e = ap (λ (u : Valof). weight_of_block (block_of u.body)) c.in-Some.ensures.lookup.1 in
     let k = ap (λ (j : ℕ). weight_of_valofs (drop j c.body-within.result.valofs.now)) c.body-within.ensures.least in
-    let r = ap (λ (us : List Valof). weight_of_valofs (drop (n + 1) us)) c.body-within.ensures.valofs in
-    (omega (arith, w, e, k, r), tt)
+    let r = ap (λ (us : List Valof). weight_of_valofs (drop (n + 1) us)) c.body-within.ensures.valofs in (
+      omega (arith, w, e, k, r),
+      valof_has_room c.args.around.now c.body-within.result n v c.if-number-around.false c.in-Some.ensures.lookup.3.0 c.in-Some.ensures.lookup.1
+          c.body-within.ensures.valofs c.body-within.ensures.least c.requires,
+    )
 
 pub valof-returns-in_ok-block-in-Some : goal.valof-returns-in_ok-block-in-Some
 valof-returns-in_ok-block-in-Some t c =
@@ -401,38 +433,38 @@ for_loop-returns-in_err-onward t c =
 
 pub for_loop-returns-in_err-set : goal.for_loop-returns-in_err-set
 for_loop-returns-in_err-set t c =
-    fails c.from_residual-in_err-set.result c.in_err-set.field-0.0 c.args.self.now c.set.new.self (roots_in c.args.around.now (Assign c.in_ok-level.level (exp c.in_ok-start.start) (Frame c.args.offset)) 0 c.take-3.new.self.next).1
+    fails c.from_residual-in_err-set.result c.in_err-set.field-0.0 c.args.self.now c.set.new.self (roots_in c.args.around.now (Assign (c.args.offset + 2) (exp c.in_ok-start.start) (Frame c.args.offset)) 0 c.take-3.new.self.next).1
     (emit Plain (roots_in c.args.around.now) (commands.For (exp c.args.start.now) (exp c.args.limit.now) c.args.by (block_of c.args.body.now)) c.args.offset (exits_of c.args.around.now) c.args.self.now.next)
     c.from_residual-in_err-set.ensures.1 c.in_err-set.ensures
-    (for_started (roots_in c.args.around.now) (rising c.args.around.now) (exits_of c.args.around.now) (exp c.args.start.now) (exp c.args.limit.now) c.args.by (block_of c.args.body.now) c.args.offset c.args.self.now.next _ (started (roots_in c.args.around.now) c.args.offset c.args.self.now.next c.in_ok-level.level _ _ _ c.in_ok-level.ensures c.in_ok-start.ensures (three_taken _ _ _ _ c.in_ok-again.ensures.taken.1 c.in_ok-past.ensures.taken.1 c.in_ok-onward.ensures.taken.1)))
+    (for_started (roots_in c.args.around.now) (rising c.args.around.now) (exits_of c.args.around.now) (exp c.args.start.now) (exp c.args.limit.now) c.args.by (block_of c.args.body.now) c.args.offset c.args.self.now.next _ (started (roots_in c.args.around.now) c.args.offset c.args.self.now.next (c.args.offset + 2) _ _ _ refl c.in_ok-start.ensures (three_taken _ _ _ _ c.in_ok-again.ensures.taken.1 c.in_ok-past.ensures.taken.1 c.in_ok-onward.ensures.taken.1)))
 
 pub for_loop-returns-in_err-set-2 : goal.for_loop-returns-in_err-set-2
 for_loop-returns-in_err-set-2 t c =
-    fails c.from_residual-in_err-set-2.result c.in_err-set-2.field-0.0 c.args.self.now c.set-2.new.self (roots_in c.args.around.now (Assign c.in_ok-level.level (exp c.in_ok-limit.limit) (Frame c.in_ok-behind.field-0)) 0 c.set.new.self.next).1
+    fails c.from_residual-in_err-set-2.result c.in_err-set-2.field-0.0 c.args.self.now c.set-2.new.self (roots_in c.args.around.now (Assign (c.args.offset + 2) (exp c.in_ok-limit.limit) (Frame (c.args.offset + 1))) 0 c.set.new.self.next).1
     (emit Plain (roots_in c.args.around.now) (commands.For (exp c.args.start.now) (exp c.args.limit.now) c.args.by (block_of c.args.body.now)) c.args.offset (exits_of c.args.around.now) c.args.self.now.next)
     c.from_residual-in_err-set-2.ensures.1 c.in_err-set-2.ensures
-    (for_limited (roots_in c.args.around.now) (rising c.args.around.now) (exits_of c.args.around.now) (exp c.args.start.now) (exp c.args.limit.now) c.args.by (block_of c.args.body.now) c.args.offset c.args.self.now.next _ (limited (roots_in c.args.around.now) c.args.offset c.args.self.now.next c.in_ok-level.level _ _ _ _ _ c.in_ok-level.ensures c.in_ok-behind.ensures c.in_ok-limit.ensures (c.in_ok-set.ensures.1 ∙ started (roots_in c.args.around.now) c.args.offset c.args.self.now.next c.in_ok-level.level _ _ _ c.in_ok-level.ensures c.in_ok-start.ensures (three_taken _ _ _ _ c.in_ok-again.ensures.taken.1 c.in_ok-past.ensures.taken.1 c.in_ok-onward.ensures.taken.1))))
+    (for_limited (roots_in c.args.around.now) (rising c.args.around.now) (exits_of c.args.around.now) (exp c.args.start.now) (exp c.args.limit.now) c.args.by (block_of c.args.body.now) c.args.offset c.args.self.now.next _ (limited (roots_in c.args.around.now) c.args.offset c.args.self.now.next (c.args.offset + 2) _ _ _ _ _ refl refl c.in_ok-limit.ensures (c.in_ok-set.ensures.1 ∙ started (roots_in c.args.around.now) c.args.offset c.args.self.now.next (c.args.offset + 2) _ _ _ refl c.in_ok-start.ensures (three_taken _ _ _ _ c.in_ok-again.ensures.taken.1 c.in_ok-past.ensures.taken.1 c.in_ok-onward.ensures.taken.1))))
 
 pub for_loop-returns-in_err-test : goal.for_loop-returns-in_err-test
 for_loop-returns-in_err-test t c =
-    fails c.from_residual-in_err-test.result c.in_err-test.field-0.0 c.args.self.now c.test.new.self (roots_in c.args.around.now (Test c.in_ok-level.level true (exp c.in_ok-end.end)) c.in_ok-past.past c.label.new.self.next).1
+    fails c.from_residual-in_err-test.result c.in_err-test.field-0.0 c.args.self.now c.test.new.self (roots_in c.args.around.now (Test (c.args.offset + 2) true (exp c.in_ok-end.end)) c.in_ok-past.past c.label.new.self.next).1
     (emit Plain (roots_in c.args.around.now) (commands.For (exp c.args.start.now) (exp c.args.limit.now) c.args.by (block_of c.args.body.now)) c.args.offset (exits_of c.args.around.now) c.args.self.now.next)
     c.from_residual-in_err-test.ensures.1 c.in_err-test.ensures
-    (for_tested (roots_in c.args.around.now) (rising c.args.around.now) (exits_of c.args.around.now) (exp c.args.start.now) (exp c.args.limit.now) c.args.by (block_of c.args.body.now) c.args.offset c.args.self.now.next _ (tested (roots_in c.args.around.now) c.args.offset c.args.self.now.next c.in_ok-level.level c.args.by _ _ _ _ _ c.in_ok-level.ensures c.in_ok-end.ensures (c.in_ok-past.ensures.taken.0 ∙ c.in_ok-again.ensures.taken.1) (c.in_ok-label.ensures.1 ∙ c.in_ok-set-2.ensures.1 ∙ limited (roots_in c.args.around.now) c.args.offset c.args.self.now.next c.in_ok-level.level _ _ _ _ _ c.in_ok-level.ensures c.in_ok-behind.ensures c.in_ok-limit.ensures (c.in_ok-set.ensures.1 ∙ started (roots_in c.args.around.now) c.args.offset c.args.self.now.next c.in_ok-level.level _ _ _ c.in_ok-level.ensures c.in_ok-start.ensures (three_taken _ _ _ _ c.in_ok-again.ensures.taken.1 c.in_ok-past.ensures.taken.1 c.in_ok-onward.ensures.taken.1)))))
+    (for_tested (roots_in c.args.around.now) (rising c.args.around.now) (exits_of c.args.around.now) (exp c.args.start.now) (exp c.args.limit.now) c.args.by (block_of c.args.body.now) c.args.offset c.args.self.now.next _ (tested (roots_in c.args.around.now) c.args.offset c.args.self.now.next (c.args.offset + 2) c.args.by _ _ _ _ _ refl c.in_ok-end.ensures (c.in_ok-past.ensures.taken.0 ∙ c.in_ok-again.ensures.taken.1) (c.in_ok-label.ensures.1 ∙ c.in_ok-set-2.ensures.1 ∙ limited (roots_in c.args.around.now) c.args.offset c.args.self.now.next (c.args.offset + 2) _ _ _ _ _ refl refl c.in_ok-limit.ensures (c.in_ok-set.ensures.1 ∙ started (roots_in c.args.around.now) c.args.offset c.args.self.now.next (c.args.offset + 2) _ _ _ refl c.in_ok-start.ensures (three_taken _ _ _ _ c.in_ok-again.ensures.taken.1 c.in_ok-past.ensures.taken.1 c.in_ok-onward.ensures.taken.1)))))
 
 pub for_loop-returns-in_err-block : goal.for_loop-returns-in_err-block
 for_loop-returns-in_err-block t c =
-    fails c.from_residual-in_err-block.result c.in_err-block.field-0.0 c.args.self.now c.block.new.self (emit_block Plain (roots_in c.in_loop.result) (block_of c.args.body.now) c.in_ok-level.level (exits_of c.in_loop.result) c.test.new.self.next).1
+    fails c.from_residual-in_err-block.result c.in_err-block.field-0.0 c.args.self.now c.block.new.self (emit_block Plain (roots_in c.in_loop.result) (block_of c.args.body.now) (c.args.offset + 2) (exits_of c.in_loop.result) c.test.new.self.next).1
     (emit Plain (roots_in c.args.around.now) (commands.For (exp c.args.start.now) (exp c.args.limit.now) c.args.by (block_of c.args.body.now)) c.args.offset (exits_of c.args.around.now) c.args.self.now.next)
     c.from_residual-in_err-block.ensures.1 c.in_err-block.ensures
-    (for_ended (roots_in c.args.around.now) (rising c.args.around.now) (exits_of c.args.around.now) (exp c.args.start.now) (exp c.args.limit.now) c.args.by (block_of c.args.body.now) c.args.offset c.args.self.now.next _ (ended c.args.around.now c.in_loop.result (block_of c.args.body.now) c.args.offset c.args.self.now.next c.in_ok-level.level c.args.by (exp c.args.start.now) (exp c.args.limit.now) _ _ _ c.in_ok-level.ensures c.in_loop.ensures (c.in_ok-past.ensures.taken.0 ∙ c.in_ok-again.ensures.taken.1) (c.in_ok-onward.ensures.taken.0 ∙ (two_taken _ _ _ c.in_ok-again.ensures.taken.1 c.in_ok-past.ensures.taken.1)) (c.in_ok-test.ensures.1 ∙ tested (roots_in c.args.around.now) c.args.offset c.args.self.now.next c.in_ok-level.level c.args.by _ _ _ _ _ c.in_ok-level.ensures c.in_ok-end.ensures (c.in_ok-past.ensures.taken.0 ∙ c.in_ok-again.ensures.taken.1) (c.in_ok-label.ensures.1 ∙ c.in_ok-set-2.ensures.1 ∙ limited (roots_in c.args.around.now) c.args.offset c.args.self.now.next c.in_ok-level.level _ _ _ _ _ c.in_ok-level.ensures c.in_ok-behind.ensures c.in_ok-limit.ensures (c.in_ok-set.ensures.1 ∙ started (roots_in c.args.around.now) c.args.offset c.args.self.now.next c.in_ok-level.level _ _ _ c.in_ok-level.ensures c.in_ok-start.ensures (three_taken _ _ _ _ c.in_ok-again.ensures.taken.1 c.in_ok-past.ensures.taken.1 c.in_ok-onward.ensures.taken.1))))))
+    (for_ended (roots_in c.args.around.now) (rising c.args.around.now) (exits_of c.args.around.now) (exp c.args.start.now) (exp c.args.limit.now) c.args.by (block_of c.args.body.now) c.args.offset c.args.self.now.next _ (ended c.args.around.now c.in_loop.result (block_of c.args.body.now) c.args.offset c.args.self.now.next (c.args.offset + 2) c.args.by (exp c.args.start.now) (exp c.args.limit.now) _ _ _ refl c.in_loop.ensures (c.in_ok-past.ensures.taken.0 ∙ c.in_ok-again.ensures.taken.1) (c.in_ok-onward.ensures.taken.0 ∙ (two_taken _ _ _ c.in_ok-again.ensures.taken.1 c.in_ok-past.ensures.taken.1)) (c.in_ok-test.ensures.1 ∙ tested (roots_in c.args.around.now) c.args.offset c.args.self.now.next (c.args.offset + 2) c.args.by _ _ _ _ _ refl c.in_ok-end.ensures (c.in_ok-past.ensures.taken.0 ∙ c.in_ok-again.ensures.taken.1) (c.in_ok-label.ensures.1 ∙ c.in_ok-set-2.ensures.1 ∙ limited (roots_in c.args.around.now) c.args.offset c.args.self.now.next (c.args.offset + 2) _ _ _ _ _ refl refl c.in_ok-limit.ensures (c.in_ok-set.ensures.1 ∙ started (roots_in c.args.around.now) c.args.offset c.args.self.now.next (c.args.offset + 2) _ _ _ refl c.in_ok-start.ensures (three_taken _ _ _ _ c.in_ok-again.ensures.taken.1 c.in_ok-past.ensures.taken.1 c.in_ok-onward.ensures.taken.1))))))
 
 pub for_loop-returns-in_err-set-3 : goal.for_loop-returns-in_err-set-3
 for_loop-returns-in_err-set-3 t c =
-    fails c.from_residual-in_err-set-3.result c.in_err-set-3.field-0.0 c.args.self.now c.set-3.new.self (roots_in c.args.around.now (Assign c.in_ok-level.level (exp c.in_ok-step.step) (Frame c.args.offset)) 0 c.label-2.new.self.next).1
+    fails c.from_residual-in_err-set-3.result c.in_err-set-3.field-0.0 c.args.self.now c.set-3.new.self (roots_in c.args.around.now (Assign (c.args.offset + 2) (exp c.in_ok-step.step) (Frame c.args.offset)) 0 c.label-2.new.self.next).1
     (emit Plain (roots_in c.args.around.now) (commands.For (exp c.args.start.now) (exp c.args.limit.now) c.args.by (block_of c.args.body.now)) c.args.offset (exits_of c.args.around.now) c.args.self.now.next)
     c.from_residual-in_err-set-3.ensures.1 c.in_err-set-3.ensures
-    (for_stepped (roots_in c.args.around.now) (exits_of c.args.around.now) (exp c.args.start.now) (exp c.args.limit.now) c.args.by (block_of c.args.body.now) c.args.offset c.args.self.now.next c.in_ok-level.level _ _ c.in_ok-level.ensures c.in_ok-step.ensures (c.in_ok-label-2.ensures.1 ∙ c.in_ok-block.ensures.1 ∙ ended c.args.around.now c.in_loop.result (block_of c.args.body.now) c.args.offset c.args.self.now.next c.in_ok-level.level c.args.by (exp c.args.start.now) (exp c.args.limit.now) _ _ _ c.in_ok-level.ensures c.in_loop.ensures (c.in_ok-past.ensures.taken.0 ∙ c.in_ok-again.ensures.taken.1) (c.in_ok-onward.ensures.taken.0 ∙ (two_taken _ _ _ c.in_ok-again.ensures.taken.1 c.in_ok-past.ensures.taken.1)) (c.in_ok-test.ensures.1 ∙ tested (roots_in c.args.around.now) c.args.offset c.args.self.now.next c.in_ok-level.level c.args.by _ _ _ _ _ c.in_ok-level.ensures c.in_ok-end.ensures (c.in_ok-past.ensures.taken.0 ∙ c.in_ok-again.ensures.taken.1) (c.in_ok-label.ensures.1 ∙ c.in_ok-set-2.ensures.1 ∙ limited (roots_in c.args.around.now) c.args.offset c.args.self.now.next c.in_ok-level.level _ _ _ _ _ c.in_ok-level.ensures c.in_ok-behind.ensures c.in_ok-limit.ensures (c.in_ok-set.ensures.1 ∙ started (roots_in c.args.around.now) c.args.offset c.args.self.now.next c.in_ok-level.level _ _ _ c.in_ok-level.ensures c.in_ok-start.ensures (three_taken _ _ _ _ c.in_ok-again.ensures.taken.1 c.in_ok-past.ensures.taken.1 c.in_ok-onward.ensures.taken.1))))))
+    (for_stepped (roots_in c.args.around.now) (exits_of c.args.around.now) (exp c.args.start.now) (exp c.args.limit.now) c.args.by (block_of c.args.body.now) c.args.offset c.args.self.now.next (c.args.offset + 2) _ _ refl c.in_ok-step.ensures (c.in_ok-label-2.ensures.1 ∙ c.in_ok-block.ensures.1 ∙ ended c.args.around.now c.in_loop.result (block_of c.args.body.now) c.args.offset c.args.self.now.next (c.args.offset + 2) c.args.by (exp c.args.start.now) (exp c.args.limit.now) _ _ _ refl c.in_loop.ensures (c.in_ok-past.ensures.taken.0 ∙ c.in_ok-again.ensures.taken.1) (c.in_ok-onward.ensures.taken.0 ∙ (two_taken _ _ _ c.in_ok-again.ensures.taken.1 c.in_ok-past.ensures.taken.1)) (c.in_ok-test.ensures.1 ∙ tested (roots_in c.args.around.now) c.args.offset c.args.self.now.next (c.args.offset + 2) c.args.by _ _ _ _ _ refl c.in_ok-end.ensures (c.in_ok-past.ensures.taken.0 ∙ c.in_ok-again.ensures.taken.1) (c.in_ok-label.ensures.1 ∙ c.in_ok-set-2.ensures.1 ∙ limited (roots_in c.args.around.now) c.args.offset c.args.self.now.next (c.args.offset + 2) _ _ _ _ _ refl refl c.in_ok-limit.ensures (c.in_ok-set.ensures.1 ∙ started (roots_in c.args.around.now) c.args.offset c.args.self.now.next (c.args.offset + 2) _ _ _ refl c.in_ok-start.ensures (three_taken _ _ _ _ c.in_ok-again.ensures.taken.1 c.in_ok-past.ensures.taken.1 c.in_ok-onward.ensures.taken.1))))))
 
 pub switchon-returns-in_err-past : goal.switchon-returns-in_err-past
 switchon-returns-in_err-past t c =
@@ -492,10 +524,10 @@ list-returns-in_err-list_item t c =
 
 pub declarations-returns-in_err-variables-clause-written : goal.declarations-returns-in_err-variables-clause-written
 declarations-returns-in_err-variables-clause-written t c =
-    fails c.from_residual-in_err-variables.result c.in_err-variables.field-0.0 c.args.self.now c.variables.new.self (emit_variables (roots_in c.args.around.now) (map variable c.declaration-item.result.variables.items) c.loop-declaration.level c.in_ok-inner.inner c.loop-declaration.self.next).1
+    fails c.from_residual.result c.in_err-variables.field-0.0 c.args.self.now c.variables.new.self (emit_variables (roots_in c.args.around.now) (map variable c.declaration-item.result.variables.items) c.loop-declaration.level (c.loop-declaration.level + c.cells_of_all.result) c.loop-declaration.self.next).1
     (emit_declarations (roots_in c.args.around.now) (declarations c.args.declarations.now) c.args.level c.args.self.now.next)
-    c.from_residual-in_err-variables.ensures.1 (rw c.deref-in-loop-declaration.ensures.value at c.in_err-variables.ensures)
-    (declarations_out (roots_in c.args.around.now) (rising c.args.around.now) c.args.declarations.now c.loop-declaration.declaration-index c.declaration-item.result c.loop-declaration.level c.in_ok-inner.inner c.in_ok-cells_of_all.field-0 c.loop-declaration.self.next _ c.loop-declaration-test.true c.declaration-item.is (rw c.deref.ensures.value at c.in_ok-cells_of_all.ensures) c.in_ok-inner.ensures c.loop-declaration.invariant.1)
+    c.from_residual.ensures.1 (rw c.deref-in-loop-declaration.ensures.value at c.in_err-variables.ensures)
+    (declarations_out (roots_in c.args.around.now) (rising c.args.around.now) c.args.declarations.now c.loop-declaration.declaration-index c.declaration-item.result c.loop-declaration.level (c.loop-declaration.level + c.cells_of_all.result) c.cells_of_all.result c.loop-declaration.self.next _ c.loop-declaration-test.true c.declaration-item.is (rw c.deref.ensures.value at c.cells_of_all.ensures) refl c.loop-declaration.invariant.1)
 
 pub variables-returns-in_err-set : goal.variables-returns-in_err-set
 variables-returns-in_err-set t c =

@@ -1,11 +1,12 @@
-use Rattle.std.proofs.Common.{◌≡◌, ◌+◌, ◌*◌, ◌++◌, map, drop}
+use Rattle.std.proofs.Common.{◌≡◌, ◌≤◌, ◌+◌, ◌*◌, ◌++◌, map, drop}
 use Rattle.bc_core.specs.Commands.{no_item}
 use Rattle.bc_core.specs.View.{block_of, items, items_before, command, declarations as declarations_view, variable as variable_view}
-use Rattle.bc_core.specs.Level.{cells_declared}
-use Rattle.bc_gen_defs.specs.Emit.{emit_items, emit_variables, emit_declarations}
+use Rattle.bc_core.specs.Level.{cells_of_all, cells_declared}
+use Rattle.bc_gen_defs.specs.Emit.{emit_items, emit_variables, emit_declarations, entries_in}
 use Rattle.bc_gen_defs.specs.Bodies.{level_of, fill}
 use Rattle.bc_gen_defs.specs.Entries.{Plain, count_items}
 use Rattle.bc_gen.specs.Parts.{parts}
+use Rattle.bc_gen.specs.Room.{room_in, VariablesHaveRoom, DeclarationsHaveRoom}
 use Rattle.bc_gen.specs.Surroundings.{roots_in, exits_of, bodies_of, valofs_in}
 use Rattle.bc_gen.proofs.Weights.{weight, weight_of_block, weight_of_items, weight_around}
 use Rattle.bc_gen.proofs.writer.Writer.+commands.Given as goal
@@ -84,6 +85,7 @@ invariant-list-loop-item l =
     let rest = emit_items Plain (roots_in l.around) (items (drop l.item-index l.list)) l.level (exits_of l.around) l.entry l.self.next in
     let whole = emit_items Plain (roots_in l.around) (items l.list) l.level (exits_of l.around) l.first l.fn.self.next in
     (parts l.self.parts.items ++ rest.0 ≡ parts l.fn.self.parts.items ++ whole.0) × (rest.1 ≡ whole.1)
+    × (l.entry + entries_in (items (drop l.item-index l.list)) ≤ 65535)
 
 abbrev pub invariant-declarations-loop-declaration : goal.invariant-declarations-loop-declaration
 invariant-declarations-loop-declaration l =
@@ -91,12 +93,15 @@ invariant-declarations-loop-declaration l =
     let whole = emit_declarations (roots_in l.around) (declarations_view l.declarations) l.fn.level l.fn.self.next in
     (parts l.self.parts.items ++ rest.0 ≡ parts l.fn.self.parts.items ++ whole.0) × (rest.1 ≡ whole.1)
     × (l.level + cells_declared (declarations_view (drop l.declaration-index l.declarations)) ≡ l.fn.level + cells_declared (declarations_view l.declarations))
+    × DeclarationsHaveRoom (room_in l.around) (declarations_view (drop l.declaration-index l.declarations)) l.level
 
 abbrev pub invariant-variables-loop-variable : goal.invariant-variables-loop-variable
 invariant-variables-loop-variable l =
     let rest = emit_variables (roots_in l.around) (map variable_view (drop l.variable-index l.variables)) l.offset l.level l.self.next in
     let whole = emit_variables (roots_in l.around) (map variable_view l.variables) l.fn.offset l.level l.fn.self.next in
     (parts l.self.parts.items ++ rest.0 ≡ parts l.fn.self.parts.items ++ whole.0) × (rest.1 ≡ whole.1)
+    × VariablesHaveRoom (room_in l.around) (map variable_view (drop l.variable-index l.variables)) l.offset l.level
+    × (l.offset + cells_of_all (map variable_view (drop l.variable-index l.variables)) ≤ 65535)
 
 abbrev pub invariant-fill-loop-i : goal.invariant-fill-loop-i
 invariant-fill-loop-i l =

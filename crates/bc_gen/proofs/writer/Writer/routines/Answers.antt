@@ -5,6 +5,9 @@ use Rattle.bc_gen_defs.specs.Bodies.{emit_body}
 use Rattle.bc_gen_defs.specs.Section.{emit_routines}
 use Rattle.bc_gen_defs.specs.Entries.{Plain}
 use Rattle.bc_gen.specs.Surroundings.{roots_in}
+use Rattle.bc_core.specs.declared.command.Place.TheVariants as places
+use Rattle.bc_gen.specs.Room.{room_in, RoutineHasRoom}
+use Rattle.bc_gen.proofs.Room.{place_at}
 use Rattle.bc_gen.proofs.Outs.{fails, rising, routines_out}
 use Rattle.bc_gen.proofs.writer.Writer.routines.Goals as goal
 
@@ -17,3 +20,9 @@ returns-in_err-routine c =
     c.from_residual-in_err-routine.ensures.1 c.in_err-routine.ensures
     (routines_out (roots_in c.args.around.now) (rising c.args.around.now) c.args.places.now c.loop-place.place-index c.place-item.result r c.loop-place.label c.loop-place.self.next c.label.new.self.next _
     c.loop-place-test.true c.place-item.is c.in-Routine.is c.in_ok-label.ensures.1 c.loop-place.invariant.1)
+
+pub routine-requires : goal.routine-requires
+routine-requires c =
+    let h = place_at (RoutineHasRoom (room_in c.args.around.now)) c.args.places.now c.loop-place.place-index c.place-item.result (places.Routine c.in-Routine.routine)
+    c.requires.room c.loop-place-test.true c.place-item.is c.in-Routine.is in
+    record { outside = c.requires.outside; level = h.0; room = h.1 }
