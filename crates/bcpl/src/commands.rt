@@ -417,7 +417,11 @@ fn do_list<F: Files, R: Read + Drop, O: Write + Drop, E: Write + Drop>(
     status_of_files(rt, alloc, done, taken, &mut err)
 }
 
-/// Does what `explain` asks for.
+/// What is told where the page of `explain` would go to a terminal.
+const PAGE: &str =
+    "bcpl: the page is for a browser: name its file by --out, as in `bcpl explain --out hello.html hello.bcpl`\n";
+
+/// Does what `explain` asks for. A page is not written to a terminal.
 fn do_explain<F: Files, R: Read + Drop, O: Write + Drop, E: Write + Drop>(
     rt: &F,
     alloc: Global,
@@ -432,6 +436,10 @@ fn do_explain<F: Files, R: Read + Drop, O: Write + Drop, E: Write + Drop>(
         mut err,
         terminals,
     } = standard;
+    if order.out.is_none() && terminals.out {
+        tell_lines(PAGE, &mut err);
+        return 3;
+    }
     let shows = are_told(order.places, terminals.err);
     let done = explain(rt, alloc, order, shows, &mut out);
     let taken = Taken::new(Wanted::Source, order.sources.files.as_slice(), shows);
