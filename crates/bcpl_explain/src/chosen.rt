@@ -1,7 +1,7 @@
 //! The rules of a derivation at the nodes of its root.
 
-use crate::parts::{ANY, At, PUSH, count, drops, parts, uses_of};
-use bc_core::{Root, operand};
+use crate::parts::{ANY, At, PUSH, count, drops, parts};
+use bc_core::{CoreExp, Root, operand};
 use bc_rules_defs::{Aim, Derivation, Mode, Rule, Takes};
 use bc_word::Memory;
 use std::alloc::Global;
@@ -54,6 +54,44 @@ impl Chosen {
     }
 }
 
+/// The top of the only tree of a root at this level.
+pub fn top(level: u16, e: &CoreExp) -> At<'_> {
+    At {
+        e,
+        end: count(e),
+        level: u64::from(level),
+    }
+}
+
+/// The tops of the trees of an assignment at this level: the value's and the address's.
+pub fn sides<'e>(level: u16, value: &'e CoreExp, address: &'e CoreExp) -> [At<'e>; 2] {
+    let level = match operand(address) {
+        Some(_) => u64::from(level),
+        None => u64::from(level).saturating_add(1),
+    };
+    let end = count(value);
+    [
+        At {
+            e: value,
+            end,
+            level,
+        },
+        At {
+            e: address,
+            end: end.saturating_add(count(address)),
+            level,
+        },
+    ]
+}
+
+/// How many nodes a root has.
+fn nodes_of(root: &Root) -> usize {
+    match root {
+        Root::Value { expression, .. } | Root::Test { expression, .. } => count(expression),
+        Root::Assign { value, address, .. } => count(value).saturating_add(count(address)),
+    }
+}
+
 /// A derivation of an expression that is to be followed.
 #[derive(Clone, Copy)]
 struct Step<'e> {
@@ -62,128 +100,116 @@ struct Step<'e> {
     derivation: &'e Derivation,
 }
 
-/// The tops of a root's trees: its expression, or the value and the address of an assignment. Memory is answered where a growth was
-/// refused.
-pub fn tops<'e>(alloc: Global, root: &'e Root) -> Result<Vec<At<'e>>, Memory> {
-    let mut found = Vec::new(alloc);
-    match root {
-        Root::Value {
-            level,
-            expression: e,
-        }
-        | Root::Test {
-            level,
-            expression: e,
-            ..
-        } => found.push(At {
-            e,
-            end: count(e),
-            level: u64::from(*level),
-        })?,
-        Root::Assign {
-            level,
-            value,
-            address,
-        } => {
-            let level = match operand(address) {
-                Some(_) => u64::from(*level),
-                None => u64::from(*level).saturating_add(1),
+/// The derivations that are to be followed. Where a growth was refused, that is kept.
+#[derive(Drop)]
+struct Steps<'e> {
+    waiting: Vec<Step<'e>>,
+    is_refused: bool,
+}
+
+impl<'e> Steps<'e> {
+    /// Puts a part's derivation on the stack, where it is there.
+    fn wait(&mut self, at: Option<&At<'e>>, aim: Aim, derivation: Option<&'e Derivation>) {
+        if let (Some(at), Some(derivation)) = (at, derivation) {
+            let step = Step {
+                at: *at,
+                aim,
+                derivation,
             };
-            let end = count(value);
-            found.push(At {
-                e: value,
-                end,
+            if self.waiting.push(step).is_err() {
+                self.is_refused = true;
+            }
+        }
+    }
+
+    /// Puts the derivations of these parts on the stack, for these aims.
+    fn wait_for(&mut self, uses: &[(usize, Aim)], parts: &[At<'e>], given: &'e [Derivation]) {
+        for (index, used) in uses.iter().enumerate() {
+            let (part, aim) = *used;
+            self.wait(parts.get(part), aim, given.get(index));
+        }
+    }
+
+    /// Puts the derivations of all parts on the stack, as values.
+    fn wait_for_all(&mut self, parts: &[At<'e>], given: &'e [Derivation]) {
+        for (index, part) in parts.iter().enumerate() {
+            self.wait(Some(part), ANY, given.get(index));
+        }
+    }
+
+    /// Puts the derivations of the parts that are taken on the stack, in the order of the code.
+    fn wait_taken(&mut self, takes: Takes, parts: &[At<'e>], given: &'e [Derivation]) {
+        match takes {
+            Takes::Nothing => {}
+            Takes::First(aim) => self.wait_for(&[(0, aim)], parts, given),
+            Takes::Second(aim) => self.wait_for(&[(1, aim)], parts, given),
+            Takes::InOrder(first, second) => self.wait_for(
+                &[(0, first), (1, second)],
+                parts,
+                given,
+            ),
+            Takes::Turned(first, second) => self.wait_for(&[(1, second), (0, first)], parts, given),
+            Takes::Choice(false) => self.wait_for(&BY_FALSE, parts, given),
+            Takes::Choice(true) => self.wait_for(&BY_TRUE, parts, given),
+            Takes::Call => self.wait_for_all(parts, given),
+        }
+    }
+
+    /// Puts the derivations below a step on the stack.
+    fn below(&mut self, alloc: Global, step: Step<'e>) {
+        let given = step.derivation.parts.as_slice();
+        match step.derivation.rule {
+            Rule::V0 => self.wait(Some(&step.at), PUSH, given.first()),
+            Rule::J6 => self.wait(Some(&step.at), ANY, given.first()),
+            rule => {
+                let takes = rule.takes(step.aim, drops(step.at.e));
+                match parts(alloc, step.at) {
+                    Ok(parts) => self.wait_taken(takes, parts.as_slice(), given),
+                    Err(_) => self.is_refused = true,
+                }
+            }
+        }
+    }
+
+    /// The first steps of a root's derivation: of an assignment those of its sides, in the order of the code.
+    fn begin(&mut self, root: &'e Root, derivation: &'e Derivation) {
+        match root {
+            Root::Value { level, expression } => {
+                self.wait(Some(&top(*level, expression)), ANY, Some(derivation))
+            }
+            Root::Test {
                 level,
-            })?;
-            let end = end.saturating_add(count(address));
-            found.push(At {
-                e: address,
-                end,
+                expression,
+                sense,
+                ..
+            } => {
+                let aim = Aim::Jumps(*sense);
+                self.wait(Some(&top(*level, expression)), aim, Some(derivation))
+            }
+            Root::Assign {
                 level,
-            })?;
-        }
-    }
-    Ok(found)
-}
-
-/// Puts a part's derivation on the stack, where it is there.
-fn wait<'e>(
-    waiting: &mut Vec<Step<'e>>,
-    at: Option<&At<'e>>,
-    aim: Aim,
-    derivation: Option<&'e Derivation>,
-) -> Result<(), Memory> {
-    if let (Some(at), Some(derivation)) = (at, derivation) {
-        waiting.push(Step {
-            at: *at,
-            aim,
-            derivation,
-        })?;
-    }
-    Ok(())
-}
-
-/// Puts the derivations of the parts that are taken on the stack.
-fn wait_taken<'e>(
-    alloc: Global,
-    takes: Takes,
-    parts: &[At<'e>],
-    given: &'e [Derivation],
-    waiting: &mut Vec<Step<'e>>,
-) -> Result<(), Memory> {
-    let uses = uses_of(alloc, takes, parts.len())?;
-    for (index, used) in uses.iter().enumerate() {
-        wait(waiting, parts.get(used.part), used.aim, given.get(index))?;
-    }
-    Ok(())
-}
-
-/// Puts the derivations below a step on the stack.
-fn below<'e>(alloc: Global, step: Step<'e>, waiting: &mut Vec<Step<'e>>) -> Result<(), Memory> {
-    let given = step.derivation.parts.as_slice();
-    match step.derivation.rule {
-        Rule::V0 => wait(waiting, Some(&step.at), PUSH, given.first()),
-        Rule::J6 => wait(waiting, Some(&step.at), ANY, given.first()),
-        rule => {
-            let parts = parts(alloc, step.at)?;
-            let takes = rule.takes(step.aim, drops(step.at.e));
-            wait_taken(alloc, takes, parts.as_slice(), given, waiting)
+                value,
+                address,
+            } => {
+                let takes = derivation.rule.takes(ANY, false);
+                let sides = sides(*level, value, address);
+                self.wait_taken(takes, &sides, derivation.parts.as_slice())
+            }
         }
     }
 }
 
-/// The first steps of a root's derivation: of an assignment those of its sides, in the order of the code.
-fn first_steps<'e>(
-    alloc: Global,
-    root: &'e Root,
-    derivation: &'e Derivation,
-) -> Result<Vec<Step<'e>>, Memory> {
-    let mut waiting = Vec::new(alloc);
-    let tops = tops(alloc, root)?;
-    let given = derivation.parts.as_slice();
-    let value = tops.first();
-    match root {
-        Root::Value { .. } => wait(&mut waiting, value, ANY, Some(derivation))?,
-        Root::Test { sense, .. } => {
-            wait(&mut waiting, value, Aim::Jumps(*sense), Some(derivation))?
-        }
-        Root::Assign { .. } => {
-            let takes = derivation.rule.takes(ANY, false);
-            wait_taken(alloc, takes, tops.as_slice(), given, &mut waiting)?
-        }
-    }
-    Ok(waiting)
-}
+/// The parts of a condition, whose test jumps on false.
+const BY_FALSE: [(usize, Aim); 3] = [(0, Aim::Jumps(false)), (1, ANY), (2, ANY)];
 
-/// No rules at any node of a root.
-fn nowhere(alloc: Global, root: &Root) -> Result<Vec<Chosen>, Memory> {
-    let mut found = Vec::new(alloc);
-    if let Some(last) = tops(alloc, root)?.last() {
-        for _ in 0..last.end {
-            found.push(Chosen::nothing())?;
-        }
+/// Those of one whose test jumps on true.
+const BY_TRUE: [(usize, Aim); 3] = [(0, Aim::Jumps(true)), (2, ANY), (1, ANY)];
+
+/// Notes a step's rule at its node.
+fn note(found: &mut Vec<Chosen>, step: Step<'_>) {
+    if let Some(chosen) = found.get_mut(step.at.node()) {
+        chosen.set(step.aim, step.derivation.rule);
     }
-    Ok(found)
 }
 
 /// For each node of a root, parts before wholes, the rules that a derivation of the root has there. Memory is answered where a growth
@@ -193,16 +219,21 @@ pub fn chosen_rules(
     root: &Root,
     derivation: &Derivation,
 ) -> Result<Vec<Chosen>, Memory> {
-    let mut found = nowhere(alloc, root)?;
-    let mut waiting = first_steps(alloc, root, derivation)?;
+    let mut found = vec![in alloc; Chosen::nothing(); nodes_of(root)]?;
+    let mut steps = Steps {
+        waiting: Vec::new(alloc),
+        is_refused: false,
+    };
+    steps.begin(root, derivation);
     for _ in 0..u64::MAX {
-        let Some(step) = waiting.pop() else {
+        let Some(step) = steps.waiting.pop() else {
             break;
         };
-        if let Some(chosen) = found.get_mut(step.at.node()) {
-            chosen.set(step.aim, step.derivation.rule);
-        }
-        below(alloc, step, &mut waiting)?;
+        note(&mut found, step);
+        steps.below(alloc, step);
+    }
+    if steps.is_refused {
+        return Err(Memory);
     }
     Ok(found)
 }

@@ -3,7 +3,7 @@
 use crate::html::{Html, Part};
 use crate::items::{add_data, add_items};
 use crate::locals::Locals;
-use crate::names::{CellName, GlobalName, Names, globals_of};
+use crate::names::{GlobalName, Names, globals_of};
 use crate::placed::{Ground, Placed, Spot};
 use crate::root::add_root;
 use crate::runs::{Run, runs};
@@ -34,23 +34,63 @@ fn free_columns(text: &[u8]) -> u64 {
 }
 
 /// Says so where other lines' code stands between what ends here, if anything does, and what begins there.
-fn add_gap(html: &mut Html, behind: Option<usize>, from: usize) -> Result<(), Memory> {
+fn add_gap(html: &mut Html, behind: Option<usize>, from: usize) {
     match behind {
         Some(behind) if behind != from => {
             html.mark("<div class=\"gap\">behind the code of other lines:</div>")
         }
-        _ => Ok(()),
+        _ => {}
+    }
+}
+
+/// Adds the items of an entry's root, of so many words, and below them why it has these, with these names.
+fn add_entry(html: &mut Html, entry: &Entry, words: u64, items: &[Item], names: Names<'_, '_>) {
+    html.mark("<details class=\"root\"><summary>");
+    add_items(html, items);
+    html.all(&[
+        Part::Mark("<span class=\"words\">"),
+        Part::Words(words),
+        Part::Mark("</span></summary>\n"),
+    ]);
+    add_root(html, entry, words, names);
+    html.mark("</details>\n");
+}
+
+/// What the report of a file stands on.
+#[derive(Drop)]
+pub struct Basis<'p, 's> {
+    ground: Ground<'p, 's>,
+    marks: Marks,
+    /// The names of the places, by their labels from 1 on.
+    names: Vec<&'s [u8]>,
+}
+
+/// The files of a program with their lines, and the leaves of its section. Memory is answered where a growth was refused.
+fn ground_of<'p, 's>(alloc: Global, program: Program<'p, 's>) -> Result<Ground<'p, 's>, Memory> {
+    let leaves = leaves_of(alloc, program.tokens)?;
+    Ground::new(alloc, program.files, program.main, leaves)
+}
+
+impl<'p, 's> Basis<'p, 's> {
+    /// That of a file of a program. Memory is answered where a growth was refused.
+    pub fn new(alloc: Global, program: Program<'p, 's>) -> Result<Basis<'p, 's>, Memory> {
+        let outline = Outline::new(alloc, program.section)?;
+        let marks = Marks::new(alloc, &outline, program.items.len(), program.entries)?;
+        let ground = ground_of(alloc, program)?;
+        let names = ground.texts(alloc, outline.places.as_slice())?;
+        Ok(Basis {
+            ground,
+            marks,
+            names,
+        })
     }
 }
 
 /// A file that is reported on.
 #[derive(Drop)]
-pub struct File<'p, 's> {
+pub struct File<'b, 'p, 's> {
     program: Program<'p, 's>,
-    ground: Ground<'p, 's>,
-    marks: Marks,
-    /// The names of the places, by their labels from 1 on.
-    names: Vec<&'s [u8]>,
+    basis: &'b Basis<'p, 's>,
     globals: Vec<GlobalName<'s>>,
     locals: Locals<'s>,
     /// The runs in the order of the code, and by their lines.
@@ -58,23 +98,21 @@ pub struct File<'p, 's> {
     placed: Placed,
 }
 
-impl<'p, 's> File<'p, 's> {
-    /// What is reported of a file of a program. Memory is answered where a growth was refused.
-    pub fn new(alloc: Global, program: Program<'p, 's>) -> Result<File<'p, 's>, Memory> {
-        let outline = Outline::new(alloc, program.section)?;
-        let marks = Marks::new(alloc, &outline, program.items.len(), program.entries)?;
-        let leaves = leaves_of(alloc, program.tokens)?;
-        let ground = Ground::new(alloc, program.files, program.main, leaves)?;
-        let names = ground.texts(alloc, outline.places.as_slice())?;
-        let runs = runs(alloc, &marks, program.entries)?;
-        let placed = Placed::of(alloc, runs.as_slice(), &marks, &ground)?;
-        let locals = Locals::new(alloc, program.section, &marks, program.entries)?;
+impl<'b, 'p, 's> File<'b, 'p, 's> {
+    /// What is reported of a file of a program, which stands on this. Memory is answered where a growth was refused.
+    pub fn new(
+        alloc: Global,
+        program: Program<'p, 's>,
+        basis: &'b Basis<'p, 's>,
+    ) -> Result<File<'b, 'p, 's>, Memory> {
+        let globals = globals_of(alloc, program.section)?;
+        let locals = Locals::new(alloc, program.section, &basis.marks, program.entries)?;
+        let runs = runs(alloc, &basis.marks, program.entries)?;
+        let placed = Placed::of(alloc, runs.as_slice(), &basis.marks, &basis.ground)?;
         Ok(File {
             program,
-            ground,
-            marks,
-            names,
-            globals: globals_of(alloc, program.section)?,
+            basis,
+            globals,
             locals,
             runs,
             placed,
@@ -104,82 +142,57 @@ impl<'p, 's> File<'p, 's> {
         }
     }
 
-    /// The names of the cells where the root of this entry stands.
-    fn cells_of(&self, alloc: Global, index: usize) -> Result<Vec<CellName<'s>>, Memory> {
-        match self.marks.leaves.get(index) {
-            Some(leaf) => self.locals.at(alloc, *leaf),
-            None => Ok(Vec::new(alloc)),
+    /// The names where the root of this entry stands.
+    fn names_of(&self, index: usize) -> Names<'_, 's> {
+        Names {
+            places: self.basis.names.as_slice(),
+            globals: self.globals.as_slice(),
+            locals: &self.locals,
+            leaf: self.basis.marks.leaves.get(index).copied(),
         }
     }
 
     /// Adds items that don't open, and what they are.
-    fn add_plain(html: &mut Html, items: &[Item], what: &str) -> Result<(), Memory> {
-        html.mark("<div class=\"own\">")?;
-        add_items(html, items)?;
+    fn add_plain(html: &mut Html, items: &[Item], what: &str) {
+        html.mark("<div class=\"own\">");
+        add_items(html, items);
         html.all(&[
             Part::Mark("<span>"),
             Part::Tell(what),
             Part::Mark("</span></div>\n"),
-        ])
+        ]);
     }
 
     /// Adds a root's items, and below them why it has these.
-    fn add_root(&self, html: &mut Html, index: usize, run: Run) -> Result<(), Memory> {
+    fn add_root(&self, html: &mut Html, index: usize, run: Run) {
         let items = self.items_of(run);
         if !run.is_first {
             return File::add_plain(html, items, "the same, behind a VALOF");
         }
-        match self.program.entries.get(index) {
-            Some(entry) => {
-                let cells = self.cells_of(html.alloc(), index)?;
-                let words = self.words_of(html.alloc(), index)?;
-                self.add_entry(html, entry, words, items, cells.as_slice())
-            }
-            None => Ok(()),
+        if let Some(entry) = self.program.entries.get(index) {
+            let found = self.words_of(html.alloc(), index);
+            let words = html.counted(found);
+            add_entry(html, entry, words, items, self.names_of(index));
         }
     }
 
-    /// Adds the items of an entry's root, of so many words, and below them why it has these, with these names of cells.
-    fn add_entry(
-        &self,
-        html: &mut Html,
-        entry: &Entry,
-        words: u64,
-        items: &[Item],
-        cells: &[CellName<'s>],
-    ) -> Result<(), Memory> {
-        html.mark("<details class=\"root\"><summary>")?;
-        add_items(html, items)?;
-        html.all(&[
-            Part::Mark("<span class=\"words\">"),
-            Part::Words(words),
-            Part::Mark("</span></summary>\n"),
-        ])?;
-        let names = Names {
-            places: self.names.as_slice(),
-            globals: self.globals.as_slice(),
-            cells,
-        };
-        add_root(html, entry, words, names)?;
-        html.mark("</details>\n")
-    }
-
     /// Adds a run's items.
-    fn add_run(&self, html: &mut Html, run: Run) -> Result<(), Memory> {
+    fn add_run(&self, html: &mut Html, run: Run) {
         match run.owner {
             Owner::Root(index) => self.add_root(html, index, run),
-            Owner::Command(index) => match self.marks.own.get(index) {
-                Some(own) => File::add_plain(html, self.items_of(run), own.what.words()),
-                None => Ok(()),
-            },
-            Owner::Section => add_data(html, self.items_of(run), self.names.as_slice()),
+            Owner::Command(index) => {
+                if let Some(own) = self.basis.marks.own.get(index) {
+                    File::add_plain(html, self.items_of(run), own.what.words());
+                }
+            }
+            Owner::Section => add_data(html, self.items_of(run), self.basis.names.as_slice()),
         }
     }
 
     /// Begins a line of a source; its code follows.
-    fn begin_line(&self, html: &mut Html, spot: Spot) -> Result<(), Memory> {
-        let text = self.ground.line(spot);
-        let (path, sign) = match self.ground.path_elsewhere(spot) {
+    fn begin_line(&self, html: &mut Html, spot: Spot) {
+        let text = self.basis.ground.line(spot);
+        let (path, sign) = match self.basis.ground.path_elsewhere(spot) {
             Some(path) => (path, ":"),
             None => ("", ""),
         };
@@ -193,109 +206,110 @@ impl<'p, 's> File<'p, 's> {
             Part::Mark("\">"),
             Part::Say(text),
             Part::Mark("</span></pre><div class=\"code\">\n"),
-        ])
+        ]);
     }
 
     /// Adds the lines of the file, each with its code.
-    fn add_lines(&self, html: &mut Html) -> Result<(), Memory> {
+    fn add_lines(&self, html: &mut Html) {
         for (number, runs) in self.placed.at_lines.iter().enumerate() {
             if number > 0 {
-                self.add_line(html, number, runs.as_slice())?;
+                self.add_line(html, number, runs.as_slice());
             }
         }
-        Ok(())
     }
 
     /// Adds the line with this number, with its code.
-    fn add_line(&self, html: &mut Html, number: usize, runs: &[Run]) -> Result<(), Memory> {
-        self.begin_line(html, self.ground.spot_at(number))?;
+    fn add_line(&self, html: &mut Html, number: usize, runs: &[Run]) {
+        self.begin_line(html, self.basis.ground.spot_at(number));
         let mut behind: Option<usize> = None;
         for run in runs {
-            add_gap(html, behind, run.from)?;
-            self.add_run(html, *run)?;
+            add_gap(html, behind, run.from);
+            self.add_run(html, *run);
             behind = Some(run.to);
         }
-        html.mark("</div></div>\n")
+        html.mark("</div></div>\n");
     }
 
     /// Adds the lines of other files that have code, in the order of the code.
-    fn add_others(&self, html: &mut Html) -> Result<(), Memory> {
+    fn add_others(&self, html: &mut Html) {
         if self.placed.others.is_empty() {
-            return Ok(());
+            return;
         }
-        html.mark("<h3>What it gets from other files</h3>\n")?;
+        html.mark("<h3>What it gets from other files</h3>\n");
         for other in &self.placed.others {
-            self.begin_line(html, other.spot)?;
-            self.add_run(html, other.run)?;
-            html.mark("</div></div>\n")?;
+            self.begin_line(html, other.spot);
+            self.add_run(html, other.run);
+            html.mark("</div></div>\n");
         }
-        Ok(())
     }
 
     /// Adds the data, and the globals that are set.
-    fn add_own_data(&self, html: &mut Html) -> Result<(), Memory> {
+    fn add_own_data(&self, html: &mut Html) {
         if self.placed.data.is_empty() {
-            return Ok(());
+            return;
         }
-        html.mark("<h3>Data, and globals that are set</h3>\n")?;
+        html.mark("<h3>Data, and globals that are set</h3>\n");
         for run in &self.placed.data {
-            self.add_run(html, *run)?;
+            self.add_run(html, *run);
         }
-        Ok(())
     }
 
-    /// Adds the file's report, with this number among the files. Memory is answered where a growth was refused.
-    pub fn add(&self, html: &mut Html, number: usize) -> Result<(), Memory> {
+    /// Adds the file's report, with this number among the files.
+    pub fn add(&self, html: &mut Html, number: usize) {
         html.all(&[
             Part::Mark("<h2 id=\"file"),
             Part::Number(number as u64),
             Part::Mark("\">"),
             Part::Tell(self.program.files.path(self.program.main)),
             Part::Mark("</h2>\n"),
-        ])?;
-        self.add_lines(html)?;
-        self.add_others(html)?;
-        self.add_own_data(html)
+        ]);
+        self.add_lines(html);
+        self.add_others(html);
+        self.add_own_data(html);
+    }
+
+    /// The words of a run's items.
+    fn words_of_run(&self, html: &mut Html, run: Run) -> u64 {
+        let found = words_of_items(html.alloc(), self.items_of(run));
+        html.counted(found)
     }
 
     /// Takes a run into the totals.
-    fn count_run(&self, alloc: Global, run: Run, totals: &mut Totals<'s>) -> Result<(), Memory> {
+    fn count_run(&self, html: &mut Html, run: Run, totals: &mut Totals<'s>) {
         match run.owner {
             Owner::Root(index) => {
                 if run.is_first {
-                    totals.add_root(self.words_of(alloc, index)?);
+                    let found = self.words_of(html.alloc(), index);
+                    totals.add_root(html.counted(found));
                 }
-                return Ok(());
             }
-            Owner::Command(index) => self.begin_routine(index, totals)?,
-            Owner::Section => {}
-        }
-        let words = words_of_items(alloc, self.items_of(run))?;
-        match run.owner {
-            Owner::Section => totals.add_data(words),
-            _ => totals.add_own(words),
-        }
-        Ok(())
-    }
-
-    /// Begins the totals of a routine, where what is at this index of the commands' own is what a routine begins with. Memory is answered where
-    /// a growth was refused.
-    fn begin_routine(&self, index: usize, totals: &mut Totals<'s>) -> Result<(), Memory> {
-        match self.marks.own.get(index) {
-            Some(own) if own.what == Purpose::Routine => totals.begin(self.ground.leaf(own.leaf)),
-            _ => Ok(()),
+            Owner::Command(index) => {
+                self.begin_routine(html, index, totals);
+                totals.add_own(self.words_of_run(html, run));
+            }
+            Owner::Section => totals.add_data(self.words_of_run(html, run)),
         }
     }
 
-    /// The words of the file by routine, and how often each rule is used. Memory is answered where a growth was refused.
-    pub fn totals(&self, alloc: Global) -> Result<Totals<'s>, Memory> {
-        let mut totals = Totals::new(alloc);
+    /// Begins the totals of a routine, where what is at this index of the commands' own is what a routine begins with.
+    fn begin_routine(&self, html: &mut Html, index: usize, totals: &mut Totals<'s>) {
+        match self.basis.marks.own.get(index) {
+            Some(own) if own.what == Purpose::Routine => {
+                totals.begin(html, self.basis.ground.leaf(own.leaf))
+            }
+            _ => {}
+        }
+    }
+
+    /// The words of the file by routine, and how often each rule is used.
+    pub fn totals(&self, html: &mut Html) -> Totals<'s> {
+        let mut totals = Totals::new(html.alloc());
         for run in &self.runs {
-            self.count_run(alloc, *run, &mut totals)?;
+            self.count_run(html, *run, &mut totals);
         }
         for entry in self.program.entries {
             totals.note_all(&entry.derivation);
         }
-        Ok(totals)
+        totals
     }
 }

@@ -1,3 +1,4 @@
+use bc_rules_defs::Rule;
 use bc_word::Memory;
 use bcpl_show::unit;
 use std::alloc::Global;
@@ -15,13 +16,16 @@ pub enum Part<'a> {
     Number(u64),
     /// A number of words.
     Words(u64),
+    /// The name of a rule.
+    Rule(Rule),
 }
 
-/// A page of HTML that is being written.
+/// A page of HTML that is being written. Where a growth was refused, that is kept, and what is added from then on counts for nothing.
 #[derive(Drop)]
 pub struct Html {
     alloc: Global,
     text: Vec<u8>,
+    is_refused: bool,
 }
 
 impl Html {
@@ -29,6 +33,7 @@ impl Html {
         Html {
             alloc,
             text: Vec::new(alloc),
+            is_refused: false,
         }
     }
 
@@ -36,72 +41,103 @@ impl Html {
         self.alloc
     }
 
+    /// A growth was refused to what is written here.
+    pub fn refuse(&mut self) {
+        self.is_refused = true;
+    }
+
+    /// What was counted; 0 where a growth was refused.
+    pub fn counted(&mut self, found: Result<u64, Memory>) -> u64 {
+        match found {
+            Ok(count) => count,
+            Err(_) => {
+                self.refuse();
+                0
+            }
+        }
+    }
+
     /// Adds markup.
-    pub fn mark(&mut self, markup: &str) -> Result<(), Memory> {
-        self.text.extend_from_slice(markup.as_bytes())?;
-        Ok(())
+    pub fn mark(&mut self, markup: &str) {
+        if self.text.extend_from_slice(markup.as_bytes()).is_err() {
+            self.refuse();
+        }
+    }
+
+    /// Adds a byte as it is.
+    fn push(&mut self, byte: u8) {
+        if self.text.push(byte).is_err() {
+            self.refuse();
+        }
     }
 
     /// Adds bytes as text: signs of markup by their names, and a question mark for each byte of what is no UTF-8, and for each other byte
     /// that stands for no sign.
-    pub fn say(&mut self, bytes: &[u8]) -> Result<(), Memory> {
+    pub fn say(&mut self, bytes: &[u8]) {
         let is_text = str::from_utf8(bytes).is_ok();
         for byte in bytes {
-            self.sign(*byte, is_text)?;
+            self.sign(*byte, is_text);
         }
-        Ok(())
     }
 
     /// Adds a byte as text, which is of a text of UTF-8 or not.
-    fn sign(&mut self, byte: u8, is_text: bool) -> Result<(), Memory> {
+    fn sign(&mut self, byte: u8, is_text: bool) {
         match byte {
             b'<' => self.mark("&lt;"),
             b'>' => self.mark("&gt;"),
             b'&' => self.mark("&amp;"),
             b'"' => self.mark("&quot;"),
-            _ if is_shown(byte, is_text) => Ok(self.text.push(byte)?),
+            _ if is_shown(byte, is_text) => self.push(byte),
             _ => self.mark("?"),
         }
     }
 
     /// Adds text.
-    pub fn tell(&mut self, text: &str) -> Result<(), Memory> {
-        self.say(text.as_bytes())
+    pub fn tell(&mut self, text: &str) {
+        self.say(text.as_bytes());
     }
 
     /// Adds a number.
-    pub fn number(&mut self, number: u64) -> Result<(), Memory> {
-        let digits = format!(in self.alloc; "{number}")?;
-        self.mark(digits.as_str())
+    pub fn number(&mut self, number: u64) {
+        let Ok(digits) = format!(in self.alloc; "{number}") else {
+            return self.refuse();
+        };
+        self.mark(digits.as_str());
     }
 
     /// Adds a number of words.
-    pub fn words(&mut self, words: u64) -> Result<(), Memory> {
-        self.number(words)?;
-        self.mark(" ")?;
-        self.mark(unit(words))
+    pub fn words(&mut self, words: u64) {
+        self.number(words);
+        self.mark(" ");
+        self.mark(unit(words));
     }
 
-    fn part(&mut self, part: Part<'_>) -> Result<(), Memory> {
+    /// Adds a rule's name.
+    fn rule(&mut self, rule: Rule) {
+        self.push(rule.letter());
+        self.number(u64::from(rule.number()));
+    }
+
+    fn part(&mut self, part: Part<'_>) {
         match part {
             Part::Mark(markup) => self.mark(markup),
             Part::Tell(text) => self.tell(text),
             Part::Say(bytes) => self.say(bytes),
             Part::Number(number) => self.number(number),
             Part::Words(words) => self.words(words),
+            Part::Rule(rule) => self.rule(rule),
         }
     }
 
     /// Adds these, one behind the other.
-    pub fn all(&mut self, parts: &[Part<'_>]) -> Result<(), Memory> {
+    pub fn all(&mut self, parts: &[Part<'_>]) {
         for part in parts {
-            self.part(*part)?;
+            self.part(*part);
         }
-        Ok(())
     }
 
     /// Adds text between the tags of an element.
-    pub fn element<'t>(&mut self, tag: &'t str, text: &'t str) -> Result<(), Memory> {
+    pub fn element<'t>(&mut self, tag: &'t str, text: &'t str) {
         self.all(&[
             Part::Mark("<"),
             Part::Mark(tag),
@@ -110,11 +146,15 @@ impl Html {
             Part::Mark("</"),
             Part::Mark(tag),
             Part::Mark(">"),
-        ])
+        ]);
     }
 
-    pub fn into_text(self) -> Vec<u8> {
-        self.text
+    /// The text of the page. Memory is answered where a growth was refused.
+    pub fn into_text(self) -> Result<Vec<u8>, Memory> {
+        if self.is_refused {
+            return Err(Memory);
+        }
+        Ok(self.text)
     }
 }
 

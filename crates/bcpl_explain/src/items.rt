@@ -4,33 +4,34 @@ use crate::html::{Html, Part};
 use crate::names::place_name;
 use bc_show::ShownItem;
 use bc_text_items::Item;
-use bc_word::Memory;
 
 /// Adds an item, a label bold.
-fn add_item(html: &mut Html, item: &Item) -> Result<(), Memory> {
+fn add_item(html: &mut Html, item: &Item) {
     let shown = ShownItem(item);
-    let text = format!(in html.alloc(); "{shown}")?;
-    if let Item::Label(_) = item {
-        return html.element("b", text.as_str());
+    let Ok(text) = format!(in html.alloc(); "{shown}") else {
+        return html.refuse();
+    };
+    match item {
+        Item::Label(_) => html.element("b", text.as_str()),
+        _ => html.tell(text.as_str()),
     }
-    html.tell(text.as_str())
 }
 
-/// Adds items, with a blank between each two. Memory is answered where a growth was refused.
-pub fn add_items(html: &mut Html, items: &[Item]) -> Result<(), Memory> {
+/// Adds items, with a blank between each two.
+pub fn add_items(html: &mut Html, items: &[Item]) {
     if items.is_empty() {
         return html.mark("<span class=\"inside\">no code</span>");
     }
-    html.mark("<code>")?;
+    html.mark("<code>");
     let mut is_first = true;
     for item in items {
         if !is_first {
-            html.mark(" ")?;
+            html.mark(" ");
         }
         is_first = false;
-        add_item(html, item)?;
+        add_item(html, item);
     }
-    html.mark("</code>")
+    html.mark("</code>");
 }
 
 /// The label of the place that an item begins, or whose address it puts into a global.
@@ -48,33 +49,31 @@ fn between(begins_line: bool) -> &'static str {
 }
 
 /// Begins a line of data, of the place with this name.
-fn begin_data(html: &mut Html, name: &[u8]) -> Result<(), Memory> {
+fn begin_data(html: &mut Html, name: &[u8]) {
     html.all(&[
         Part::Mark("<div class=\"data\"><span class=\"name\">"),
         Part::Say(name),
         Part::Mark("</span><code>"),
-    ])
+    ]);
 }
 
 /// Adds data, and globals that are set: a line for each place, with its name. `names` has those of the places, by their labels from 1 on.
-/// Memory is answered where a growth was refused.
-pub fn add_data(html: &mut Html, items: &[Item], names: &[&[u8]]) -> Result<(), Memory> {
+pub fn add_data(html: &mut Html, items: &[Item], names: &[&[u8]]) {
     let mut is_first = true;
     for item in items {
         let label = label_begun(item);
         if !is_first {
-            html.mark(between(label.is_some()))?;
+            html.mark(between(label.is_some()));
         }
         match label {
-            Some(label) => begin_data(html, place_name(names, label))?,
-            None if is_first => begin_data(html, b"")?,
+            Some(label) => begin_data(html, place_name(names, label)),
+            None if is_first => begin_data(html, b""),
             None => {}
         }
         is_first = false;
-        add_item(html, item)?;
+        add_item(html, item);
     }
     if !is_first {
-        html.mark("</code></div>\n")?;
+        html.mark("</code></div>\n");
     }
-    Ok(())
 }

@@ -1,6 +1,5 @@
 //! The names of a routine's cells, by a walk over the trees of a section in text order.
 
-use crate::names::CellName;
 use bc_core::{CoreExp, Root};
 use bc_parse_tree::{Block, Command, Constant, Declaration, Definition, Exp, Item, Label, Section};
 use bc_rules_defs::Entry;
@@ -98,23 +97,24 @@ impl<'s> Locals<'s> {
         }
     }
 
-    /// The names of the cells at a leaf. Memory is answered where a growth was refused.
-    pub fn at(&self, alloc: Global, leaf: usize) -> Result<Vec<CellName<'s>>, Memory> {
-        let mut cells = Vec::new(alloc);
+    /// The name of the cell at this offset behind a scope, where in front of it the cell has this name, or none.
+    fn name_behind(&self, local: &Local<'s>, name: &'s [u8], offset: u16) -> &'s [u8] {
+        match local.kind {
+            Kind::Routine => b"",
+            kind if name.is_empty() && self.offset(kind) == Some(offset) => local.name,
+            _ => name,
+        }
+    }
+
+    /// The name of the cell at this offset, at a leaf; nothing where it has none.
+    pub fn name_at(&self, leaf: usize, offset: u16) -> &'s [u8] {
+        let mut name: &'s [u8] = b"";
         for local in &self.locals {
             if local.from <= leaf && leaf < local.to {
-                if let Kind::Routine = local.kind {
-                    cells.clear();
-                }
-                if let Some(offset) = self.offset(local.kind) {
-                    cells.push(CellName {
-                        offset,
-                        name: local.name,
-                    })?;
-                }
+                name = self.name_behind(local, name, offset);
             }
         }
-        Ok(cells)
+        name
     }
 
     fn leaf(&mut self) {

@@ -1,5 +1,6 @@
 //! The names of places, globals and cells.
 
+use crate::locals::Locals;
 use bc_parse_tree::{Constant, Declaration, Exp, Section, Storage};
 use bc_word::Memory;
 use std::alloc::Global;
@@ -11,19 +12,13 @@ pub struct GlobalName<'s> {
     name: &'s [u8],
 }
 
-/// A cell of a routine's frame with the name of its parameter or variable.
-#[derive(Clone, Copy)]
-pub struct CellName<'s> {
-    pub offset: u16,
-    pub name: &'s [u8],
-}
-
-/// The names of the places, by their labels from 1 on, those of the globals, and those of the cells where a root stands.
+/// The names of the places, by their labels from 1 on, those of the globals, and those of the cells at the leaf where a root stands.
 #[derive(Clone, Copy)]
 pub struct Names<'k, 's> {
     pub places: &'k [&'s [u8]],
     pub globals: &'k [GlobalName<'s>],
-    pub cells: &'k [CellName<'s>],
+    pub locals: &'k Locals<'s>,
+    pub leaf: Option<usize>,
 }
 
 /// The name of the place with this label; nothing where there is none.
@@ -46,13 +41,11 @@ pub fn global_name<'s>(globals: &[GlobalName<'s>], number: u16) -> &'s [u8] {
 }
 
 /// The name of the cell at this offset; nothing where it has none.
-pub fn cell_name<'s>(cells: &[CellName<'s>], offset: u16) -> &'s [u8] {
-    for cell in cells {
-        if cell.offset == offset {
-            return cell.name;
-        }
+pub fn cell_name<'s>(names: Names<'_, 's>, offset: u16) -> &'s [u8] {
+    match names.leaf {
+        Some(leaf) => names.locals.name_at(leaf, offset),
+        None => b"",
     }
-    b""
 }
 
 /// Puts the globals of a list behind those that are there, where their numbers are written as such. Memory is answered where a growth was refused.

@@ -8,7 +8,6 @@ use crate::rules::{AIMS, add_name, add_told_name};
 use bc_candidates::{Beginning, Candidates};
 use bc_core::CoreExp;
 use bc_rules_defs::{Aim, Rule};
-use bc_word::Memory;
 
 /// A node of the tree: its expression, and how deep it stands.
 #[derive(Clone, Copy)]
@@ -26,21 +25,21 @@ pub struct Known<'k, 's> {
 }
 
 /// Adds the name of a place, a global or a cell.
-fn add_known_name(html: &mut Html, name: &[u8]) -> Result<(), Memory> {
+fn add_known_name(html: &mut Html, name: &[u8]) {
     html.all(&[
         Part::Mark(" <span class=\"name\">"),
         Part::Say(name),
         Part::Mark("</span>"),
-    ])
+    ]);
 }
 
 /// Adds a letter and a number.
-fn add_address(html: &mut Html, letter: &str, number: u16) -> Result<(), Memory> {
-    html.all(&[Part::Mark(letter), Part::Number(u64::from(number))])
+fn add_address(html: &mut Html, letter: &str, number: u16) {
+    html.all(&[Part::Mark(letter), Part::Number(u64::from(number))]);
 }
 
 /// Adds what stands at a node itself, without its parts.
-fn add_sign(html: &mut Html, e: &CoreExp) -> Result<(), Memory> {
+fn add_sign(html: &mut Html, e: &CoreExp) {
     match e {
         CoreExp::Num(number) => html.number(u64::from(number.get())),
         CoreExp::Frame(offset) => add_address(html, "P", *offset),
@@ -61,21 +60,19 @@ fn known_name<'s>(e: &CoreExp, names: Names<'_, 's>) -> &'s [u8] {
     match e {
         CoreExp::Place(label) => place_name(names.places, *label),
         CoreExp::Glob(number) => global_name(names.globals, *number),
-        CoreExp::Frame(offset) => cell_name(names.cells, *offset),
+        CoreExp::Frame(offset) => cell_name(names, *offset),
         _ => b"",
     }
 }
 
 /// Adds what stands at a node itself, with the name of a place, a global or a cell.
-fn add_head(html: &mut Html, e: &CoreExp, names: Names<'_, '_>) -> Result<(), Memory> {
-    html.mark("<code>")?;
-    add_sign(html, e)?;
-    html.mark("</code>")?;
+fn add_head(html: &mut Html, e: &CoreExp, names: Names<'_, '_>) {
+    html.mark("<code>");
+    add_sign(html, e);
+    html.mark("</code>");
     let name = known_name(e, names);
-    if name.is_empty() {
-        Ok(())
-    } else {
-        add_known_name(html, name)
+    if !name.is_empty() {
+        add_known_name(html, name);
     }
 }
 
@@ -110,22 +107,18 @@ fn rule_tag(is_chosen: bool) -> &'static str {
 }
 
 /// Adds a rule that applies, with its words.
-fn add_beginning(
-    html: &mut Html,
-    beginning: &Beginning,
-    chosen: Option<Rule>,
-) -> Result<(), Memory> {
-    html.mark(rule_tag(chosen == Some(beginning.rule)))?;
-    add_name(html, beginning.rule)?;
+fn add_beginning(html: &mut Html, beginning: &Beginning, chosen: Option<Rule>) {
+    html.mark(rule_tag(chosen == Some(beginning.rule)));
+    add_name(html, beginning.rule);
     html.all(&[
         Part::Mark("&nbsp;"),
         Part::Number(beginning.words),
         Part::Mark("</span>"),
-    ])
+    ]);
 }
 
 /// Adds the least words; a dash where there is no code.
-fn add_least(html: &mut Html, words: Option<u64>) -> Result<(), Memory> {
+fn add_least(html: &mut Html, words: Option<u64>) {
     match words {
         Some(words) => html.all(&[Part::Mark("<b>"), Part::Number(words), Part::Mark("</b>")]),
         None => html.mark("&ndash;"),
@@ -133,17 +126,17 @@ fn add_least(html: &mut Html, words: Option<u64>) -> Result<(), Memory> {
 }
 
 /// Adds the least words for an aim, and all rules that apply with theirs, the chosen one marked.
-fn add_cell(html: &mut Html, beginnings: &[Beginning], chosen: Option<Rule>) -> Result<(), Memory> {
-    html.mark(cell_tag(chosen.is_some()))?;
-    add_least(html, least(beginnings))?;
+fn add_cell(html: &mut Html, beginnings: &[Beginning], chosen: Option<Rule>) {
+    html.mark(cell_tag(chosen.is_some()));
+    add_least(html, least(beginnings));
     for beginning in beginnings {
-        add_beginning(html, beginning, chosen)?;
+        add_beginning(html, beginning, chosen);
     }
-    html.mark("</td>")
+    html.mark("</td>");
 }
 
 /// Adds the rules that the derivation has at a node, the outermost first.
-fn add_chain(html: &mut Html, chosen: Chosen) -> Result<(), Memory> {
+fn add_chain(html: &mut Html, chosen: Chosen) {
     if chosen.is_nothing() {
         return html.mark("<span class=\"inside\">no code of its own</span>");
     }
@@ -151,41 +144,40 @@ fn add_chain(html: &mut Html, chosen: Chosen) -> Result<(), Memory> {
     for aim in [Aim::Jumps(false), Aim::Jumps(true), ANY, PUSH] {
         if let Some(rule) = chosen.for_aim(aim) {
             if !is_first {
-                html.mark(".")?;
+                html.mark(".");
             }
             is_first = false;
-            add_told_name(html, rule)?;
+            add_told_name(html, rule);
         }
     }
-    Ok(())
 }
 
-/// Adds a node's row. Memory is answered where a growth was refused.
-pub fn add_row(html: &mut Html, row: Row<'_>, known: Known<'_, '_>) -> Result<(), Memory> {
+/// Adds a node's row.
+pub fn add_row(html: &mut Html, row: Row<'_>, known: Known<'_, '_>) {
     html.all(&[
         Part::Mark("<tr><th style=\"--depth:"),
         Part::Number(row.depth.min(24)),
         Part::Mark("\">"),
-    ])?;
-    add_head(html, row.at.e, known.names)?;
+    ]);
+    add_head(html, row.at.e, known.names);
     html.all(&[
         Part::Mark("</th><td>"),
         Part::Number(row.at.level),
         Part::Mark("</td>"),
-    ])?;
-    add_rules(html, known)
+    ]);
+    add_rules(html, known);
 }
 
 /// Adds what is known of a node's rules, up to the end of its row.
-fn add_rules(html: &mut Html, known: Known<'_, '_>) -> Result<(), Memory> {
+fn add_rules(html: &mut Html, known: Known<'_, '_>) {
     for aim in AIMS {
         add_cell(
             html,
             known.candidates.for_aim(aim),
             known.chosen.for_aim(aim),
-        )?;
+        );
     }
-    html.mark("<td>")?;
-    add_chain(html, known.chosen)?;
-    html.mark("</td></tr>\n")
+    html.mark("<td>");
+    add_chain(html, known.chosen);
+    html.mark("</td></tr>\n");
 }

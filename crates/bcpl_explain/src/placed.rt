@@ -101,12 +101,21 @@ impl<'p, 's> Ground<'p, 's> {
 
     /// The line at which a leaf stands.
     fn spot_of(&self, leaf: usize) -> Option<Spot> {
-        let token = self.leaves.get(leaf)?;
-        let lines = self.lines.get(token.file)?;
-        Some(Spot {
-            file: token.file,
-            line: lines.number_at(token.start),
-        })
+        match self.leaves.get(leaf) {
+            Some(token) => self.spot_in(token.file, token.start),
+            None => None,
+        }
+    }
+
+    /// The line of a file at which a byte stands.
+    fn spot_in(&self, file: usize, start: usize) -> Option<Spot> {
+        match self.lines.get(file) {
+            Some(lines) => Some(Spot {
+                file,
+                line: lines.number_at(start),
+            }),
+            None => None,
+        }
     }
 }
 
@@ -122,38 +131,79 @@ fn leaf_of(marks: &Marks, owner: Owner) -> Option<usize> {
     }
 }
 
-/// The runs of a segment: those of each line of the section's file, by its number; those of other files; and the section's own.
+/// The line of an owner.
+fn spot_of(ground: &Ground<'_, '_>, marks: &Marks, owner: Owner) -> Option<Spot> {
+    match leaf_of(marks, owner) {
+        Some(leaf) => ground.spot_of(leaf),
+        None => None,
+    }
+}
+
+/// The runs of a segment: those of each line of the section's file, by its number; those of other files; and the section's own. Where a
+/// growth was refused, that is kept.
 #[derive(Drop)]
 pub struct Placed {
     pub at_lines: Vec<Vec<Run>>,
     pub others: Vec<Other>,
     pub data: Vec<Run>,
+    is_refused: bool,
 }
 
 impl Placed {
     /// Nothing yet, of a file with so many lines.
-    fn new(alloc: Global, count: usize) -> Result<Placed, Memory> {
+    fn new(alloc: Global, count: usize) -> Placed {
         let mut at_lines = Vec::new(alloc);
+        let mut is_refused = false;
         for _ in 0..=count {
-            at_lines.push(Vec::new(alloc))?;
+            if at_lines.push(Vec::new(alloc)).is_err() {
+                is_refused = true;
+            }
         }
-        Ok(Placed {
+        Placed {
             at_lines,
             others: Vec::new(alloc),
             data: Vec::new(alloc),
-        })
+            is_refused,
+        }
     }
 
-    /// Adds a run at a line, of the section's file or of another one.
-    fn add(&mut self, ground: &Ground<'_, '_>, spot: Spot, run: Run) -> Result<(), Memory> {
-        if spot.file == ground.main {
-            if let Some(runs) = self.at_lines.get_mut(spot.line) {
-                runs.push(run)?;
-                return Ok(());
-            }
+    /// Notes whether a growth was refused.
+    fn note(&mut self, is_refused: bool) {
+        if is_refused {
+            self.is_refused = true;
         }
-        self.others.push(Other { spot, run })?;
-        Ok(())
+    }
+
+    /// Adds a run at a line of another file.
+    fn add_other(&mut self, spot: Spot, run: Run) {
+        let is_refused = self.others.push(Other { spot, run }).is_err();
+        self.note(is_refused);
+    }
+
+    /// Adds a run at a line of the section's file.
+    fn add_own(&mut self, spot: Spot, run: Run) {
+        match self.at_lines.get_mut(spot.line) {
+            Some(runs) => {
+                let is_refused = runs.push(run).is_err();
+                self.note(is_refused);
+            }
+            None => self.add_other(spot, run),
+        }
+    }
+
+    /// Adds a run that is the section's own.
+    fn add_data(&mut self, run: Run) {
+        let is_refused = self.data.push(run).is_err();
+        self.note(is_refused);
+    }
+
+    /// Adds a run at its line.
+    fn add(&mut self, ground: &Ground<'_, '_>, marks: &Marks, run: Run) {
+        match spot_of(ground, marks, run.owner) {
+            Some(spot) if spot.file == ground.main => self.add_own(spot, run),
+            Some(spot) => self.add_other(spot, run),
+            None => self.add_data(run),
+        }
     }
 
     /// These runs by their lines. Memory is answered where a growth was refused.
@@ -163,16 +213,12 @@ impl Placed {
         marks: &Marks,
         ground: &Ground<'_, '_>,
     ) -> Result<Placed, Memory> {
-        let mut placed = Placed::new(alloc, ground.count())?;
+        let mut placed = Placed::new(alloc, ground.count());
         for run in runs {
-            let spot = match leaf_of(marks, run.owner) {
-                Some(leaf) => ground.spot_of(leaf),
-                None => None,
-            };
-            match spot {
-                Some(spot) => placed.add(ground, spot, *run)?,
-                None => placed.data.push(*run)?,
-            }
+            placed.add(ground, marks, *run);
+        }
+        if placed.is_refused {
+            return Err(Memory);
         }
         Ok(placed)
     }

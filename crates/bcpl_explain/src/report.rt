@@ -1,4 +1,4 @@
-use crate::file::File;
+use crate::file::{Basis, File};
 use crate::html::{Html, Part};
 use crate::rules::add_table;
 use crate::style::STYLE;
@@ -70,7 +70,7 @@ const NUMBERS: &str =
     proved.</p>\n";
 
 /// Adds what is proved, and what was checked.
-fn add_claims(html: &mut Html, checked: Checked) -> Result<(), Memory> {
+fn add_claims(html: &mut Html, checked: Checked) {
     html.all(&[
         Part::Mark(THEOREM),
         Part::Mark(
@@ -81,11 +81,11 @@ fn add_claims(html: &mut Html, checked: Checked) -> Result<(), Memory> {
         Part::Words(checked.words),
         Part::Mark(" in all, and none of them has a derivation of fewer words.</p>\n"),
         Part::Mark(NUMBERS),
-    ])
+    ]);
 }
 
 /// Adds the head of the page, whose title begins with a path.
-fn begin(html: &mut Html, path: &str) -> Result<(), Memory> {
+fn begin(html: &mut Html, path: &str) {
     html.all(&[
         Part::Mark("<!DOCTYPE html>\n<html lang=\"en\">\n<head>\n<meta charset=\"utf-8\">\n"),
         Part::Mark(
@@ -95,12 +95,12 @@ fn begin(html: &mut Html, path: &str) -> Result<(), Memory> {
         Part::Mark(": why its code has no fewer words</title>\n<style>"),
         Part::Mark(STYLE),
         Part::Mark("</style>\n</head>\n<body>\n<h1>Why this code has no fewer words</h1>\n"),
-    ])
+    ]);
 }
 
 /// Adds what leads to the parts of the page.
-fn add_ways(html: &mut Html, programs: &[Program<'_, '_>]) -> Result<(), Memory> {
-    html.mark("<nav>")?;
+fn add_ways(html: &mut Html, programs: &[Program<'_, '_>]) {
+    html.mark("<nav>");
     for (number, program) in programs.iter().enumerate() {
         html.all(&[
             Part::Mark("<a href=\"#file"),
@@ -108,9 +108,9 @@ fn add_ways(html: &mut Html, programs: &[Program<'_, '_>]) -> Result<(), Memory>
             Part::Mark("\">"),
             Part::Tell(program.files.path(program.main)),
             Part::Mark("</a> "),
-        ])?;
+        ]);
     }
-    html.mark("<a href=\"#rules\">The rules</a> <a href=\"#proved\">What is proved</a></nav>\n")
+    html.mark("<a href=\"#rules\">The rules</a> <a href=\"#proved\">What is proved</a></nav>\n");
 }
 
 /// The path of the first file.
@@ -130,38 +130,39 @@ pub fn explanation(
     checked: Checked,
 ) -> Result<Vec<u8>, Memory> {
     let mut html = Html::new(alloc);
-    add_page(&mut html, programs, checked)?;
-    Ok(html.into_text())
+    add_page(&mut html, programs, checked);
+    html.into_text()
 }
 
-/// Adds a file's report, with this number among the files; gives how often each rule is used.
-fn add_file(html: &mut Html, number: usize, program: Program<'_, '_>) -> Result<[u64; 34], Memory> {
-    let alloc = html.alloc();
-    let file = File::new(alloc, program)?;
-    file.add(html, number)?;
-    let totals = file.totals(alloc)?;
-    totals.add_routines(html)?;
-    Ok(totals.used)
+/// Adds a file's report, with this number among the files, and to these numbers how often it uses each rule.
+fn add_file(html: &mut Html, number: usize, program: Program<'_, '_>, used: &mut [u64; 34]) {
+    let Ok(basis) = Basis::new(html.alloc(), program) else {
+        return html.refuse();
+    };
+    let Ok(file) = File::new(html.alloc(), program, &basis) else {
+        return html.refuse();
+    };
+    file.add(html, number);
+    let totals = file.totals(html);
+    totals.add_routines(html);
+    totals.add_uses(used);
 }
 
 /// Adds the reports of the files, and the rules.
-fn add_files(html: &mut Html, programs: &[Program<'_, '_>]) -> Result<(), Memory> {
+fn add_files(html: &mut Html, programs: &[Program<'_, '_>]) {
     let mut used = [0u64; 34];
     for (number, program) in programs.iter().enumerate() {
-        let uses = add_file(html, number, *program)?;
-        for (all, own) in used.iter_mut().zip(uses.iter()) {
-            *all = all.saturating_add(*own);
-        }
+        add_file(html, number, *program, &mut used);
     }
-    add_table(html, &used)
+    add_table(html, &used);
 }
 
 /// Adds all of the page.
-fn add_page(html: &mut Html, programs: &[Program<'_, '_>], checked: Checked) -> Result<(), Memory> {
-    begin(html, path_of(programs))?;
-    add_ways(html, programs)?;
-    html.all(&[Part::Mark(OPENING), Part::Mark(CODE), Part::Mark(TREES)])?;
-    add_files(html, programs)?;
-    add_claims(html, checked)?;
-    html.mark("</body>\n</html>\n")
+fn add_page(html: &mut Html, programs: &[Program<'_, '_>], checked: Checked) {
+    begin(html, path_of(programs));
+    add_ways(html, programs);
+    html.all(&[Part::Mark(OPENING), Part::Mark(CODE), Part::Mark(TREES)]);
+    add_files(html, programs);
+    add_claims(html, checked);
+    html.mark("</body>\n</html>\n");
 }

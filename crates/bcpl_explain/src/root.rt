@@ -1,6 +1,6 @@
 //! Why a root has the code that it has: its tree, with the rules of each node.
 
-use crate::chosen::{Chosen, chosen_rules, tops};
+use crate::chosen::{Chosen, chosen_rules, sides, top};
 use crate::html::{Html, Part};
 use crate::names::Names;
 use crate::node::{Known, Row, add_row};
@@ -10,6 +10,7 @@ use bc_candidates::{Candidates, candidates};
 use bc_core::Root;
 use bc_rules_defs::{Entry, Rule};
 use bc_word::Memory;
+use std::alloc::Global;
 
 /// What is known of the nodes of a root, in their order: the rules that apply, those of the derivation, and the names of places, globals and
 /// cells.
@@ -29,7 +30,7 @@ fn wait<'e>(waiting: &mut Vec<Row<'e>>, trees: &[At<'e>], depth: u64) -> Result<
 }
 
 /// Adds a node's row, where something is known of it.
-fn add_known(html: &mut Html, row: Row<'_>, nodes: Nodes<'_, '_>) -> Result<(), Memory> {
+fn add_known(html: &mut Html, row: Row<'_>, nodes: Nodes<'_, '_>) {
     let node = row.at.node();
     match (nodes.candidates.get(node), nodes.chosen.get(node)) {
         (Some(candidates), Some(chosen)) => add_row(
@@ -41,25 +42,51 @@ fn add_known(html: &mut Html, row: Row<'_>, nodes: Nodes<'_, '_>) -> Result<(), 
                 names: nodes.names,
             },
         ),
-        _ => Ok(()),
+        _ => {}
     }
 }
 
-/// Adds the rows of a root's nodes, wholes before parts.
-fn add_rows(html: &mut Html, root: &Root, nodes: Nodes<'_, '_>) -> Result<(), Memory> {
-    let alloc = html.alloc();
+/// The rows of the tops of a root's trees, the first one on top.
+fn top_rows<'e>(alloc: Global, root: &'e Root) -> Result<Vec<Row<'e>>, Memory> {
     let mut waiting = Vec::new(alloc);
-    let tops = tops(alloc, root)?;
-    wait(&mut waiting, tops.as_slice(), 0)?;
+    match root {
+        Root::Value { level, expression }
+        | Root::Test {
+            level,
+            expression,
+            ..
+        } => wait(&mut waiting, &[top(*level, expression)], 0)?,
+        Root::Assign {
+            level,
+            value,
+            address,
+        } => wait(&mut waiting, &sides(*level, value, address), 0)?,
+    }
+    Ok(waiting)
+}
+
+/// Puts the parts of a row's node on the stack.
+fn wait_parts<'e>(alloc: Global, waiting: &mut Vec<Row<'e>>, row: Row<'e>) -> Result<(), Memory> {
+    let parts = parts(alloc, row.at)?;
+    wait(waiting, parts.as_slice(), row.depth.saturating_add(1))
+}
+
+/// Adds the rows of a root's nodes, wholes before parts.
+fn add_rows(html: &mut Html, root: &Root, nodes: Nodes<'_, '_>) {
+    let alloc = html.alloc();
+    let Ok(rows) = top_rows(alloc, root) else {
+        return html.refuse();
+    };
+    let mut waiting = rows;
     for _ in 0..u64::MAX {
         let Some(row) = waiting.pop() else {
             break;
         };
-        add_known(html, row, nodes)?;
-        let parts = parts(alloc, row.at)?;
-        wait(&mut waiting, parts.as_slice(), row.depth.saturating_add(1))?;
+        add_known(html, row, nodes);
+        if wait_parts(alloc, &mut waiting, row).is_err() {
+            html.refuse();
+        }
     }
-    Ok(())
 }
 
 /// What a root is.
@@ -78,19 +105,19 @@ fn cell_words(offset: u64) -> u64 {
 }
 
 /// Adds why an assignment at a level has its rule, with which its code has so many words.
-fn add_assignment(html: &mut Html, rule: Rule, level: u64, words: u64) -> Result<(), Memory> {
-    html.mark("<p><span class=\"chosen\">&#9670;&nbsp;")?;
-    add_name(html, rule)?;
+fn add_assignment(html: &mut Html, rule: Rule, level: u64, words: u64) {
+    html.mark("<p><span class=\"chosen\">&#9670;&nbsp;");
+    add_name(html, rule);
     html.all(&[
         Part::Mark("&nbsp;"),
         Part::Number(words),
         Part::Mark("</span> "),
-    ])?;
+    ]);
     match rule {
-        Rule::A2 => add_either(html, level, words)?,
-        _ => html.mark(why_alone(rule))?,
+        Rule::A2 => add_either(html, level, words),
+        _ => html.mark(why_alone(rule)),
     }
-    html.mark(" The trees are those of the value and of the address.</p>\n")
+    html.mark(" The trees are those of the value and of the address.</p>\n");
 }
 
 /// Why a rule of assignments alone applies.
@@ -104,16 +131,16 @@ fn why_alone(rule: Rule) -> &'static str {
 }
 
 /// Adds why A2 was taken where A3 applies, too.
-fn add_either(html: &mut Html, level: u64, words: u64) -> Result<(), Memory> {
+fn add_either(html: &mut Html, level: u64, words: u64) {
     let both = cell_words(level.saturating_add(1)).saturating_mul(2);
-    add_name(html, Rule::A3)?;
+    add_name(html, Rule::A3);
     html.all(&[
         Part::Mark("&nbsp;"),
         Part::Number(words.saturating_add(both)),
         Part::Mark(
             " Value and address may be worked out in either order, so that one of them waits in a cell. By A3, which applies too, both wait.",
         ),
-    ])
+    ]);
 }
 
 /// The head of a tree's table, whose words lead to what is said of them.
@@ -124,49 +151,49 @@ const HEAD: &str = "<div class=\"wide\"><table class=\"tree\">\n\
     <th rowspan=\"2\"><a href=\"#chain\">rules of this code</a></th></tr>\n<tr>";
 
 /// Adds the head of a tree's table.
-fn add_heads(html: &mut Html) -> Result<(), Memory> {
-    html.mark(HEAD)?;
+fn add_heads(html: &mut Html) {
+    html.mark(HEAD);
     for aim in AIMS {
-        html.element("th", aim_words(aim))?;
+        html.element("th", aim_words(aim));
     }
-    html.mark("</tr></thead>\n<tbody>\n")
+    html.mark("</tr></thead>\n<tbody>\n");
 }
 
 /// Adds what a root is, and of an assignment why it has its rule.
-fn add_kind(html: &mut Html, entry: &Entry, words: u64) -> Result<(), Memory> {
+fn add_kind(html: &mut Html, entry: &Entry, words: u64) {
     html.all(&[
         Part::Mark("<p>"),
         Part::Tell(kind_of(&entry.root)),
         Part::Mark(", in "),
         Part::Words(words),
         Part::Mark(". No derivation has fewer.</p>\n"),
-    ])?;
-    match &entry.root {
-        Root::Assign { level, .. } => {
-            add_assignment(html, entry.derivation.rule, u64::from(*level), words)
-        }
-        _ => Ok(()),
+    ]);
+    if let Root::Assign { level, .. } = &entry.root {
+        add_assignment(html, entry.derivation.rule, u64::from(*level), words);
     }
 }
 
-/// Adds why a root has the code that it has, in so many words: its tree, a node a row, with the least words of each for the four aims, the
-/// rules that its derivation has there, and all that apply. Memory is answered where a growth was refused.
-pub fn add_root(
-    html: &mut Html,
-    entry: &Entry,
-    words: u64,
-    names: Names<'_, '_>,
-) -> Result<(), Memory> {
-    let alloc = html.alloc();
-    let of_nodes = candidates(alloc, &entry.root)?;
-    let chosen = chosen_rules(alloc, &entry.root, &entry.derivation)?;
-    add_kind(html, entry, words)?;
+/// Adds the rows of the tree of an entry's root, whose nodes have these rules that apply.
+fn add_tree(html: &mut Html, entry: &Entry, candidates: &[Candidates], names: Names<'_, '_>) {
+    let Ok(chosen) = chosen_rules(html.alloc(), &entry.root, &entry.derivation) else {
+        return html.refuse();
+    };
     let nodes = Nodes {
-        candidates: of_nodes.as_slice(),
+        candidates,
         chosen: chosen.as_slice(),
         names,
     };
-    add_heads(html)?;
-    add_rows(html, &entry.root, nodes)?;
-    html.mark("</tbody></table></div>\n")
+    add_rows(html, &entry.root, nodes);
+}
+
+/// Adds why a root has the code that it has, in so many words: its tree, a node a row, with the least words of each for the four aims, the
+/// rules that its derivation has there, and all that apply.
+pub fn add_root(html: &mut Html, entry: &Entry, words: u64, names: Names<'_, '_>) {
+    let Ok(of_nodes) = candidates(html.alloc(), &entry.root) else {
+        return html.refuse();
+    };
+    add_kind(html, entry, words);
+    add_heads(html);
+    add_tree(html, entry, of_nodes.as_slice(), names);
+    html.mark("</tbody></table></div>\n");
 }

@@ -2,7 +2,6 @@
 
 use crate::html::{Html, Part};
 use bc_rules_defs::{Aim, Mode, RULES, Rule};
-use bc_word::Memory;
 
 /// The four aims, in the order of a certificate's numbers.
 pub const AIMS: [Aim; 4] = [
@@ -127,63 +126,50 @@ fn code_of_test(rule: Rule) -> &'static str {
 }
 
 /// Adds a rule's name, which leads to its line of the table.
-pub fn add_name(html: &mut Html, rule: Rule) -> Result<(), Memory> {
-    let name = format!(in html.alloc(); "<a href=\"#{rule:?}\">{rule:?}</a>")?;
-    html.mark(name.as_str())
+pub fn add_name(html: &mut Html, rule: Rule) {
+    html.all(&[
+        Part::Mark("<a href=\"#"),
+        Part::Rule(rule),
+        Part::Mark("\">"),
+        Part::Rule(rule),
+        Part::Mark("</a>"),
+    ]);
 }
 
 /// Adds a rule's name as `add_name` does, with where it applies and its code, which a browser tells of it.
-pub fn add_told_name(html: &mut Html, rule: Rule) -> Result<(), Memory> {
-    let name = format!(in html.alloc(); "{rule:?}")?;
-    add_told(html, name.as_str(), place_of(rule), code_of(rule))
-}
-
-/// Adds a name that leads to its line of the table, and of which a browser tells a place and a code.
-fn add_told<'t>(
-    html: &mut Html,
-    name: &'t str,
-    place: &'t str,
-    code: &'t str,
-) -> Result<(), Memory> {
+pub fn add_told_name(html: &mut Html, rule: Rule) {
     html.all(&[
         Part::Mark("<a href=\"#"),
-        Part::Mark(name),
+        Part::Rule(rule),
         Part::Mark("\" title=\""),
-        Part::Tell(place),
+        Part::Tell(place_of(rule)),
         Part::Mark(": "),
-        Part::Tell(code),
+        Part::Tell(code_of(rule)),
         Part::Mark("\">"),
-        Part::Mark(name),
+        Part::Rule(rule),
         Part::Mark("</a>"),
-    ])
+    ]);
 }
 
 /// Adds a rule's line, with how often it is used.
-fn add_line(html: &mut Html, rule: Rule, count: u64) -> Result<(), Memory> {
-    let head = format!(in html.alloc(); "<tr id=\"{rule:?}\"><th>{rule:?}</th>")?;
-    let head = head.as_str();
-    add_cells(html, head, aims_of(rule), place_of(rule), code_of(rule))?;
-    html.all(&[Part::Number(count), Part::Mark("</td></tr>\n")])
-}
-
-/// Adds the cells of a rule's line behind its head: what it is for, where it applies, its code, and the beginning of the last one.
-fn add_cells<'t>(
-    html: &mut Html,
-    head: &'t str,
-    aims: &'t str,
-    place: &'t str,
-    code: &'t str,
-) -> Result<(), Memory> {
+fn add_line(html: &mut Html, rule: Rule, count: u64) {
     html.all(&[
-        Part::Mark(head),
-        Part::Mark("<td>"),
-        Part::Tell(aims),
+        Part::Mark("<tr id=\""),
+        Part::Rule(rule),
+        Part::Mark("\"><th>"),
+        Part::Rule(rule),
+        Part::Mark("</th><td>"),
+        Part::Tell(aims_of(rule)),
         Part::Mark("</td><td>"),
-        Part::Tell(place),
+        Part::Tell(place_of(rule)),
+    ]);
+    html.all(&[
         Part::Mark("</td><td><code>"),
-        Part::Tell(code),
+        Part::Tell(code_of(rule)),
         Part::Mark("</code></td><td>"),
-    ])
+        Part::Number(count),
+        Part::Mark("</td></tr>\n"),
+    ]);
 }
 
 /// The head of the rule table.
@@ -201,12 +187,12 @@ const MEANINGS: &str =
     either order: in neither stands a call or a VALOF, or one of them is a number or such an address. A mirror does the same with its \
     operands exchanged, as &lt; and &gt;.</p>\n";
 
-/// Adds the rule table, with how often each rule is used. Memory is answered where a growth was refused.
-pub fn add_table(html: &mut Html, used: &[u64; 34]) -> Result<(), Memory> {
-    html.mark(HEAD)?;
+/// Adds the rule table, with how often each rule is used.
+pub fn add_table(html: &mut Html, used: &[u64; 34]) {
+    html.mark(HEAD);
     for (rule, count) in RULES.iter().zip(used.iter()) {
-        add_line(html, *rule, *count)?;
+        add_line(html, *rule, *count);
     }
-    html.mark("</tbody></table></div>\n")?;
-    html.mark(MEANINGS)
+    html.mark("</tbody></table></div>\n");
+    html.mark(MEANINGS);
 }

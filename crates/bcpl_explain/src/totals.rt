@@ -2,7 +2,6 @@
 
 use crate::html::{Html, Part};
 use bc_rules_defs::{Derivation, RULES, Rule};
-use bc_word::Memory;
 use std::alloc::Global;
 
 /// The head of the words by routine.
@@ -23,7 +22,7 @@ pub struct Totals<'s> {
     routines: Vec<Routine<'s>>,
     data: u64,
     /// How often each rule is used, in the order of the table.
-    pub used: [u64; 34],
+    used: [u64; 34],
 }
 
 impl<'s> Totals<'s> {
@@ -36,13 +35,15 @@ impl<'s> Totals<'s> {
     }
 
     /// A routine begins.
-    pub fn begin(&mut self, name: &'s [u8]) -> Result<(), Memory> {
-        self.routines.push(Routine {
+    pub fn begin(&mut self, html: &mut Html, name: &'s [u8]) {
+        let routine = Routine {
             name,
             roots: 0,
             commands: 0,
-        })?;
-        Ok(())
+        };
+        if self.routines.push(routine).is_err() {
+            html.refuse();
+        }
     }
 
     /// Words of a root of the routine that began last.
@@ -81,8 +82,15 @@ impl<'s> Totals<'s> {
         }
     }
 
+    /// Adds to these numbers how often each rule is used.
+    pub fn add_uses(&self, used: &mut [u64; 34]) {
+        for (all, own) in used.iter_mut().zip(self.used.iter()) {
+            *all = all.saturating_add(*own);
+        }
+    }
+
     /// Adds a line of the table: what it is about, and the words of roots, of commands, and all.
-    fn add_line(html: &mut Html, name: &[u8], roots: u64, commands: u64) -> Result<(), Memory> {
+    fn add_line(html: &mut Html, name: &[u8], roots: u64, commands: u64) {
         html.all(&[
             Part::Mark("<tr><th>"),
             Part::Say(name),
@@ -93,11 +101,11 @@ impl<'s> Totals<'s> {
             Part::Mark("</td><td>"),
             Part::Number(roots.saturating_add(commands)),
             Part::Mark("</td></tr>\n"),
-        ])
+        ]);
     }
 
     /// Adds the lines of what has no words of roots: the data, and the whole segment.
-    fn add_sums(&self, html: &mut Html, roots: u64, commands: u64) -> Result<(), Memory> {
+    fn add_sums(&self, html: &mut Html, roots: u64, commands: u64) {
         let all = roots.saturating_add(commands).saturating_add(self.data);
         html.all(&[
             Part::Mark("<tr><th>data</th><td></td><td></td><td>"),
@@ -109,20 +117,20 @@ impl<'s> Totals<'s> {
             Part::Mark("</td><td>"),
             Part::Number(all),
             Part::Mark("</td></tr>\n"),
-        ])
+        ]);
     }
 
-    /// Adds the words by routine. Memory is answered where a growth was refused.
-    pub fn add_routines(&self, html: &mut Html) -> Result<(), Memory> {
-        html.mark(HEAD)?;
+    /// Adds the words by routine.
+    pub fn add_routines(&self, html: &mut Html) {
+        html.mark(HEAD);
         let mut roots: u64 = 0;
         let mut commands: u64 = 0;
         for routine in &self.routines {
-            Totals::add_line(html, routine.name, routine.roots, routine.commands)?;
+            Totals::add_line(html, routine.name, routine.roots, routine.commands);
             roots = roots.saturating_add(routine.roots);
             commands = commands.saturating_add(routine.commands);
         }
-        self.add_sums(html, roots, commands)?;
-        html.mark("</table></div>\n")
+        self.add_sums(html, roots, commands);
+        html.mark("</table></div>\n");
     }
 }
