@@ -1,6 +1,6 @@
 use crate::draft::Draft;
 use crate::trial::{Change, Reach, reached};
-use crate::words::{is_at, is_symbol};
+use crate::words::{back, is_at, is_symbol};
 use bc_lex_tokens::{Symbol, Token, TokenKind};
 use bc_word::Memory;
 use bcpl_places::Span;
@@ -49,17 +49,25 @@ pub fn open_at(draft: &mut Draft, tokens: &[Token<'_>], end: usize) -> Vec<usize
     draft.found(open_before(alloc, tokens, end), Vec::new(alloc))
 }
 
+/// How many round brackets are closed behind a token that are opened in front of it, given how many are behind the next one; none where
+/// the token opens one that isn't closed.
+fn closed_in_front(closed: usize, token: &Token<'_>) -> Option<usize> {
+    if is_symbol(token, Symbol::CloseBracket) {
+        Some(closed.saturating_add(1))
+    } else if is_symbol(token, Symbol::OpenBracket) {
+        closed.checked_sub(1)
+    } else {
+        Some(closed)
+    }
+}
+
 /// The innermost round bracket that is open in front of a place.
 fn open_round(tokens: &[Token<'_>], index: usize) -> Option<usize> {
     let mut closed: usize = 0;
-    for (place, token) in tokens.get(..index)?.iter().enumerate().rev() {
-        if is_symbol(token, Symbol::CloseBracket) {
-            closed = closed.saturating_add(1);
-        } else if is_symbol(token, Symbol::OpenBracket) {
-            match closed.checked_sub(1) {
-                Some(fewer) => closed = fewer,
-                None => return Some(place),
-            }
+    for count in 1..index.saturating_add(1) {
+        match closed_in_front(closed, back(tokens, index, count)?) {
+            Some(now) => closed = now,
+            None => return index.checked_sub(count),
         }
     }
     None

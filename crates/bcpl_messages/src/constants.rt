@@ -2,7 +2,7 @@
 
 use crate::declared::{Declared, meaning_of};
 use crate::draft::Draft;
-use crate::syntax::list_word;
+use crate::syntax::{list_word, name_of};
 use crate::words::is_symbol;
 use bc_lex_tokens::{Symbol, Token, TokenKind};
 
@@ -43,9 +43,7 @@ fn judged(
 
 /// Why the name at the token with this index is no constant; none where that isn't seen, or where no name stands there.
 fn reason_at(draft: &mut Draft, tokens: &[Token<'_>], index: usize) -> Option<Declared> {
-    let TokenKind::Name(name) = tokens.get(index)?.kind else {
-        return None;
-    };
+    let name = name_of(tokens.get(index))?;
     let meaning = meaning_of(draft.alloc(), tokens, index, name);
     let declared = draft.found(meaning, None)?;
     judged(draft, tokens, index, declared)

@@ -100,6 +100,31 @@ fn kind_at(tokens: &[Token<'_>], place: usize, listed: Listed) -> Option<Kind> {
     }
 }
 
+/// The section bracket that is open in front of a place, with so many others open within it, if there is one.
+fn bracket_around(
+    alloc: Global,
+    tokens: &[Token<'_>],
+    place: usize,
+    within: usize,
+) -> Result<Option<usize>, Memory> {
+    let open = open_before(alloc, tokens, place)?;
+    Ok(match open.len().checked_sub(within.saturating_add(1)) {
+        Some(index) => open.get(index).copied(),
+        None => None,
+    })
+}
+
+/// Whether a section bracket is open in front of a place.
+fn is_open(
+    alloc: Global,
+    tokens: &[Token<'_>],
+    bracket: usize,
+    place: usize,
+) -> Result<bool, Memory> {
+    let open = open_before(alloc, tokens, place)?;
+    Ok(open.iter().any(|other| *other == bracket))
+}
+
 /// Whether the block in which a name is declared has the place where it is used, too.
 fn encloses(
     alloc: Global,
@@ -108,18 +133,14 @@ fn encloses(
     used: usize,
     kind: Kind,
 ) -> Result<bool, Memory> {
-    let mut open = open_before(alloc, tokens, declared)?;
-    if let Kind::Constant = kind {
-        let _list = open.pop();
-    }
-    let Some(innermost) = open.pop() else {
-        return Ok(true)
+    let within = match kind {
+        Kind::Constant => 1,
+        _ => 0,
     };
-    Ok(
-        open_before(alloc, tokens, used)?
-            .iter()
-            .any(|bracket| *bracket == innermost),
-    )
+    match bracket_around(alloc, tokens, declared, within)? {
+        Some(block) => is_open(alloc, tokens, block, used),
+        None => Ok(true),
+    }
 }
 
 /// What is said of a declaration at one place whose name is used at another.
@@ -178,8 +199,8 @@ fn shares_list(
     let Kind::Constant = kind else {
         return Ok(false)
     };
-    let list = open_before(alloc, tokens, declared)?.pop();
-    let innermost = open_before(alloc, tokens, used)?.pop();
+    let list = bracket_around(alloc, tokens, declared, 0)?;
+    let innermost = bracket_around(alloc, tokens, used, 0)?;
     Ok(match (list, innermost) {
         (Some(list), Some(innermost)) => list == innermost,
         _ => false,

@@ -1,5 +1,5 @@
 use crate::draft::{Draft, Fill};
-use crate::syntax::span_of;
+use crate::read::Read;
 use crate::words::{is_symbol, shown};
 use bc_core::{Core, Place};
 use bc_gen::generate;
@@ -16,6 +16,8 @@ use std::alloc::Global;
 /// A routine that sets a global.
 #[derive(Clone, Copy)]
 struct Setter<'s> {
+    /// The main that has it.
+    main: usize,
     name: &'s [u8],
     span: Span,
 }
@@ -67,27 +69,59 @@ fn globals_of(alloc: Global, tokens: &[Token<'_>]) -> Result<Vec<Option<u16>>, M
     Ok(globals)
 }
 
-/// The routines of a main that set a global, with its number. None of a main that is refused itself. Memory is answered where a
-/// growth was refused.
-fn setters<'s>(
+/// Whether a routine that sets this global, if it sets one, sets the one of this number.
+fn is_number(global: Option<u16>, number: u16) -> bool {
+    match global {
+        Some(global) => global == number,
+        None => false,
+    }
+}
+
+/// The routine that the token with this index names.
+fn setter_at<'s>(read: Read<'_, 's>, index: usize) -> Setter<'s> {
+    Setter {
+        main: read.main,
+        name: read.text(index),
+        span: read.place(index),
+    }
+}
+
+/// Adds the routines among the tokens of a main that set the global of this number. Memory is answered where a growth was refused.
+fn add_among<'s>(
+    setters: &mut Vec<Setter<'s>>,
+    alloc: Global,
+    read: Read<'_, 's>,
+    number: u16,
+) -> Result<(), Memory> {
+    let globals = globals_of(alloc, read.tokens)?;
+    let names = routine_names(alloc, read.tokens)?;
+    for (global, index) in globals.iter().zip(&names) {
+        if is_number(*global, number) {
+            setters.push(setter_at(read, *index))?;
+        }
+    }
+    Ok(())
+}
+
+/// Adds the routines of a main that set the global of this number. None of a main that is refused itself.
+fn add_setters<'s>(
+    setters: &mut Vec<Setter<'s>>,
     alloc: Global,
     sources: &[Source<'s>],
     main: usize,
-) -> Result<Vec<(u16, Setter<'s>)>, Memory> {
-    let mut setters = Vec::new(alloc);
-    let Some(tokens) = tokens_of(alloc, sources, main) else {
-        return Ok(setters)
-    };
-    let globals = globals_of(alloc, tokens.as_slice())?;
-    let names = routine_names(alloc, tokens.as_slice())?;
-    for (global, index) in globals.iter().zip(&names) {
-        if let (Some(global), Some(token)) = (*global, tokens.get(*index)) {
-            let name = token.text;
-            let span = span_of(tokens.as_slice(), sources, main, *index);
-            setters.push((global, Setter { name, span }))?;
+    number: u16,
+) -> Result<(), Memory> {
+    match tokens_of(alloc, sources, main) {
+        Some(tokens) => {
+            let read = Read {
+                sources,
+                main,
+                tokens: tokens.as_slice(),
+            };
+            add_among(setters, alloc, read, number)
         }
+        None => Ok(()),
     }
-    Ok(setters)
 }
 
 /// The routines of all mains that set the global of this number.
@@ -96,16 +130,12 @@ fn setters_of<'s>(
     sources: &[Source<'s>],
     mains: &[usize],
     number: u16,
-) -> Result<Vec<(usize, Setter<'s>)>, Memory> {
-    let mut found = Vec::new(alloc);
+) -> Result<Vec<Setter<'s>>, Memory> {
+    let mut setters: Vec<Setter<'s>> = Vec::new(alloc);
     for main in mains {
-        for (global, setter) in &setters(alloc, sources, *main)? {
-            if *global == number {
-                found.push((*main, *setter))?;
-            }
-        }
+        add_setters(&mut setters, alloc, sources, *main, number)?;
     }
-    Ok(found)
+    Ok(setters)
 }
 
 /// Whether a routine of these mains sets the global of this number. Memory is answered where a growth was refused.
@@ -139,14 +169,15 @@ fn help_for_twice(is_of_library: bool, is_of_name: bool) -> &'static str {
     }
 }
 
-/// Tells of a global that two routines set.
-fn tell_twice(draft: &mut Draft, sources: &[Source<'_>], mains: &[usize], number: u16) {
-    let alloc = draft.alloc();
-    let found = draft.found(setters_of(alloc, sources, mains, number), Vec::new(alloc));
-    let (Some((other, first)), Some((main, second))) = (found.first(), found.get(1)) else {
-        return;
-    };
-    draft.set_main(*main);
+/// Says that a routine sets a global which another one sets, whose main may be the library's.
+fn say_twice(
+    draft: &mut Draft,
+    first: &Setter<'_>,
+    second: &Setter<'_>,
+    number: u16,
+    is_of_library: bool,
+) {
+    draft.set_main(second.main);
     draft.place(second.span);
     draft.say(
         "the routine {} sets the global {}, which another routine sets already",
@@ -154,10 +185,18 @@ fn tell_twice(draft: &mut Draft, sources: &[Source<'_>], mains: &[usize], number
     );
     draft.note(first.span, "the other routine", &[]);
     let is_of_name = first.name == second.name;
-    draft.help(
-        help_for_twice(is_library_main(sources, *other), is_of_name),
-        &[],
-    );
+    draft.help(help_for_twice(is_of_library, is_of_name), &[]);
+}
+
+/// Tells of a global that two routines set.
+fn tell_twice(draft: &mut Draft, sources: &[Source<'_>], mains: &[usize], number: u16) {
+    let alloc = draft.alloc();
+    let setters = setters_of(alloc, sources, mains, number);
+    let found = draft.found(setters, Vec::new(alloc));
+    if let (Some(first), Some(second)) = (found.first(), found.get(1)) {
+        let is_of_library = is_library_main(sources, first.main);
+        say_twice(draft, first, second, number, is_of_library);
+    }
 }
 
 /// How many words the segment of a main takes; none of a main that is refused itself.
@@ -235,28 +274,30 @@ fn makes_labels(token: &Token<'_>) -> bool {
     }
 }
 
+/// How many of these tokens make labels in the code.
+fn labels_among(tokens: &[Token<'_>]) -> usize {
+    tokens.iter().filter(|token| makes_labels(token)).count()
+}
+
+/// The one with more of two: what had the most before, if there is any, or what begins at this place.
+fn more(best: Option<(usize, usize)>, start: usize, count: usize) -> Option<(usize, usize)> {
+    match best {
+        Some((_, most)) if count <= most => best,
+        _ => Some((start, count)),
+    }
+}
+
 /// The index of the token that names the routine with the most words and signs that make labels, and their number.
 fn most_labels(alloc: Global, tokens: &[Token<'_>]) -> Result<Option<(usize, usize)>, Memory> {
     let names = routine_names(alloc, tokens)?;
     let mut best: Option<(usize, usize)> = None;
     for (number, start) in names.iter().enumerate() {
-        let end = names
-            .get(number.saturating_add(1))
-            .copied()
-            .unwrap_or(tokens.len());
-        let count = tokens
-            .get(*start..end)
-            .unwrap_or(&[])
-            .iter()
-            .filter(|token| makes_labels(token))
-            .count();
-        let is_more = match best {
-            Some((_, most)) => count > most,
-            None => true,
+        let end = match names.get(number.saturating_add(1)) {
+            Some(next) => *next,
+            None => tokens.len(),
         };
-        if is_more {
-            best = Some((*start, count));
-        }
+        let count = labels_among(tokens.get(*start..end).unwrap_or(&[]));
+        best = more(best, *start, count);
     }
     Ok(best)
 }
@@ -264,32 +305,28 @@ fn most_labels(alloc: Global, tokens: &[Token<'_>]) -> Result<Option<(usize, usi
 /// What is said of a main whose code has too many labels, whatever its routines are.
 const TOO_MANY_LABELS: &str = "the code of the file, with what it gets, has more than 20000 labels";
 
-/// The place of the routine of a main that has the most words and signs that make labels, and their number.
-fn busiest(
-    alloc: Global,
-    sources: &[Source<'_>],
-    main: usize,
-) -> Result<Option<(Span, usize)>, Memory> {
-    let Some(tokens) = tokens_of(alloc, sources, main) else {
-        return Ok(None)
-    };
-    let tokens = tokens.as_slice();
-    Ok(match most_labels(alloc, tokens)? {
-        Some((index, count)) => Some((span_of(tokens, sources, main, index), count)),
-        None => None,
-    })
-}
-
-/// Tells of a main whose code has too many labels.
-pub fn tell_labels(draft: &mut Draft, sources: &[Source<'_>], main: usize) {
-    let busiest = busiest(draft.alloc(), sources, main);
-    draft.say(TOO_MANY_LABELS, &[]);
-    if let Some((place, count)) = draft.found(busiest, None) {
-        draft.place(place);
+/// Tells of the routine of a main that has the most words and signs that make labels, and of their number.
+fn tell_busiest(draft: &mut Draft, read: Read<'_, '_>) {
+    let most = most_labels(draft.alloc(), read.tokens);
+    if let Some((index, count)) = draft.found(most, None) {
+        draft.place(read.place(index));
         draft.say(
             "; of its routines this one has the most words and signs that make labels, {}",
             &[Fill::Number(count as u64)],
         );
+    }
+}
+
+/// Tells of a main whose code has too many labels.
+pub fn tell_labels(draft: &mut Draft, sources: &[Source<'_>], main: usize) {
+    draft.say(TOO_MANY_LABELS, &[]);
+    if let Some(tokens) = tokens_of(draft.alloc(), sources, main) {
+        let read = Read {
+            sources,
+            main,
+            tokens: tokens.as_slice(),
+        };
+        tell_busiest(draft, read);
     }
     draft.help(
         "cut it into several files, which share routines by GLOBAL",

@@ -3,8 +3,8 @@
 use crate::words::{back, is_symbol};
 use bc_lex_tokens::{Symbol, Token, TokenKind};
 
-/// What is said of two spellings side by side; an empty one is that of any token. The first that fits counts.
-const PAIRS: [(&[u8], &[u8], &str); 25] = [
+/// What is said of two spellings side by side.
+const PAIRS: [(&[u8], &[u8], &str); 18] = [
     (b"=", b"=", "equality is written with one ="),
     (b"=", b"<", "at most is written <="),
     (b"=", b">", "at least is written >="),
@@ -12,11 +12,6 @@ const PAIRS: [(&[u8], &[u8], &str); 25] = [
         b"FOR",
         b"LET",
         "FOR declares its variable itself, as in FOR I = 1 TO 9 DO ..",
-    ),
-    (
-        b"RETURN",
-        b"",
-        "RETURN gives no value; a function gives that of the expression behind its =, as in LET F(X) = VALOF $( .. RESULTIS X $)",
     ),
     (b"~", b"=", "unequal is written ~= or NE"),
     (b"!", b"=", "unequal is written ~= or NE"),
@@ -56,34 +51,36 @@ const PAIRS: [(&[u8], &[u8], &str); 25] = [
         b";",
         "a command stands behind THEN; one that does nothing is written $( $)",
     ),
+];
+
+/// What is said of a spelling, whatever stands behind it.
+const FIRSTS: [(&[u8], &str); 7] = [
+    (
+        b"RETURN",
+        "RETURN gives no value; a function gives that of the expression behind its =, as in LET F(X) = VALOF $( .. RESULTIS X $)",
+    ),
     (
         b"MANIFEST",
-        b"",
         "the names stand between $( and $), as in MANIFEST $( N = 10; M = 20 $)",
     ),
     (
         b"STATIC",
-        b"",
         "the names stand between $( and $), as in STATIC $( N = 10; M = 20 $)",
     ),
     (
         b"GLOBAL",
-        b"",
         "the names stand between $( and $), as in GLOBAL $( N:100; M:101 $)",
     ),
     (
         b"NEXT",
-        b"",
         "FOR has no NEXT: its body is one command, or a block of several, $( .. $)",
     ),
     (
         b"next",
-        b"",
         "FOR has no NEXT: its body is one command, or a block of several, $( .. $)",
     ),
     (
         b"Next",
-        b"",
         "FOR has no NEXT: its body is one command, or a block of several, $( .. $)",
     ),
 ];
@@ -176,27 +173,43 @@ fn is_let(token: Option<&Token<'_>>) -> bool {
     }
 }
 
-/// Whether a spelling is this one, or any where this one is empty.
-fn is_meant(wanted: &[u8], found: &[u8]) -> bool {
-    wanted.is_empty() || wanted == found
-}
-
 /// Whether a spelling is the sign of a relation.
 fn is_relation(found: &[u8]) -> bool {
     RELATIONS.iter().any(|relation| *relation == found)
 }
 
-/// What is said of two spellings side by side.
-fn help_for_pair(before: &[u8], at: &[u8]) -> Option<&'static str> {
-    for (first, second, help) in &PAIRS {
-        if *first == before && is_meant(second, at) {
+/// What these rows say of a spelling.
+fn help_in_rows(rows: &[(&[u8], &'static str)], spelling: &[u8]) -> Option<&'static str> {
+    for (known, help) in rows {
+        if *known == spelling {
             return Some(*help);
         }
     }
-    if is_relation(at) {
+    None
+}
+
+/// Whether two spellings are the same.
+fn is_same(one: &[u8], other: &[u8]) -> bool {
+    one == other
+}
+
+/// What is said of two spellings side by side, if they are a known pair.
+fn help_for_known(before: &[u8], at: &[u8]) -> Option<&'static str> {
+    for (first, second, help) in &PAIRS {
+        if *first == before && is_same(second, at) {
+            return Some(*help);
+        }
+    }
+    None
+}
+
+/// What is said of two spellings side by side.
+fn help_for_pair(before: &[u8], at: &[u8]) -> Option<&'static str> {
+    let help = help_for_known(before, at).or(help_in_rows(&FIRSTS, before));
+    if help.is_none() && is_relation(at) {
         Some("relations don't chain: write (A <= B) & (B <= C)")
     } else {
-        None
+        help
     }
 }
 
@@ -222,44 +235,57 @@ fn is_behind_open_vector(tokens: &[Token<'_>], index: usize) -> bool {
     is_open
 }
 
+/// What is said where a line was read on behind VEC, or an octal number ends in front of a digit.
+fn help_for_number(tokens: &[Token<'_>], index: usize) -> Option<&'static str> {
+    if is_behind_open_vector(tokens, index) {
+        Some(VECTOR_WITHOUT_SIZE)
+    } else if is_octal(back(tokens, index, 1), tokens.get(index)) {
+        Some("octal digits, which stand behind #, go from 0 to 7; a decimal number has no #")
+    } else {
+        None
+    }
+}
+
+/// Whether two names stand behind LET or AND, the second of them at a place.
+fn is_typed(tokens: &[Token<'_>], index: usize) -> bool {
+    is_let(back(tokens, index, 2)) && is_name(back(tokens, index, 1)) && is_name(tokens.get(index))
+}
+
+/// Whether two tokens side by side are spelled so.
+fn are_spelled(
+    one: Option<&Token<'_>>,
+    other: Option<&Token<'_>>,
+    spelled: (&[u8], &[u8]),
+) -> bool {
+    text_of(one) == spelled.0 && text_of(other) == spelled.1
+}
+
+/// What is said of known mistakes that have a further token in front of a place and the one before it, or behind it.
+fn help_for_further(tokens: &[Token<'_>], index: usize) -> Option<&'static str> {
+    let next = tokens.get(index.saturating_add(1));
+    if is_typed(tokens, index) {
+        Some("a variable has no type, and is declared by LET X = 1")
+    } else if are_spelled(back(tokens, index, 2), back(tokens, index, 1), (b"-", b"-")) {
+        Some("to take from X, write X := X - 1")
+    } else if are_spelled(tokens.get(index), next, (b";", b"ELSE")) {
+        Some("no ; stands in front of ELSE")
+    } else {
+        None
+    }
+}
+
 /// What is said of the tokens around a place that are known mistakes.
 pub fn help_for_neighbours(tokens: &[Token<'_>], index: usize) -> Option<&'static str> {
-    let at = tokens.get(index);
-    let before = back(tokens, index, 1);
-    if is_behind_open_vector(tokens, index) {
-        return Some(VECTOR_WITHOUT_SIZE);
-    }
-    if is_octal(before, at) {
-        return Some(
-            "octal digits, which stand behind #, go from 0 to 7; a decimal number has no #",
-        );
-    }
-    if let Some(help) = help_for_pair(text_of(before), text_of(at)) {
-        return Some(help);
-    }
-    let earlier = back(tokens, index, 2);
-    if is_let(earlier) && is_name(before) && is_name(at) {
-        return Some("a variable has no type, and is declared by LET X = 1");
-    }
-    let earlier = text_of(earlier);
-    if earlier == b"-".as_slice() && text_of(before) == b"-".as_slice() {
-        return Some("to take from X, write X := X - 1");
-    }
-    let next = text_of(tokens.get(index.saturating_add(1)));
-    if text_of(at) == b";".as_slice() && next == b"ELSE".as_slice() {
-        return Some("no ; stands in front of ELSE");
-    }
-    None
+    let before = text_of(back(tokens, index, 1));
+    let of_pair = help_for_pair(before, text_of(tokens.get(index)));
+    help_for_number(tokens, index)
+        .or(of_pair)
+        .or(help_for_further(tokens, index))
 }
 
 /// What is said of a name that is an operator or a bracket in other languages.
 pub fn help_for_name(name: &[u8]) -> Option<&'static str> {
-    for (known, help) in &NAMES {
-        if *known == name {
-            return Some(*help);
-        }
-    }
-    None
+    help_in_rows(&NAMES, name)
 }
 
 /// What is said of the token that is refused by itself.

@@ -90,12 +90,18 @@ impl Told<'_, '_> {
         )
     }
 
-    /// Adds the GETs that led to a file.
-    fn add_way(&mut self, main: usize, file: usize) -> Result<(), Memory> {
-        for get in &way_to(self.alloc, self.named.sources, main, file)? {
+    /// Adds GETs.
+    fn add_gets(&mut self, gets: &[Span]) -> Result<(), Memory> {
+        for get in gets {
             self.add_get(*get)?;
         }
         Ok(())
+    }
+
+    /// Adds the GETs that led to a file.
+    fn add_way(&mut self, main: usize, file: usize) -> Result<(), Memory> {
+        let way = way_to(self.alloc, self.named.sources, main, file)?;
+        self.add_gets(way.as_slice())
     }
 
     /// Adds what is wrong, with its place, if it has one.

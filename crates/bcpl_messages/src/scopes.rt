@@ -305,28 +305,45 @@ struct Like<'s> {
     known: Option<&'s [u8]>,
 }
 
-/// Goes through the names that are like one which means nothing, those first that are most like it.
-fn like_names<'s>(draft: &mut Draft, read: Read<'_, 's>, place: usize, name: &[u8]) -> Like<'s> {
-    let alloc = draft.alloc();
-    let mut passed: Vec<&'s [u8]> = Vec::new(alloc);
+/// The name that is most like one which means nothing, beside those that were passed over; it is one of them then.
+fn next_like<'s>(
+    draft: &mut Draft,
+    read: Read<'_, 's>,
+    name: &[u8],
+    passed: &mut Vec<&'s [u8]>,
+) -> Option<&'s [u8]> {
+    let near = nearest(draft.alloc(), read.tokens, name, passed.as_slice());
+    let near = draft.found(near, None)?;
+    if passed.push(near).is_err() {
+        draft.refuse();
+    }
+    Some(near)
+}
+
+/// The first of the names like one which means nothing that is known there, those first that are most like it. It passes over them.
+fn known_like<'s>(
+    draft: &mut Draft,
+    read: Read<'_, 's>,
+    place: usize,
+    name: &[u8],
+    passed: &mut Vec<&'s [u8]>,
+) -> Option<&'s [u8]> {
     for _ in 0..MOST_LIKE {
-        let near = nearest(alloc, read.tokens, name, passed.as_slice());
-        let Some(near) = draft.found(near, None) else {
-            break;
-        };
-        if passed.push(near).is_err() {
-            draft.refuse();
-        }
+        let near = next_like(draft, read, name, passed)?;
         if is_known(draft, read.tokens, place, near) {
-            return Like {
-                first: None,
-                known: Some(near),
-            };
+            return Some(near);
         }
     }
+    None
+}
+
+/// Goes through the names that are like one which means nothing, those first that are most like it.
+fn like_names<'s>(draft: &mut Draft, read: Read<'_, 's>, place: usize, name: &[u8]) -> Like<'s> {
+    let mut passed: Vec<&'s [u8]> = Vec::new(draft.alloc());
+    let known = known_like(draft, read, place, name, &mut passed);
     Like {
         first: passed.first().copied(),
-        known: None,
+        known,
     }
 }
 

@@ -1,7 +1,7 @@
 //! Names and values, or places and values, that are not as many.
 
 use crate::draft::{Draft, Fill};
-use crate::words::{is_at, is_symbol};
+use crate::words::{back, is_at, is_symbol};
 use bc_lex_tokens::{Symbol, Token};
 
 /// Whether a token is one of these symbols.
@@ -15,8 +15,8 @@ const OPENING: [Symbol; 2] = [Symbol::OpenBracket, Symbol::OpenSection];
 /// What closes.
 const CLOSING: [Symbol; 2] = [Symbol::CloseBracket, Symbol::CloseSection];
 
-/// What a list of names and one of values stand behind.
-const SIGNS: [Symbol; 3] = [Symbol::Let, Symbol::And, Symbol::Assign];
+/// What a list of names and one of values stand behind, and what shows that there are none.
+const SIGNS: [Symbol; 4] = [Symbol::Let, Symbol::And, Symbol::Assign, Symbol::Semicolon];
 
 /// What shows that a comma stands in front of a further definition or assignment, and not of a value.
 const BEGINNING: [Symbol; 2] = [Symbol::Assign, Symbol::Equal];
@@ -24,19 +24,31 @@ const BEGINNING: [Symbol; 2] = [Symbol::Assign, Symbol::Equal];
 /// What stands in front of a command.
 const FRONTS: [Symbol; 4] = [Symbol::Semicolon, Symbol::Colon, Symbol::Do, Symbol::Else];
 
+/// How many brackets are closed behind a token that are opened in front of it, given how many are behind the next one; none where the
+/// token opens one that isn't closed.
+fn closed_in_front(closed: usize, token: &Token<'_>) -> Option<usize> {
+    if is_one_of(token, &OPENING) {
+        closed.checked_sub(1)
+    } else if is_one_of(token, &CLOSING) {
+        Some(closed.saturating_add(1))
+    } else {
+        Some(closed)
+    }
+}
+
 /// The last LET, AND or `:=` in front of a place that stands in no bracket closed there; none where a bracket that is open, or `;`,
 /// stands behind it.
 fn sign_before(tokens: &[Token<'_>], index: usize) -> Option<usize> {
     let mut closed: usize = 0;
-    for (place, token) in tokens.get(..index)?.iter().enumerate().rev() {
-        if is_one_of(token, &CLOSING) {
-            closed = closed.saturating_add(1);
-        } else if is_one_of(token, &OPENING) {
-            closed = closed.checked_sub(1)?;
-        } else if closed == 0 && is_symbol(token, Symbol::Semicolon) {
-            return None;
-        } else if closed == 0 && is_one_of(token, &SIGNS) {
-            return Some(place);
+    for count in 1..index.saturating_add(1) {
+        let token = back(tokens, index, count)?;
+        closed = closed_in_front(closed, token)?;
+        if closed == 0 && is_one_of(token, &SIGNS) {
+            return if is_symbol(token, Symbol::Semicolon) {
+                None
+            } else {
+                index.checked_sub(count)
+            };
         }
     }
     None
@@ -88,19 +100,22 @@ fn end_of_values(tokens: &[Token<'_>], index: usize) -> usize {
 
 /// Where the command begins whose sign stands at the end of these tokens.
 fn begin_of_command(tokens: &[Token<'_>]) -> usize {
+    let end = tokens.len();
     let mut closed: usize = 0;
-    for (place, token) in tokens.iter().enumerate().rev() {
-        if is_one_of(token, &CLOSING) {
-            closed = closed.saturating_add(1);
-        } else if is_one_of(token, &OPENING) && closed == 0 {
-            return place.saturating_add(1);
-        } else if is_one_of(token, &OPENING) {
-            closed = closed.saturating_sub(1);
-        } else if closed == 0 && is_one_of(token, &FRONTS) {
-            return place.saturating_add(1);
+    for count in 0..end {
+        let begin = end.saturating_sub(count);
+        let Some(token) = back(tokens, begin, 1) else {
+            return 0;
+        };
+        match closed_in_front(closed, token) {
+            Some(now) => closed = now,
+            None => return begin,
+        }
+        if closed == 0 && is_one_of(token, &FRONTS) {
+            return begin;
         }
         if closed == 0 && token.line_before {
-            return place;
+            return begin.saturating_sub(1);
         }
     }
     0
@@ -114,26 +129,40 @@ struct Sides {
     is_assignment: bool,
 }
 
+/// How many entries the list of the tokens from one place up to another has, apart by commas.
+fn entries(tokens: &[Token<'_>], begin: usize, end: usize) -> usize {
+    commas(tokens.get(begin..end).unwrap_or(&[])).saturating_add(1)
+}
+
+/// Where the left side of the sign at this place begins and ends: the places in front of `:=`, or the names behind LET or AND, with
+/// their `=` in front of the token with this index.
+fn left_of(tokens: &[Token<'_>], sign: usize, index: usize) -> Option<(usize, usize)> {
+    if is_at(tokens, sign, Symbol::Assign) {
+        return Some((begin_of_command(tokens.get(..sign).unwrap_or(&[])), sign));
+    }
+    let behind = sign.saturating_add(1);
+    let names = equal(tokens.get(behind..index).unwrap_or(&[]))?;
+    Some((behind, behind.saturating_add(names)))
+}
+
+/// Whether a further definition or assignment stands among the tokens from one place up to another.
+fn goes_on(tokens: &[Token<'_>], begin: usize, end: usize) -> bool {
+    let further = tokens.get(begin..end).unwrap_or(&[]);
+    further.iter().any(|token| is_one_of(token, &BEGINNING))
+}
+
 /// The sides of the sign at this place, with the values up to the token with this index.
 fn sides_of(tokens: &[Token<'_>], sign: usize, index: usize) -> Option<Sides> {
-    let behind = sign.saturating_add(1);
-    let is_assignment = is_symbol(tokens.get(sign)?, Symbol::Assign);
-    let (left, values) = if is_assignment {
-        let begin = begin_of_command(tokens.get(..sign)?);
-        (tokens.get(begin..sign)?, behind)
-    } else {
-        let equal = behind.saturating_add(equal(tokens.get(behind..index)?)?);
-        (tokens.get(behind..equal)?, equal.saturating_add(1))
-    };
-    let right = tokens.get(values..end_of_values(tokens, index))?;
-    let further = right.get(index.checked_sub(values)?..)?;
-    if right.is_empty() || further.iter().any(|token| is_one_of(token, &BEGINNING)) {
+    let (begin, end) = left_of(tokens, sign, index)?;
+    let values = end.saturating_add(1);
+    let behind = end_of_values(tokens, index);
+    if values >= behind || goes_on(tokens, index, behind) {
         return None;
     }
     Some(Sides {
-        left: commas(left).saturating_add(1),
-        right: commas(right).saturating_add(1),
-        is_assignment,
+        left: entries(tokens, begin, end),
+        right: entries(tokens, values, behind),
+        is_assignment: is_at(tokens, sign, Symbol::Assign),
     })
 }
 

@@ -145,8 +145,8 @@ struct Guess {
     help: &'static str,
 }
 
-/// The guesses, in the order in which they are tried.
-const GUESSES: [Guess; 12] = [
+/// The guesses that are tried first, in their order.
+const FIRST_GUESSES: [Guess; 4] = [
     Guess {
         site: Site::At(Symbol::Do),
         trial: Trial::Stands(Symbol::Return),
@@ -167,6 +167,10 @@ const GUESSES: [Guess; 12] = [
         trial: Trial::Stands(Symbol::Into),
         help: "a SWITCHON is written SWITCHON E INTO $( CASE 1: .. DEFAULT: .. $)",
     },
+];
+
+/// Those that are tried behind them.
+const NEXT_GUESSES: [Guess; 4] = [
     Guess {
         site: Site::Any,
         trial: Trial::Stands(Symbol::Else),
@@ -187,6 +191,10 @@ const GUESSES: [Guess; 12] = [
         trial: Trial::StandsOutside,
         help: "outside routines stand declarations alone; commands stand in a routine, as in LET START() BE $( .. $)",
     },
+];
+
+/// Those that are tried at the end.
+const LAST_GUESSES: [Guess; 4] = [
     Guess {
         site: Site::OnLine,
         trial: Trial::Behind(Symbol::Comma),
@@ -272,14 +280,40 @@ fn is_taken(draft: &mut Draft, tokens: &[Token<'_>], index: usize, trial: Trial)
     gets_further(draft, tokens, index, change)
 }
 
-/// What is said of the place that is refused, by what could stand there.
-fn help_for_place(draft: &mut Draft, tokens: &[Token<'_>], index: usize) -> Option<&'static str> {
-    for guess in &GUESSES {
+/// What the first of these guesses that is right says of a place.
+fn first_right(
+    draft: &mut Draft,
+    tokens: &[Token<'_>],
+    index: usize,
+    guesses: &[Guess],
+) -> Option<&'static str> {
+    for guess in guesses {
         if is_site(tokens, index, guess.site) && is_taken(draft, tokens, index, guess.trial) {
             return Some(guess.help);
         }
     }
     None
+}
+
+/// What the last guesses say of a place.
+fn last_guess(draft: &mut Draft, tokens: &[Token<'_>], index: usize) -> Option<&'static str> {
+    first_right(draft, tokens, index, &LAST_GUESSES)
+}
+
+/// What the guesses behind the first ones say of a place.
+fn next_guess(draft: &mut Draft, tokens: &[Token<'_>], index: usize) -> Option<&'static str> {
+    match first_right(draft, tokens, index, &NEXT_GUESSES) {
+        Some(help) => Some(help),
+        None => last_guess(draft, tokens, index),
+    }
+}
+
+/// What is said of the place that is refused, by what could stand there.
+fn help_for_place(draft: &mut Draft, tokens: &[Token<'_>], index: usize) -> Option<&'static str> {
+    match first_right(draft, tokens, index, &FIRST_GUESSES) {
+        Some(help) => Some(help),
+        None => next_guess(draft, tokens, index),
+    }
 }
 
 /// The words that a list of names stands behind.
@@ -314,7 +348,7 @@ fn help_for_list(draft: &mut Draft, tokens: &[Token<'_>], index: usize) -> Optio
 }
 
 /// The name that a token is, if it is one.
-fn name_of<'s>(token: Option<&Token<'s>>) -> Option<&'s [u8]> {
+pub fn name_of<'s>(token: Option<&Token<'s>>) -> Option<&'s [u8]> {
     match token?.kind {
         TokenKind::Name(name) => Some(name),
         _ => None,

@@ -85,6 +85,16 @@ fn place_of<'s>(tokens: &[Token<'s>], index: usize) -> Option<Token<'s>> {
     }
 }
 
+/// Adds a symbol where this token stands.
+fn add_symbol<'s>(
+    changed: &mut Vec<Token<'s>>,
+    symbol: Symbol,
+    at: &Token<'s>,
+    line_before: bool,
+) -> Result<(), Memory> {
+    Ok(changed.push(in_place(TokenKind::Symbol(symbol), at, line_before))?)
+}
+
 /// Adds two symbols where this token stands.
 fn add_pair<'s>(
     changed: &mut Vec<Token<'s>>,
@@ -92,20 +102,16 @@ fn add_pair<'s>(
     at: &Token<'s>,
     line_before: bool,
 ) -> Result<(), Memory> {
-    for symbol in pair {
-        changed.push(in_place(TokenKind::Symbol(symbol), at, line_before))?;
-    }
-    Ok(())
+    let [first, second] = pair;
+    add_symbol(changed, first, at, line_before)?;
+    add_symbol(changed, second, at, line_before)
 }
 
 /// Adds a token between round brackets.
 fn add_enclosed<'s>(changed: &mut Vec<Token<'s>>, at: &Token<'s>) -> Result<(), Memory> {
-    let open = TokenKind::Symbol(Symbol::OpenBracket);
-    let close = TokenKind::Symbol(Symbol::CloseBracket);
-    for token in [in_place(open, at, false), *at, in_place(close, at, false)] {
-        changed.push(token)?;
-    }
-    Ok(())
+    add_symbol(changed, Symbol::OpenBracket, at, false)?;
+    changed.push(*at)?;
+    add_symbol(changed, Symbol::CloseBracket, at, false)
 }
 
 /// Section brackets, and round ones.
@@ -143,6 +149,20 @@ pub fn replaced<'s>(
     Ok(changed)
 }
 
+/// Adds the tokens with a change at a place, where this token stands.
+fn add_changed<'s>(
+    changed: &mut Vec<Token<'s>>,
+    tokens: &[Token<'s>],
+    index: usize,
+    at: &Token<'s>,
+    change: Change,
+) -> Result<(), Memory> {
+    changed.extend_from_slice(tokens.get(..index).unwrap_or(&[]))?;
+    add_change(changed, at, change)?;
+    let rest = index.saturating_add(change.taken());
+    Ok(changed.extend_from_slice(tokens.get(rest..).unwrap_or(&[]))?)
+}
+
 /// How far the tokens are read with a change at a place: the index of the token, counted without the change, which is refused, or
 /// the end where all are read.
 fn read_with(
@@ -154,23 +174,16 @@ fn read_with(
     let Some(at) = place_of(tokens, index) else {
         return Ok(Reach::Before)
     };
-    let mut changed = Vec::from_slice(alloc, tokens.get(..index).unwrap_or(&[]))?;
-    add_change(&mut changed, &at, change)?;
-    let rest = index.saturating_add(change.taken());
-    changed.extend_from_slice(tokens.get(rest..).unwrap_or(&[]))?;
+    let mut changed = Vec::new(alloc);
+    add_changed(&mut changed, tokens, index, &at, change)?;
     read_up_to(alloc, changed.as_slice(), index, change.added())
 }
 
 /// Whether the tokens in front of a place are read by themselves, so that the end could stand there.
 pub fn is_whole(draft: &mut Draft, tokens: &[Token<'_>], index: usize) -> bool {
-    match parse(draft.alloc(), tokens.get(..index).unwrap_or(&[])) {
-        Ok(_) => true,
-        Err(ParseError::Memory) => {
-            draft.refuse();
-            false
-        }
-        Err(_) => false,
-    }
+    let front = tokens.get(..index).unwrap_or(&[]);
+    let read = read_up_to(draft.alloc(), front, index, 0);
+    matches!(draft.found(read, Reach::Before), Reach::End)
 }
 
 /// How far tokens are read of which so many are added at a place.
