@@ -140,7 +140,7 @@ const EXPLAIN: Described = Described {
             name: "out",
             form: Form::Lettered("REPORT", 'o'),
             rule: Rule::Free,
-            help: "The file that the page goes to; without it, standard output",
+            help: "The file that the page goes to; without it, standard output, where that is no terminal",
         },
         GET,
         LIBRARY,
