@@ -51,7 +51,7 @@ unfolding plus more sum given operand_cost better least_from number_cost
 sample_text = refl
 
 pub sample_has_room : ¬ HasNoRoom (entry_of sample)
-sample_has_room h = elim h [ | inl many ↦ omega (arith, many) | inr lacks ↦ lacks.exact Two by_call refl (omega arith) (omega arith) ]
+sample_has_room h = elim h [ inl many ↦ omega (arith, many) | inr lacks ↦ lacks.exact Two by_call refl (omega arith) (omega arith) ]
 
 -- below NOT WRCH('A') at level 5, where none shows a rule
 abbrev no_rule : Exp → ℕ → Shown
