@@ -141,7 +141,7 @@ $( LET M, N = GETBYTE(S,0), GETBYTE(T,0)
 
 AND PACKSTRING(V, S) = VALOF
 $( LET N = V!0 & 255
-   S!(N>>1) := 0
+   FOR I = 0 TO N>>1 DO S!I := 0
    PUTBYTE(S, 0, N)
    FOR I = 1 TO N DO PUTBYTE(S, I, V!I)
    RESULTIS N>>1 $)

@@ -119,6 +119,8 @@ enum Site {
     OnLine,
     /// The same, and a name in front.
     OnLineBehindName,
+    /// A name that begins its line, and a name in front.
+    BetweenNames,
     /// DEFAULT in front, or CASE and a constant of one token.
     BehindCase,
 }
@@ -134,6 +136,8 @@ enum Trial {
     Behind(Symbol),
     /// So with a pair of brackets.
     BehindBrackets,
+    /// With a pair of brackets in front the token at the place is read.
+    AtBrackets,
     /// So with brackets around the token.
     Enclosed,
 }
@@ -170,7 +174,7 @@ const FIRST_GUESSES: [Guess; 4] = [
 ];
 
 /// Those that are tried behind them.
-const NEXT_GUESSES: [Guess; 4] = [
+const NEXT_GUESSES: [Guess; 5] = [
     Guess {
         site: Site::Any,
         trial: Trial::Stands(Symbol::Else),
@@ -184,6 +188,11 @@ const NEXT_GUESSES: [Guess; 4] = [
     Guess {
         site: Site::BehindName,
         trial: Trial::BehindBrackets,
+        help: "a routine is declared and called with brackets, as in NEWLINE()",
+    },
+    Guess {
+        site: Site::BetweenNames,
+        trial: Trial::AtBrackets,
         help: "a routine is declared and called with brackets, as in NEWLINE()",
     },
     Guess {
@@ -225,6 +234,15 @@ fn is_behind_name(tokens: &[Token<'_>], index: usize) -> bool {
     }
 }
 
+/// Whether a name that begins its line stands at a place, and a name in front of it.
+fn is_between_names(tokens: &[Token<'_>], index: usize) -> bool {
+    let begins_line = match tokens.get(index) {
+        Some(token) => token.line_before && matches!(token.kind, TokenKind::Name(_)),
+        None => false,
+    };
+    begins_line && is_behind_name(tokens, index)
+}
+
 /// Whether DEFAULT stands in front of a place, or CASE and one token.
 fn is_behind_case(tokens: &[Token<'_>], index: usize) -> bool {
     let is_default = match back(tokens, index, 1) {
@@ -254,6 +272,7 @@ fn is_site(tokens: &[Token<'_>], index: usize, site: Site) -> bool {
         Site::BehindName => is_behind_name(tokens, index),
         Site::OnLine => is_on_line(tokens, index),
         Site::OnLineBehindName => is_on_line(tokens, index) && is_behind_name(tokens, index),
+        Site::BetweenNames => is_between_names(tokens, index),
         Site::BehindCase => is_behind_case(tokens, index),
     }
 }
@@ -268,11 +287,17 @@ fn gets_further(draft: &mut Draft, tokens: &[Token<'_>], index: usize, change: C
     reached(draft, tokens, index, change).is_behind(index)
 }
 
+/// Whether the token at a place is read with a pair of brackets in front.
+fn is_read_with_brackets(draft: &mut Draft, tokens: &[Token<'_>], index: usize) -> bool {
+    reached(draft, tokens, index, Change::InsertBrackets).is_past(index)
+}
+
 /// Whether the parser takes what a guess tries.
 fn is_taken(draft: &mut Draft, tokens: &[Token<'_>], index: usize, trial: Trial) -> bool {
     let change = match trial {
         Trial::Stands(symbol) => return could_be(draft, tokens, index, symbol),
         Trial::StandsOutside => return is_outside(draft, tokens, index),
+        Trial::AtBrackets => return is_read_with_brackets(draft, tokens, index),
         Trial::Behind(symbol) => Change::Insert(TokenKind::Symbol(symbol)),
         Trial::BehindBrackets => Change::InsertBrackets,
         Trial::Enclosed => Change::Enclose,

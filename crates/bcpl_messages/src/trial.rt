@@ -55,6 +55,15 @@ impl Reach {
         !matches!(self, Reach::Before)
     }
 
+    /// Whether the token with this index is read.
+    pub fn is_past(self, index: usize) -> bool {
+        match self {
+            Reach::Before => false,
+            Reach::Behind(next) => next > index,
+            Reach::End => true,
+        }
+    }
+
     /// Whether more is read than the token with this index.
     pub fn is_behind(self, index: usize) -> bool {
         match self {

@@ -73,12 +73,26 @@ fn is_of_digits(word: &str) -> bool {
     !word.is_empty() && word.bytes().all(|byte| byte.is_ascii_digit())
 }
 
-/// The option behind which the first word stands that should be a number and has more than digits.
+/// The option that a word is with its number behind a `=`, where that has more than digits.
+fn unnumbered_within<'a>(word: &'a str) -> Option<&'a str> {
+    match word.split_once('=') {
+        Some((option, number)) if NUMBERED.contains(&option) && !is_of_digits(number) => {
+            Some(option)
+        }
+        _ => None,
+    }
+}
+
+/// The first option whose number, behind it or behind its `=`, has more than digits.
 fn unnumbered<'a>(words: &[&'a str]) -> Option<&'a str> {
     let mut before = "";
     for word in words {
         if NUMBERED.contains(&before) && !is_of_digits(word) {
             return Some(before);
+        }
+        let within = unnumbered_within(word);
+        if within.is_some() {
+            return within;
         }
         before = word;
     }
@@ -95,6 +109,14 @@ fn with_one_dash<'a>(words: &[&'a str]) -> Option<&'a str> {
     None
 }
 
+/// What words lack among which one looks like an option that is none: a number that has a sign, or a second dash.
+fn unknown<'a>(words: &[&'a str]) -> Option<Guess<'a>> {
+    match unnumbered(words) {
+        Some(option) => Some(Guess::Digits(option)),
+        None => with_one_dash(words).map(Guess::Dash),
+    }
+}
+
 /// What these words lack, which ask for nothing since they are bad in this way; none where that can't be guessed.
 pub fn guess_of<'a>(words: &[&'a str], bad: &BadWords<'_>) -> Option<Guess<'a>> {
     let kind = match bad {
@@ -106,7 +128,7 @@ pub fn guess_of<'a>(words: &[&'a str], bad: &BadWords<'_>) -> Option<Guess<'a>> 
         ErrorKind::InvalidSubcommand => Some(Guess::Command(first)),
         ErrorKind::MissingRequiredArgument => lacking(words, first),
         ErrorKind::ValueValidation => unnumbered(words).map(Guess::Digits),
-        ErrorKind::UnknownArgument => with_one_dash(words).map(Guess::Dash),
+        ErrorKind::UnknownArgument => unknown(words),
         _ => None,
     }
 }
