@@ -45,7 +45,7 @@ const TREES: &str =
     "<dt id=\"node\">Node</dt><dd>A part of the tree, below what it is a part of. A number stands for itself. P2 is the address of the cell at \
     offset 2 of the frame, G14 that of global 14, L3 that of place 3: a routine, a static, a table or a string. Beside globals and places, and \
     beside the cells of parameters and variables, stand their names. ! is the content of \
-    the cell at an address, NEG the negative; the other signs are those of the source.</dd>\n\
+    the cell at an address, NEG the negative; the other signs are those of the source, and NOT of a relation is the opposite relation.</dd>\n\
     <dt id=\"level\">Level</dt><dd>The first offset of the frame above all that lives when the work on the node begins.</dd>\n\
     <dt id=\"least\">Least words, and those by each rule that applies</dt><dd>So many words the node takes at least in each of four uses: as a \
     value, as a second operand, which leaves in B what was in A, to jump where it is false, and to jump where it is true. A dash: there is no such \
