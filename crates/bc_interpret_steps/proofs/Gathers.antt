@@ -3,8 +3,8 @@ use Rattle.std.proofs.Common.{◌≡◌, ℕ, Bool, true, false, not, List, [], 
 use Rattle.std.proofs.lemmas.List.{append-nil, reverse-append}
 use Rattle.bc_interpret_steps.specs.declared.rests.Rest.{Rest}
 use Rattle.bc_interpret_steps.specs.declared.rests.Rest.TheVariants as rests
-use Rattle.bc_interpret_steps.specs.Code.{given_for, stack, given, then_given, Gathering}
-use Rattle.bc_interpret_steps.proofs.Piles.{given_more}
+use Rattle.bc_interpret_steps.specs.Code.{given_for, stack, given, then_given, Gathering, TakesGiven}
+use Rattle.bc_interpret_steps.proofs.Piles.{given_more, dropped}
 
 reversed_last : (vs : List ℕ) (v : ℕ) → reverse (vs ++ v ∷ []) ≡ v ∷ reverse vs
 reversed_last vs v = reverse-append vs (v ∷ [])
@@ -34,14 +34,26 @@ put_back before old new after r h e f = ap stack (f ∙ sym e) ∙ h
 pub still : (more : Bool) (wanted : List ℕ) (left : List Rest) (vs : List ℕ) → more ≡ true → Gathering more wanted left vs → wanted ≡ given left ++ reverse vs
 still more wanted left vs e h = let P : Bool → Type 0 = λ m. Gathering m wanted left vs in subst P e h
 
-pub gathered_on : (more : Bool) (wanted : List ℕ) (old new : List Rest) (r : Rest) (v : ℕ) (first : Bool) (vs ws : List ℕ) → more ≡ true → Gathering more wanted old vs → old ≡ new ++ r ∷ [] → r ≡ rests.Given v first → ws ≡ vs ++ v ∷ [] → Gathering (not first) wanted new ws
-gathered_on more wanted old new r v first vs ws t h e is w =
-    let P : List ℕ → Type 0 = λ us. Gathering (not first) wanted new us in
-    subst P (sym w) (gathered wanted old new v first vs (e ∙ ap (λ q. new ++ q ∷ []) is) (still more wanted old vs t h))
+-- one is taken
+pub takes_one : (old new : List Rest) (r : Rest) (v : ℕ) (first : Bool) (vs ws : List ℕ) → old ≡ new ++ r ∷ [] → r ≡ rests.Given v first → ws ≡ vs ++ v ∷ [] → TakesGiven (not first) old new vs ws
+takes_one old new r v first vs ws e is w =
+    let split : old ≡ new ++ rests.Given v first ∷ [] = e ∙ ap (λ q. new ++ q ∷ []) is in (
+      dropped old old new v first refl split,
+      λ wanted h.
+          let P : List ℕ → Type 0 = λ us. Gathering (not first) wanted new us in
+          subst P (sym w) (gathered wanted old new v first vs split h),
+    )
+
+-- what stands there is put back
+pub takes_none : (old new after : List Rest) (r : Rest) (vs : List ℕ) → old ≡ new ++ r ∷ [] → ((ws : List ℕ) → then_given ws r ≡ []) → after ≡ new ++ r ∷ [] → TakesGiven false old after vs vs
+takes_none old new after r vs e n f = (put_back old old new after r refl e f, λ wanted h. none_more wanted old new r vs e n h)
 
 -- nothing is left
 pub none_left : (wanted : List ℕ) (old : List Rest) (vs : List ℕ) → old ≡ [] → wanted ≡ given old ++ reverse vs → wanted ≡ reverse vs
 none_left wanted old vs e h = h ∙ ap (λ xs. given xs ++ reverse vs) e
+
+pub none_there : (old new : List Rest) (vs : List ℕ) → old ≡ [] → new ≡ old → TakesGiven false old new vs vs
+none_there old new vs e f = (ap stack f, λ wanted h. none_left wanted old vs e h)
 
 -- all are here
 pub ended : (more : Bool) (wanted : List ℕ) (left : List Rest) (vs : List ℕ) → more ≡ false → Gathering more wanted left vs → reverse vs ≡ wanted

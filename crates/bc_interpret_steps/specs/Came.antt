@@ -30,7 +30,7 @@ use Rattle.bc_interpret_steps.specs.declared.forms.Progress.TheVariants as progr
 use Rattle.bc_interpret_defs.specs.Machine as machine
 use Rattle.bc_interpret_defs.specs.Machine.{give, behind, frame_taken}
 use Rattle.bc_interpret_steps.specs.declared.rests.Rest.{Rest}
-use Rattle.bc_interpret_steps.specs.Code.{work_of, exit_of, stack, given}
+use Rattle.bc_interpret_steps.specs.Code.{work_of, exit_of, stacked, then_given, stack, given}
 
 abbrev pub state_of : State → Content → outcomes.State
 state_of st streams = record { cells = st.store; streams = streams; turns = st.turns }
@@ -66,6 +66,11 @@ Goes f before old p after new = Came (f (stack before)) old p (stack after) (giv
 
 abbrev pub GoesOrMalformed : (List machine.Rest → machine.Step) → (before : List Rest) → (old : State) → Progress → (after : List Rest) → (new : State) → Type 0
 GoesOrMalformed f before old p after new = CameOrMalformed (f (stack before)) old p (stack after) (given after) new
+
+-- this comes next, and that is left to do behind it
+abbrev pub StandsBehind : Rest → Progress → (before : List Rest) → Progress → (after : List Rest) → Type 0
+StandsBehind r next before p after =
+    (stack after ≡ stacked (stack before) (given before) r) × (given after ≡ then_given (given before) r) × (p ≡ next)
 
 -- a turn was taken, or none is left
 abbrev pub Turned : Bool → State → State → Type 0

@@ -176,3 +176,8 @@ Gathered fresh old new arguments = (stack new ≡ stack old) × (reverse argumen
 abbrev pub Gathering : (more : Bool) → (wanted : List ℕ) → (left : List Rest) → (arguments : List ℕ) → Type 0
 Gathering true wanted left arguments = wanted ≡ given left ++ reverse arguments
 Gathering false wanted left arguments = wanted ≡ reverse arguments
+
+-- the argument that is given last was taken, if one was given; and there may be more
+abbrev pub TakesGiven : (more : Bool) → (old new : List Rest) → (before after : List ℕ) → Type 0
+TakesGiven more old new before after =
+    (stack new ≡ stack old) × ((wanted : List ℕ) → Gathering true wanted old before → Gathering more wanted new after)

@@ -123,7 +123,7 @@ pub(crate) fn give_exit<'c>(
     ensures { RunsOver table.now (machine.Give (machine.Left (exit_of exit))) stacks.old.rests state.old result stacks.new.next stacks.new.rests state.new }
 {
     let out = stacks.pass(exit);
-    Ok(hand_exit(table, out, stacks, state)?)
+    hand_exit(table, out, stacks, state)
 }
 
 /// Control has left a command, and what is left to do first takes that.

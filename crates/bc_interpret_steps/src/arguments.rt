@@ -1,9 +1,9 @@
 // The arguments of calls.
 
-ghost use Rattle.std.specs.Prelude.{◌≡◌, ◌∷◌, reverse, IsTrue, OnOk, IfOk};
+ghost use Rattle.std.specs.Prelude.{◌≡◌, ◌∷◌, ◌+◌, ◌<◌, cond, reverse, vec_len, IsTrue, OnOk, IfOk};
 ghost use Rattle.bc_core.specs.View.{exp, args};
 ghost use Rattle.bc_interpret_defs.specs.Machine as machine;
-ghost use Rattle.bc_interpret_steps.specs.Code.{spot_of, given_for, stack, given, Gathered, IsGiven, Taken};
+ghost use Rattle.bc_interpret_steps.specs.Code.{spot_of, given_for, stack, given, Gathered, TakesGiven, IsGiven, Taken};
 ghost use Rattle.bc_interpret_steps.specs.Arrived.{Argued, ArguedLast, IsGivenOne, AreWorth, IsWorkedOut};
 ghost use Rattle.bc_interpret_steps.specs.Came.{sight};
 ghost use Rattle.bc_interpret_steps.specs.Stepped.{Proceeds};
@@ -146,6 +146,28 @@ fn given_by(rest: &Rest<'_>) -> Option<(u16, bool)>
     }
 }
 
+/// Takes the argument that is given last, if one is, and answers whether one is given before it.
+#[inline(always)]
+#[tactic(auto, using(crate::proofs::Gathers::none_there))]
+fn take_given<'c>(rests: &mut Vec<Rest<'c>>, arguments: &mut Vec<u16>) -> Result<bool, Memory>
+    ensures takes { IfOk result (λ more. TakesGiven more rests.old.items rests.new.items arguments.old.items arguments.new.items) }
+    ensures fewer { IfOk result (λ more. vec_len rests.new + cond more 1 0 < vec_len rests.old + 1) }
+{
+    match rests.pop() {
+        None => Ok(false),
+        Some(rest) => match given_by(&rest) {
+            Some((v, first)) => {
+                arguments.push(v)?;
+                Ok(!first)
+            }
+            None => {
+                rests.push(rest)?;
+                Ok(false)
+            }
+        },
+    }
+}
+
 /// Takes the arguments that are given from what is left to do: the last one first. There are none where the call is `fresh`.
 fn gather<'c>(
     fresh: bool,
@@ -157,19 +179,7 @@ fn gather<'c>(
     arguments.clear();
     let mut more = !fresh;
     while more {
-        match rests.pop() {
-            None => more = false,
-            Some(rest) => match given_by(&rest) {
-                Some((v, first)) => {
-                    arguments.push(v)?;
-                    more = !first;
-                }
-                None => {
-                    rests.push(rest)?;
-                    more = false;
-                }
-            },
-        }
+        more = take_given(rests, arguments)?;
     }
     Ok(())
 }

@@ -1,6 +1,6 @@
 // One step into a command or a block.
 
-ghost use Rattle.std.specs.Prelude.{◌≡◌, ◌∷◌, map, IfOk};
+ghost use Rattle.std.specs.Prelude.{ℕ, List, ◌≡◌, ◌∷◌, map, IfOk};
 ghost use Rattle.bc_word.specs.Words.{holds};
 ghost use Rattle.bc_core.specs.Exit.{Past};
 ghost use Rattle.bc_core.specs.Outcome.{choose};
@@ -12,19 +12,50 @@ ghost use Rattle.bc_core.specs.Commands as commands;
 ghost use Rattle.bc_interpret_steps.specs.declared.rests.TruthRest.TheVariants as truth_rests;
 ghost use Rattle.bc_interpret_steps.specs.declared.state.State.{State as StateValue};
 ghost use Rattle.bc_interpret_steps.specs.Code.{spot_of, value_rest, truth_rest};
+ghost use Rattle.bc_interpret_steps.specs.Came.{Came};
 ghost use Rattle.bc_interpret_steps.specs.Stepped.{Proceeds, ProceedsOrMalformed};
 
 use crate::assign::{Assigned, assign_at_once};
-use crate::evaluate::{decide, evaluate, truth_at};
+use crate::evaluate::{decide, decide_part, evaluate, truth_at};
 use crate::forms::{Ending, Entry, Exit, Progress, Spot, Work};
 use crate::lists::listing;
+use crate::numbers::side_level;
 use crate::rests::{ExitRest, NothingRest, Rest, TruthRest, ValueRest, above, put};
-use crate::state::{Stacks, State, put_word, turn};
+use crate::state::{Stacks, State, put_behind, put_word, turn};
 use crate::truths::agrees;
-use bc_core::{Block, Command, Condition, CoreExp, Declaration, ListItem, Variable, operand};
+use bc_core::{Block, Command, Condition, CoreExp, Declaration, ListItem, Variable};
 use bc_interpret_quiet::{Cause, Truth, cell_of};
 use bc_interpret_store::Cell;
 use bc_word::Memory;
+
+/// One step into an assignment, which is passed behind it.
+#[inline(always)]
+fn assign<'c>(
+    spot: Spot<'c>,
+    value: &'c CoreExp,
+    address: &'c CoreExp,
+    s: u32,
+    stacks: &mut Stacks<'c>,
+) -> Result<(), Memory>
+    ensures { (st : StateValue) → Proceeds (machine.perform_step (spot_of spot.entry) (commands.Assign (exp value.now) (exp address.now)) s)
+        stacks.old.rests st result stacks.new.next stacks.new.rests st }
+{
+    put(Rest::Nothing(NothingRest::Passes), &mut stacks.rests)?;
+    stacks.next = Progress::On(Work::Store(spot, value, address, s));
+    Ok(())
+}
+
+/// A jump to this label, which takes a turn.
+#[inline(always)]
+fn jump<'c>(label: u16, state: &mut State) -> Progress<'c>
+    ensures { (E : machine.Spot) (s : ℕ) (rs : List machine.Rest) (vs : List ℕ) → Came (machine.perform_step E (commands.Goto label) s rs) state.old result rs
+        vs state.new }
+{
+    if !turn(state) {
+        return Progress::Going;
+    }
+    Progress::On(Work::Left(Exit::Jumped(label)))
+}
 
 /// One step into a command.
 #[tactic(auto, using(bc_core::proofs::Rows::nested_view))]
@@ -40,11 +71,7 @@ pub(crate) fn perform<'c>(
 {
     match command {
         Command::Call(call) => behind_value(ValueRest::Drops, spot, call, s, stacks, state),
-        Command::Assign { value, address } => {
-            put(Rest::Nothing(NothingRest::Passes), &mut stacks.rests)?;
-            stacks.next = Progress::On(Work::Store(spot, value, address, s));
-            Ok(())
-        }
+        Command::Assign { value, address } => assign(spot, value, address, s, stacks),
         Command::If(condition, body) => if_so(spot, condition, body, s, stacks, state),
         Command::Test(test, this, that) => test_which(spot, test, (this, that), s, stacks, state),
         Command::While(condition, body) => while_loop(spot, condition, body, s, stacks, state),
@@ -86,11 +113,7 @@ pub(crate) fn perform<'c>(
             Ok(())
         }
         Command::Goto(label) => {
-            if !turn(state) {
-                stacks.next = Progress::Going;
-                return Ok(());
-            }
-            stacks.next = Progress::On(Work::Left(Exit::Jumped(*label)));
+            stacks.next = jump(*label, state);
             Ok(())
         }
         Command::Nested(body) => enter(spot, body, s, stacks, state),
@@ -140,7 +163,7 @@ fn behind_value<'c>(
         stacks.new.rests state.now }
 {
     put(Rest::Value(rest), &mut stacks.rests)?;
-    Ok(evaluate(spot, e, s, stacks, state)?)
+    evaluate(spot, e, s, stacks, state)
 }
 
 /// One step into a TEST.
@@ -161,7 +184,7 @@ fn test_which<'c>(
         Rest::Truth(TruthRest::Chooses(spot, this, that, s)),
         &mut stacks.rests,
     )?;
-    Ok(decide(spot, test, s, stacks, state)?)
+    decide(spot, test, s, stacks, state)
 }
 
 /// Into the body of an IF or UNLESS whose condition holds, or past it.
@@ -224,7 +247,7 @@ fn while_body<'c>(
         Rest::Exit(ExitRest::WhileBody(spot, condition, body, s)),
         &mut stacks.rests,
     )?;
-    Ok(enter(spot, body, s, stacks, state)?)
+    enter(spot, body, s, stacks, state)
 }
 
 /// Into the body of a WHILE or UNTIL whose condition holds, or past the loop.
@@ -269,30 +292,23 @@ fn if_so<'c>(
             let holds = agrees(condition.sense, t);
             enter_if(holds, spot, body, s, stacks, state)
         }
-        Some(Truth::Divides) => {
-            put(
-                Rest::Truth(TruthRest::Ifs(spot, condition.sense, body, s)),
-                &mut stacks.rests,
-            )?;
-            stacks.next = Progress::Ended(Ending::ZeroDivide);
-            Ok(())
-        }
-        Some(Truth::Fails(cause)) => {
-            put(
-                Rest::Truth(TruthRest::Ifs(spot, condition.sense, body, s)),
-                &mut stacks.rests,
-            )?;
-            stacks.next = Progress::Wild(cause);
-            Ok(())
-        }
-        None => {
-            put(
-                Rest::Truth(TruthRest::Ifs(spot, condition.sense, body, s)),
-                &mut stacks.rests,
-            )?;
-            stacks.next = Progress::On(Work::Decide(spot, &condition.test, s));
-            Ok(())
-        }
+        Some(Truth::Divides) => put_behind(
+            Rest::Truth(TruthRest::Ifs(spot, condition.sense, body, s)),
+            Progress::Ended(Ending::ZeroDivide),
+            stacks,
+        ),
+        Some(Truth::Fails(cause)) => put_behind(
+            Rest::Truth(TruthRest::Ifs(spot, condition.sense, body, s)),
+            Progress::Wild(cause),
+            stacks,
+        ),
+        None => decide_part(
+            TruthRest::Ifs(spot, condition.sense, body, s),
+            spot,
+            &condition.test,
+            s,
+            stacks,
+        ),
     }
 }
 
@@ -315,30 +331,23 @@ pub(crate) fn while_loop<'c>(
             let holds = agrees(condition.sense, t);
             enter_while(holds, spot, condition, body, s, stacks, state)
         }
-        Some(Truth::Divides) => {
-            put(
-                Rest::Truth(TruthRest::Whiles(spot, condition, body, s)),
-                &mut stacks.rests,
-            )?;
-            stacks.next = Progress::Ended(Ending::ZeroDivide);
-            Ok(())
-        }
-        Some(Truth::Fails(cause)) => {
-            put(
-                Rest::Truth(TruthRest::Whiles(spot, condition, body, s)),
-                &mut stacks.rests,
-            )?;
-            stacks.next = Progress::Wild(cause);
-            Ok(())
-        }
-        None => {
-            put(
-                Rest::Truth(TruthRest::Whiles(spot, condition, body, s)),
-                &mut stacks.rests,
-            )?;
-            stacks.next = Progress::On(Work::Decide(spot, &condition.test, s));
-            Ok(())
-        }
+        Some(Truth::Divides) => put_behind(
+            Rest::Truth(TruthRest::Whiles(spot, condition, body, s)),
+            Progress::Ended(Ending::ZeroDivide),
+            stacks,
+        ),
+        Some(Truth::Fails(cause)) => put_behind(
+            Rest::Truth(TruthRest::Whiles(spot, condition, body, s)),
+            Progress::Wild(cause),
+            stacks,
+        ),
+        None => decide_part(
+            TruthRest::Whiles(spot, condition, body, s),
+            spot,
+            &condition.test,
+            s,
+            stacks,
+        ),
     }
 }
 
@@ -410,11 +419,7 @@ pub(crate) fn store<'c>(
                 Rest::Value(ValueRest::Stores(spot, address, s)),
                 &mut stacks.rests,
             )?;
-            let level = if operand(address).is_some() {
-                s
-            } else {
-                above(s, 1)?
-            };
+            let level = side_level(address, s)?;
             stacks.next = Progress::On(Work::Evaluate(spot, value, level));
             Ok(())
         }
@@ -628,5 +633,5 @@ fn for_body<'c>(
         Rest::Exit(ExitRest::ForBody(spot, limit, by, body, s)),
         &mut stacks.rests,
     )?;
-    Ok(enter(spot, body, level, stacks, state)?)
+    enter(spot, body, level, stacks, state)
 }

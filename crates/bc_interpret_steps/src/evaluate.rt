@@ -1,10 +1,10 @@
 // One step into an expression.
 
-ghost use Rattle.std.specs.Prelude.{◌≡◌, IfOk};
+ghost use Rattle.std.specs.Prelude.{◌≡◌, ◌∷◌, IfOk};
 ghost use Rattle.bc_core.specs.View.{exp, args};
 ghost use Rattle.bc_core.specs.Tree as tree;
 ghost use Rattle.bc_interpret_defs.specs.Machine as machine;
-ghost use Rattle.bc_interpret_steps.specs.Code.{spot_of};
+ghost use Rattle.bc_interpret_steps.specs.Code.{spot_of, number_rest, truth_rest, given};
 ghost use Rattle.bc_interpret_quiet.specs.Views.{IsWorth, IsTruth};
 ghost use Rattle.bc_interpret_steps.specs.declared.state.State.{State as StateValue};
 ghost use Rattle.bc_interpret_steps.specs.Came.{progress_of, progress_of_truth, sight};
@@ -12,8 +12,10 @@ ghost use Rattle.bc_interpret_steps.specs.Stepped.{Proceeds, ProceedsOrMalformed
 
 use crate::arguments::argue;
 use crate::forms::{Arguments, Ending, Progress, Spot, Work};
+use crate::inward::selects;
 use crate::rests::{ExitRest, NumberRest, Rest, TruthRest, above, put};
 use crate::state::{Stacks, State};
+use crate::truths::branch_next;
 use bc_core::CoreExp;
 use bc_interpret_quiet::{Cause, Room, Sight, Truth, Worth, truth_of, worth_of};
 use bc_word::{Memory, Op};
@@ -102,8 +104,49 @@ pub(crate) fn evaluate<'c>(
             stacks.next = settled(worth);
             Ok(())
         }
-        None => Ok(evaluate_parts(spot, e, s, stacks, state)?),
+        None => evaluate_parts(spot, e, s, stacks, state),
     }
+}
+
+/// An operand comes next, and this is done with its value.
+#[inline(always)]
+fn part_of<'c>(
+    rest: NumberRest<'c>,
+    spot: Spot<'c>,
+    part: &'c CoreExp,
+    s: u32,
+    stacks: &mut Stacks<'c>,
+) -> Result<(), Memory>
+    ensures { (st : StateValue) → Proceeds (λ rs. machine.go (machine.Evaluate (spot_of spot.entry) (exp part.now) s)
+        (number_rest (given stacks.old.rests.items) rest.entry ∷ rs)) stacks.old.rests st result stacks.new.next stacks.new.rests st }
+{
+    put(Rest::Number(rest), &mut stacks.rests)?;
+    stacks.next = Progress::On(Work::Evaluate(spot, part, s));
+    Ok(())
+}
+
+/// The first operand of an operator comes next, a level above it.
+#[inline(always)]
+fn operator<'c>(
+    spot: Spot<'c>,
+    op: Op,
+    operands: (&'c CoreExp, &'c CoreExp),
+    s: u32,
+    stacks: &mut Stacks<'c>,
+) -> Result<(), Memory>
+    ensures { (st : StateValue) → Proceeds
+        (machine.evaluate_parts (spot_of spot.entry) (tree.Bin op (exp operands.entry.0.now) (exp operands.entry.1.now)) s) stacks.old.rests st result
+        stacks.new.next stacks.new.rests st }
+{
+    let (left, right) = operands;
+    let level = above(s, 1)?;
+    part_of(
+        NumberRest::Operates(spot, op, right, s),
+        spot,
+        left,
+        level,
+        stacks,
+    )
 }
 
 /// One step into an expression in which a call stands.
@@ -122,29 +165,10 @@ pub(crate) fn evaluate_parts<'c>(
             stacks.next = Progress::Wild(Cause::Malformed);
             Ok(())
         }
-        CoreExp::Load(part) => {
-            put(Rest::Number(NumberRest::Loads), &mut stacks.rests)?;
-            stacks.next = Progress::On(Work::Evaluate(spot, part, s));
-            Ok(())
-        }
-        CoreExp::Neg(part) => {
-            put(Rest::Number(NumberRest::Negates), &mut stacks.rests)?;
-            stacks.next = Progress::On(Work::Evaluate(spot, part, s));
-            Ok(())
-        }
-        CoreExp::Not(part) => {
-            put(Rest::Number(NumberRest::Complements), &mut stacks.rests)?;
-            stacks.next = Progress::On(Work::Evaluate(spot, part, s));
-            Ok(())
-        }
-        CoreExp::Bin(op, left, right) => {
-            put(
-                Rest::Number(NumberRest::Operates(spot, *op, right, s)),
-                &mut stacks.rests,
-            )?;
-            stacks.next = Progress::On(Work::Evaluate(spot, left, above(s, 1)?));
-            Ok(())
-        }
+        CoreExp::Load(part) => part_of(NumberRest::Loads, spot, part, s, stacks),
+        CoreExp::Neg(part) => part_of(NumberRest::Negates, spot, part, s, stacks),
+        CoreExp::Not(part) => part_of(NumberRest::Complements, spot, part, s, stacks),
+        CoreExp::Bin(op, left, right) => operator(spot, *op, (left, right), s, stacks),
         CoreExp::Cond(condition, this, that) => choice(
             spot,
             condition,
@@ -197,14 +221,9 @@ fn choice<'c>(
     ensures { Proceeds (machine.evaluate_parts (spot_of spot.entry) (tree.Cond (exp condition.now) (exp branches.entry.0.now) (exp branches.entry.1.now)) s)
         stacks.old.rests state.now result stacks.new.next stacks.new.rests state.now }
 {
-    let (this, that) = branches;
     match truth_at(&spot, condition, &mut stacks.room, state)? {
         Some(Truth::Is(t)) => {
-            if t {
-                stacks.next = Progress::On(Work::Evaluate(spot, this, s));
-                return Ok(());
-            }
-            stacks.next = Progress::On(Work::Evaluate(spot, that, s));
+            stacks.next = branch_next(t, spot, branches, s);
             Ok(())
         }
         Some(Truth::Divides) => {
@@ -215,14 +234,7 @@ fn choice<'c>(
             stacks.next = Progress::Wild(cause);
             Ok(())
         }
-        None => {
-            put(
-                Rest::Truth(TruthRest::Selects(spot, this, that, s)),
-                &mut stacks.rests,
-            )?;
-            stacks.next = Progress::On(Work::Decide(spot, condition, s));
-            Ok(())
-        }
+        None => selects(spot, condition, branches, s, stacks),
     }
 }
 
@@ -268,8 +280,25 @@ pub(crate) fn decide<'c>(
             stacks.next = verdict(truth);
             Ok(())
         }
-        None => Ok(decide_parts(spot, e, s, stacks)?),
+        None => decide_parts(spot, e, s, stacks),
     }
+}
+
+/// The truth of an operand comes next, and this is done with it.
+#[inline(always)]
+pub(crate) fn decide_part<'c>(
+    rest: TruthRest<'c>,
+    spot: Spot<'c>,
+    part: &'c CoreExp,
+    s: u32,
+    stacks: &mut Stacks<'c>,
+) -> Result<(), Memory>
+    ensures { (st : StateValue) → Proceeds (λ rs. machine.go (machine.Decide (spot_of spot.entry) (exp part.now) s) (truth_rest rest.entry ∷ rs))
+        stacks.old.rests st result stacks.new.next stacks.new.rests st }
+{
+    put(Rest::Truth(rest), &mut stacks.rests)?;
+    stacks.next = Progress::On(Work::Decide(spot, part, s));
+    Ok(())
 }
 
 /// One step into an expression in which a call stands and whose truth is wanted.
@@ -283,11 +312,7 @@ fn decide_parts<'c>(
         (machine.decide_parts (spot_of spot.entry) (exp e.now) s) stacks.old.rests st result stacks.new.next stacks.new.rests st }
 {
     match e {
-        CoreExp::Not(part) => {
-            put(Rest::Truth(TruthRest::Opposes), &mut stacks.rests)?;
-            stacks.next = Progress::On(Work::Decide(spot, part, s));
-            Ok(())
-        }
+        CoreExp::Not(part) => decide_part(TruthRest::Opposes, spot, part, s, stacks),
         CoreExp::Bin(Op::And, left, right) => {
             put(
                 Rest::Truth(TruthRest::Conjoins(spot, right, s)),

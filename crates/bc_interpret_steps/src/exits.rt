@@ -15,7 +15,7 @@ use crate::forms::{Entry, Exit, Progress, Spot, Work};
 use crate::lists::{has_label, listing};
 use crate::rests::{ExitRest, NothingRest, Rest, TruthRest, ValueRest, above, put};
 use crate::state::{Stacks, State, put_word, turn};
-use bc_core::{Block, Condition, ListItem};
+use bc_core::{Block, Condition, CoreExp, ListItem};
 use bc_interpret_quiet::{Cause, cell_of};
 use bc_interpret_store::Cell;
 use bc_word::Memory;
@@ -356,6 +356,28 @@ fn behind_cases(exit: Exit) -> Exit
     }
 }
 
+/// The variable of a FOR is set, and the limit comes next.
+#[inline(always)]
+fn limits<'c>(
+    spot: Spot<'c>,
+    limit: &'c CoreExp,
+    turns: (u16, &'c Block),
+    s: u32,
+    stacks: &mut Stacks<'c>,
+) -> Result<(), Memory>
+    ensures { (st : StateValue) → Takes (machine.Limits (spot_of spot.entry) (exp limit.now) turns.entry.0 (block_of turns.entry.1.now) s) machine.Nothing
+        stacks.old.rests st result stacks.new.next stacks.new.rests st }
+{
+    let (by, body) = turns;
+    let level = above(s, 2)?;
+    put(
+        Rest::Value(ValueRest::Fors(spot, by, body, s)),
+        &mut stacks.rests,
+    )?;
+    stacks.next = Progress::On(Work::Evaluate(spot, limit, level));
+    Ok(())
+}
+
 /// What is done behind a store or an initialiser.
 pub(crate) fn nothing_taken<'c>(
     rest: &NothingRest<'c>,
@@ -369,12 +391,7 @@ pub(crate) fn nothing_taken<'c>(
             Ok(())
         }
         NothingRest::Limits(spot, limit, by, body, s) => {
-            put(
-                Rest::Value(ValueRest::Fors(*spot, *by, body, *s)),
-                &mut stacks.rests,
-            )?;
-            stacks.next = Progress::On(Work::Evaluate(*spot, limit, above(*s, 2)?));
-            Ok(())
+            limits(*spot, limit, (*by, body), *s, stacks)
         }
         NothingRest::Declares(spot, declarations, items, s, level) => {
             stacks.next = Progress::On(Work::Declare(*spot, declarations, items, *s, *level));

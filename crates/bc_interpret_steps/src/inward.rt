@@ -299,7 +299,7 @@ fn enter_any<'c>(
 }
 
 /// A condition in which a call stands comes next, and one of the branches is left to do.
-fn selects<'c>(
+pub(crate) fn selects<'c>(
     spot: Spot<'c>,
     condition: &'c CoreExp,
     branches: (&'c CoreExp, &'c CoreExp),

@@ -1,17 +1,23 @@
 // What is done with a number.
 
+ghost use Rattle.std.specs.Prelude.{◌≡◌, IfOk};
+ghost use Rattle.bc_core.specs.Level.{side_level as level_of_side};
+ghost use Rattle.bc_core.specs.Lists.{has_case as has_case_of, entry_of as entry_of_switch};
+ghost use Rattle.bc_core.specs.View.{exp, items as items_view};
 ghost use Rattle.bc_interpret_defs.specs.Machine as machine;
-ghost use Rattle.bc_interpret_steps.specs.Code.{number_rest, value_rest, given};
+ghost use Rattle.bc_interpret_steps.specs.declared.rests.NumberRest.TheVariants as number_rests;
+ghost use Rattle.bc_interpret_steps.specs.declared.state.State.{State as StateValue};
+ghost use Rattle.bc_interpret_steps.specs.Code.{number_rest, value_rest, given, spot_of, entry_of};
 ghost use Rattle.bc_interpret_steps.specs.Stepped.{Takes, Gives};
 
-use crate::forms::{Arguments, Ending, Entry, Exit, Progress, Work};
+use crate::forms::{Arguments, Ending, Entry, Exit, Progress, Spot, Work};
 use crate::lists::has_case;
 use crate::rests::{ExitRest, NumberRest, Rest, ValueRest, above, put};
 use crate::state::{Stacks, State, put_word};
-use bc_core::operand;
+use bc_core::{CoreExp, ListItem, operand};
 use bc_interpret_quiet::Cause;
 use bc_interpret_store::Cell;
-use bc_word::{Memory, Word, apply};
+use bc_word::{Memory, Op, Word, apply};
 
 /// The word of the cell at this address.
 #[inline(always)]
@@ -26,8 +32,54 @@ fn load<'c>(v: u16, state: &State) -> Progress<'c>
     }
 }
 
-/// What is done with a number within an expression.
+/// An operator has its first operand, and the second one comes next.
+#[inline(always)]
+fn operates<'c>(
+    spot: Spot<'c>,
+    operator: (Op, &'c CoreExp),
+    s: u32,
+    v: u16,
+    stacks: &mut Stacks<'c>,
+) -> Result<(), Memory>
+    ensures { (st : StateValue) → Takes (machine.Operates (spot_of spot.entry) operator.entry.0 (exp operator.entry.1.now) s) (machine.Number v)
+        stacks.old.rests st result stacks.new.next stacks.new.rests st }
+{
+    let (op, second) = operator;
+    let level = above(s, 1)?;
+    put(Rest::Number(NumberRest::Operated(op, v)), &mut stacks.rests)?;
+    stacks.next = Progress::On(Work::Evaluate(spot, second, level));
+    Ok(())
+}
+
+/// An operator has both operands.
+#[inline(always)]
 #[tactic(auto, using(crate::proofs::Loads::operated, crate::proofs::Loads::not_operated))]
+fn operated<'c>(op: Op, x: u16, v: u16) -> Progress<'c>
+    ensures { (st : StateValue) → Gives (machine.Operated op x) (machine.Number v) st result st }
+{
+    match apply(op, Word::new(x), Word::new(v)) {
+        Some(w) => Progress::On(Work::Number(w.get())),
+        None => Progress::Ended(Ending::ZeroDivide),
+    }
+}
+
+/// An argument is given, and those behind it come next.
+#[inline(always)]
+fn argues<'c>(arguments: &Arguments<'c>, v: u16, stacks: &mut Stacks<'c>) -> Result<(), Memory>
+    ensures { (st : StateValue) → Takes (number_rest (given stacks.old.rests.items) (number_rests.Argues arguments.now)) (machine.Number v)
+        stacks.old.rests st result stacks.new.next stacks.new.rests st }
+{
+    let level = above(arguments.level, 1)?;
+    put(Rest::Given(v, arguments.fresh), &mut stacks.rests)?;
+    stacks.next = Progress::On(Work::Argue(Arguments {
+        level,
+        fresh: false,
+        ..*arguments
+    }));
+    Ok(())
+}
+
+/// What is done with a number within an expression.
 pub(crate) fn number_taken<'c>(
     rest: &NumberRest<'c>,
     v: u16,
@@ -54,33 +106,12 @@ pub(crate) fn number_taken<'c>(
             stacks.next = Progress::On(Work::Verdict(v != 0));
             Ok(())
         }
-        NumberRest::Operates(spot, op, e, s) => {
-            put(
-                Rest::Number(NumberRest::Operated(*op, v)),
-                &mut stacks.rests,
-            )?;
-            stacks.next = Progress::On(Work::Evaluate(*spot, e, above(*s, 1)?));
+        NumberRest::Operates(spot, op, e, s) => operates(*spot, (*op, e), *s, v, stacks),
+        NumberRest::Operated(op, x) => {
+            stacks.next = operated(*op, *x, v);
             Ok(())
         }
-        NumberRest::Operated(op, x) => match apply(*op, Word::new(*x), Word::new(v)) {
-            Some(w) => {
-                stacks.next = Progress::On(Work::Number(w.get()));
-                Ok(())
-            }
-            None => {
-                stacks.next = Progress::Ended(Ending::ZeroDivide);
-                Ok(())
-            }
-        },
-        NumberRest::Argues(arguments) => {
-            put(Rest::Given(v, arguments.fresh), &mut stacks.rests)?;
-            stacks.next = Progress::On(Work::Argue(Arguments {
-                level: above(arguments.level, 1)?,
-                fresh: false,
-                ..*arguments
-            }));
-            Ok(())
-        }
+        NumberRest::Argues(arguments) => argues(arguments, v, stacks),
     }
 }
 
@@ -96,6 +127,69 @@ fn store<'c>(address: u16, word: u16, state: &mut State) -> Progress<'c>
     }
 }
 
+/// The level of both sides of an assignment to this address.
+#[inline(always)]
+pub(crate) fn side_level(address: &CoreExp, s: u32) -> Result<u32, Memory>
+    ensures { IfOk result (λ level. level ≡ level_of_side (exp address.now) s) }
+{
+    if operand(address).is_some() {
+        Ok(s)
+    } else {
+        above(s, 1)
+    }
+}
+
+/// An assignment has its value, and the address comes next.
+#[inline(always)]
+fn stores<'c>(
+    spot: Spot<'c>,
+    address: &'c CoreExp,
+    s: u32,
+    v: u16,
+    stacks: &mut Stacks<'c>,
+) -> Result<(), Memory>
+    ensures { (st : StateValue) → Takes (machine.Stores (spot_of spot.entry) (exp address.now) s) (machine.Number v) stacks.old.rests st result
+        stacks.new.next stacks.new.rests st }
+{
+    let level = side_level(address, s)?;
+    put(Rest::Value(ValueRest::Stored(v)), &mut stacks.rests)?;
+    stacks.next = Progress::On(Work::Evaluate(spot, address, level));
+    Ok(())
+}
+
+/// Where the list of a SWITCHON on this number is entered.
+#[inline(always)]
+fn case_of(items: &[ListItem], v: u16) -> Entry
+    ensures { entry_of result ≡ entry_of_switch (has_case_of (items_view items.now)) v }
+{
+    if has_case(items, v) {
+        Entry::AtCase(v)
+    } else {
+        Entry::AtDefault
+    }
+}
+
+/// A SWITCHON has its number, and its list comes next.
+#[inline(always)]
+fn switches<'c>(
+    spot: Spot<'c>,
+    items: &'c [ListItem],
+    s: u32,
+    v: u16,
+    stacks: &mut Stacks<'c>,
+) -> Result<(), Memory>
+    ensures { (st : StateValue) → Takes (machine.Switches (spot_of spot.entry) (items_view items.now) s) (machine.Number v) stacks.old.rests st result
+        stacks.new.next stacks.new.rests st }
+{
+    put(Rest::Exit(ExitRest::Cases), &mut stacks.rests)?;
+    put(
+        Rest::Exit(ExitRest::Listed(spot, items, s)),
+        &mut stacks.rests,
+    )?;
+    stacks.next = Progress::On(Work::Listing(spot, items, s, case_of(items, v)));
+    Ok(())
+}
+
 /// What is done with the number that an expression comes to in a command.
 pub(crate) fn value_taken<'c>(
     rest: &ValueRest<'c>,
@@ -106,16 +200,7 @@ pub(crate) fn value_taken<'c>(
     ensures { Takes (value_rest rest.now) (machine.Number v) stacks.old.rests state.old result stacks.new.next stacks.new.rests state.new }
 {
     match rest {
-        ValueRest::Stores(spot, address, s) => {
-            put(Rest::Value(ValueRest::Stored(v)), &mut stacks.rests)?;
-            let level = if operand(address).is_some() {
-                *s
-            } else {
-                above(*s, 1)?
-            };
-            stacks.next = Progress::On(Work::Evaluate(*spot, address, level));
-            Ok(())
-        }
+        ValueRest::Stores(spot, address, s) => stores(*spot, address, *s, v, stacks),
         ValueRest::Stored(word) => {
             stacks.next = store(v, *word, state);
             Ok(())
@@ -132,20 +217,7 @@ pub(crate) fn value_taken<'c>(
             stacks.next = Progress::On(Work::Round(*spot, v, *by, body, *s));
             Ok(())
         }
-        ValueRest::Switches(spot, items, s) => {
-            put(Rest::Exit(ExitRest::Cases), &mut stacks.rests)?;
-            put(
-                Rest::Exit(ExitRest::Listed(*spot, items, *s)),
-                &mut stacks.rests,
-            )?;
-            let entry = if has_case(items, v) {
-                Entry::AtCase(v)
-            } else {
-                Entry::AtDefault
-            };
-            stacks.next = Progress::On(Work::Listing(*spot, items, *s, entry));
-            Ok(())
-        }
+        ValueRest::Switches(spot, items, s) => switches(*spot, items, *s, v, stacks),
         ValueRest::Leaves => {
             stacks.next = Progress::On(Work::Left(Exit::Resulted(v)));
             Ok(())

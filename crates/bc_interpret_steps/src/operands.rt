@@ -49,8 +49,8 @@ pub(crate) fn hand_number<'c>(
     ensures { RunsOver table.now (machine.Give (machine.Number v)) stacks.old.rests state.old result stacks.new.next stacks.new.rests state.new }
 {
     match waiting(stacks.rests.as_slice()) {
-        Some(operator) => Ok(second(table, operator, v, stacks, state)?),
-        None => Ok(give_number(table, v, stacks, state)?),
+        Some(operator) => second(table, operator, v, stacks, state),
+        None => give_number(table, v, stacks, state),
     }
 }
 

@@ -1,12 +1,13 @@
 // The store and the turns of a run, and memory that serves again.
 
-ghost use Rattle.std.specs.Prelude.{◌≡◌};
-ghost use Rattle.bc_interpret_steps.specs.Came.{Turned, Wrote};
+ghost use Rattle.std.specs.Prelude.{◌≡◌, OnOk};
+ghost use Rattle.bc_interpret_steps.specs.Came.{Turned, Wrote, StandsBehind};
 
 use crate::forms::Progress;
-use crate::rests::Rest;
+use crate::rests::{Rest, put};
 use bc_interpret_quiet::{Cause, Room};
 use bc_interpret_store::Store;
+use bc_word::Memory;
 
 /// The store, and the turns that are left.
 #[derive(Drop)]
@@ -60,4 +61,20 @@ pub(crate) fn put_word(state: &mut State, address: u16, word: u16) -> Option<Cau
     } else {
         Some(Cause::NoCell(address))
     }
+}
+
+/// This comes next, and that is left to do behind it.
+///
+/// `Memory` comes where an allocation was refused.
+#[inline(always)]
+pub(crate) fn put_behind<'c>(
+    rest: Rest<'c>,
+    next: Progress<'c>,
+    stacks: &mut Stacks<'c>,
+) -> Result<(), Memory>
+    ensures { OnOk result (StandsBehind rest.entry next.entry stacks.old.rests.items stacks.new.next stacks.new.rests.items) }
+{
+    put(rest, &mut stacks.rests)?;
+    stacks.next = next;
+    Ok(())
 }

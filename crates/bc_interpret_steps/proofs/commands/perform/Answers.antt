@@ -5,7 +5,7 @@ use Rattle.bc_core.specs.View.{exp, items, command, block_of}
 use Rattle.bc_core.proofs.Rows.{if_view, test_view, while_view, repeat_view, repeat_while_view, for_view, switchon_view, nested_view}
 use Rattle.bc_interpret_defs.specs.Machine as machine
 use Rattle.bc_interpret_defs.specs.Machine.{perform_step}
-use Rattle.bc_interpret_steps.specs.Code.{spot_of}
+use Rattle.bc_interpret_steps.specs.Code.{spot_of, stack, given}
 use Rattle.bc_interpret_steps.specs.Came.{Goes, GoesOrMalformed}
 use Rattle.bc_interpret_steps.proofs.Quiet.{loosened}
 use Rattle.bc_interpret_steps.proofs.commands.perform.Goals as goal
@@ -81,3 +81,17 @@ returns-in-For c =
     on_ok_weaker c.for_loop.result (λ h. loosened (perform_step (spot_of c.args.spot) (command c.args.command.now) c.args.s) c.args.stacks.now.rests.items c.args.state.now c.for_loop.new.stacks.next c.for_loop.new.stacks.rests.items c.for_loop.new.state
     (subst (λ k. Goes (perform_step (spot_of c.args.spot) k c.args.s) c.args.stacks.now.rests.items c.args.state.now c.for_loop.new.stacks.next c.for_loop.new.stacks.rests.items c.for_loop.new.state)
     (sym (ap command t.is ∙ (for_view t.start t.limit t.by t.body ∙ sym (ap (λ n. commands.For (exp t.start) (exp t.limit) n (block_of t.body)) c.get.ensures.same)))) h)) c.for_loop.ensures
+
+pub returns-in-Assign : goal.returns-in-Assign
+returns-in-Assign c =
+    let st = c.args.state.now in
+    let f = c.assign in
+    on_ok_weaker f.result (λ h. loosened (perform_step (spot_of c.args.spot) (command c.args.command.now) c.args.s) c.args.stacks.now.rests.items st f.new.stacks.next f.new.stacks.rests.items st
+    (subst (λ k. Goes (perform_step (spot_of c.args.spot) k c.args.s) c.args.stacks.now.rests.items st f.new.stacks.next f.new.stacks.rests.items st) (sym (ap command c.in-Assign.is)) h)) (f.ensures st)
+
+pub returns-in-Goto : goal.returns-in-Goto
+returns-in-Goto c =
+    let before = c.args.stacks.now.rests.items in
+    let j = c.jump-stacks in
+    subst (λ k. GoesOrMalformed (perform_step (spot_of c.args.spot) k c.args.s) before c.args.state.now j.result before j.new.state) (sym (ap command c.in-Goto.is))
+    (loosened (perform_step (spot_of c.args.spot) (commands.Goto c.in-Goto.label) c.args.s) before c.args.state.now j.result before j.new.state (j.ensures (spot_of c.args.spot) c.args.s (stack before) (given before)))

@@ -1,11 +1,12 @@
-use Rattle.std.proofs.Common.{refl}
+use Rattle.std.proofs.Common.{◌≡◌, [], Option, None, subst}
+use Rattle.std.proofs.lemmas.Result.{on_ok_weaker}
 use Rattle.bc_core.specs.View.{exp}
-use Rattle.bc_interpret_steps.specs.declared.forms.Progress.TheVariants as progress
-use Rattle.bc_interpret_steps.specs.declared.forms.Work.TheVariants as works
 use Rattle.bc_interpret_steps.specs.Code.{spot_of, stack, given}
 use Rattle.bc_interpret_steps.specs.Came.{sight}
+use Rattle.bc_interpret_quiet.specs.declared.worth.Truth.{Truth}
 use Rattle.bc_interpret_quiet.specs.declared.worth.Truth.TheVariants as truths
-use Rattle.bc_interpret_steps.proofs.Quiet.{told_truth, choice_this, choice_that, choice_divides, choice_fails}
+use Rattle.bc_interpret_quiet.specs.Views.{IsTruth}
+use Rattle.bc_interpret_steps.proofs.Quiet.{told_truth, choice_on, choice_divides, choice_fails, choice_calls}
 use Rattle.bc_interpret_steps.proofs.evaluate.choice.Goals as goal
 
 pub returns-in-Some-Fails : goal.returns-in-Some-Fails
@@ -24,18 +25,22 @@ returns-in-Some-Divides c =
     let told = told_truth (sight st E) (exp c.args.condition.now) c.in_ok-t.field-0 truths.Divides c.in_ok-t.ensures cc in
     choice_divides E (exp c.args.condition.now) (exp c.args.branches.0.now) (exp c.args.branches.1.now) c.args.s (stack before) st (given before) told.0 told.1
 
-pub returns-then-t : goal.returns-then-t
-returns-then-t c =
+pub returns-in-Some-Is : goal.returns-in-Some-Is
+returns-in-Some-Is c =
     let E = spot_of c.args.spot in
     let st = c.args.state.now in
     let before = c.args.stacks.now.rests.items in
     let told = told_truth (sight st E) (exp c.args.condition.now) c.in_ok-t.field-0 (truths.Is c.in-Some-Is.t) c.in_ok-t.ensures cc in
-    choice_this E (exp c.args.condition.now) (exp c.args.branches.0.now) (exp c.args.branches.1.now) c.args.s (stack before) st c.in-Some-Is.t (progress.On (works.Evaluate c.args.spot c.args.branches.0 c.args.s)) (given before) told.0 told.1 c.if-t.true (λ streams. refl)
+    choice_on E (exp c.args.condition.now) (exp c.args.branches.0.now) (exp c.args.branches.1.now) c.args.s (stack before) st c.in-Some-Is.t c.branch_next-stacks.result (given before) told.0 told.1
+    (c.branch_next-stacks.ensures st [] (stack before) (given before))
 
-pub returns-else-t : goal.returns-else-t
-returns-else-t c =
+pub returns-in-None : goal.returns-in-None
+returns-in-None c =
     let E = spot_of c.args.spot in
     let st = c.args.state.now in
-    let before = c.args.stacks.now.rests.items in
-    let told = told_truth (sight st E) (exp c.args.condition.now) c.in_ok-t.field-0 (truths.Is c.in-Some-Is.t) c.in_ok-t.ensures cc in
-    choice_that E (exp c.args.condition.now) (exp c.args.branches.0.now) (exp c.args.branches.1.now) c.args.s (stack before) st c.in-Some-Is.t (progress.On (works.Evaluate c.args.spot c.args.branches.1 c.args.s)) (given before) told.0 told.1 c.if-t.false (λ streams. refl)
+    let f = c.selects in
+    let after = f.new.stacks.rests.items in
+    let P : Option Truth → Type 0 = λ o. IsTruth (sight st E) (exp c.args.condition.now) o in
+    let is : c.in_ok-t.field-0 ≡ None = cc in
+    let calls = subst P is c.in_ok-t.ensures in
+    on_ok_weaker f.result (λ h. choice_calls E (exp c.args.condition.now) (exp c.args.branches.0.now) (exp c.args.branches.1.now) c.args.s (stack c.args.stacks.now.rests.items) st f.new.stacks.next (stack after) (given after) calls h) (f.ensures st)

@@ -1,0 +1,14 @@
+use Rattle.std.proofs.Common.{sym, ap, subst, ◌∙◌, OnOk}
+use Rattle.bc_core.specs.Tree as tree
+use Rattle.bc_core.specs.View.{exp}
+use Rattle.bc_interpret_defs.specs.Machine as machine
+use Rattle.bc_interpret_steps.specs.Code.{spot_of}
+use Rattle.bc_interpret_steps.specs.Came.{Goes}
+use Rattle.bc_interpret_steps.proofs.evaluate.decide_parts.Goals as goal
+
+pub returns-in-Not : goal.returns-in-Not
+returns-in-Not c st =
+    let f = c.decide_part in
+    let q = c.deref.ensures in
+    subst (λ e. OnOk f.result (Goes (machine.decide_parts (spot_of c.args.spot) e c.args.s) c.args.stacks.now.rests.items st f.new.stacks.next f.new.stacks.rests.items st))
+    ((λ i. tree.Not (exp (q i))) ∙ sym (ap exp c.in-Not.is)) (f.ensures st)
