@@ -56,7 +56,7 @@ pub fn arguments_behind(tokens: &[Token<'_>], open: usize) -> Option<usize> {
 }
 
 /// Whether a name is assigned to anywhere.
-fn is_changed_anywhere(tokens: &[Token<'_>], name: &[u8]) -> bool {
+pub fn is_changed_anywhere(tokens: &[Token<'_>], name: &[u8]) -> bool {
     tokens.iter().enumerate().any(|(index, _)| {
         name_at(tokens, index) == Some(name)
             && is_at(tokens, index.saturating_add(1), Symbol::Assign)

@@ -16,7 +16,7 @@ fn leaves(symbol: Symbol) -> bool {
 }
 
 /// Whether a command that begins with the token with this index is carried out only under a condition whose DO is left out.
-fn is_conditional(tokens: &[Token<'_>], index: usize) -> bool {
+pub fn is_conditional(tokens: &[Token<'_>], index: usize) -> bool {
     let mut at = index;
     for _ in 0..index {
         at = at.saturating_sub(1);
