@@ -27,18 +27,23 @@ fn has_do(lines: &[u8]) -> bool {
     false
 }
 
-/// Where `||` begins a comment with THEN or DO behind the token with this index.
-fn comment_behind(sources: &[Source<'_>], tokens: &[Token<'_>], index: usize) -> Option<Span> {
-    let token = tokens.get(index)?;
-    let text = sources.get(token.file)?.text;
-    let rest = text.get(token.end..)?;
+/// What stands behind a token in its file.
+fn text_behind<'s>(sources: &[Source<'s>], token: &Token<'_>) -> &'s [u8] {
+    match sources.get(token.file) {
+        Some(source) => &source.text[token.end.min(source.text.len())..],
+        None => b"",
+    }
+}
+
+/// Where `||` begins a comment with THEN or DO behind a token.
+fn comment_behind(sources: &[Source<'_>], token: &Token<'_>) -> Option<Span> {
+    let rest = text_behind(sources, token);
     let comment = rest.trim_ascii_start();
     if !comment.starts_with(b"||") || !has_do(comment) {
         return None;
     }
-    let start = token
-        .end
-        .saturating_add(rest.len().saturating_sub(comment.len()));
+    let blanks = rest.len().saturating_sub(comment.len());
+    let start = token.end.saturating_add(blanks);
     Some(Span {
         file: token.file,
         start,
@@ -49,11 +54,10 @@ fn comment_behind(sources: &[Source<'_>], tokens: &[Token<'_>], index: usize) ->
 /// Where a comment begins with `||` that takes the THEN or DO of a condition, so that the command that begins with the token with this
 /// index, on the next line, belongs to it.
 pub fn swallowed_do(sources: &[Source<'_>], tokens: &[Token<'_>], index: usize) -> Option<Span> {
-    let last = index.checked_sub(1)?;
     if !is_separated(tokens, index) {
         return None;
     }
-    let comment = comment_behind(sources, tokens, last)?;
+    let comment = comment_behind(sources, tokens.get(index.saturating_sub(1))?)?;
     if is_conditional(tokens, index) {
         Some(comment)
     } else {

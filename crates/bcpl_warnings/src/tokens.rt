@@ -1,4 +1,4 @@
-use bc_lex_tokens::{Token, TokenKind};
+use bc_lex_tokens::{Symbol, Token, TokenKind};
 use bc_parse_close::{is_symbol_beginning, is_symbol_end};
 pub use bcpl_messages::{is_at, symbol_at};
 
@@ -13,6 +13,16 @@ pub fn name_at<'s>(tokens: &[Token<'s>], index: usize) -> Option<&'s [u8]> {
         ) => Some(*name),
         _ => None,
     }
+}
+
+/// Whether the token with this index opens a bracket or a section.
+pub fn opens_at(tokens: &[Token<'_>], index: usize) -> bool {
+    is_at(tokens, index, Symbol::OpenBracket) || is_at(tokens, index, Symbol::OpenSection)
+}
+
+/// Whether the token with this index closes a bracket or a section.
+pub fn closes_at(tokens: &[Token<'_>], index: usize) -> bool {
+    is_at(tokens, index, Symbol::CloseBracket) || is_at(tokens, index, Symbol::CloseSection)
 }
 
 /// Whether a line break stands in front of the token with this index.
