@@ -1,6 +1,6 @@
 use crate::declared::Declarations;
 use crate::routines::is_defined;
-use crate::tokens::{closes_at, is_at, is_line_start, name_at, opens_at};
+use crate::tokens::{closes_at, is_at, is_line_start, name_at, opens_at, stands_before};
 use bc_lex_tokens::{Symbol, Token};
 
 /// A call with fewer arguments than the routine has parameters.
@@ -17,14 +17,6 @@ pub fn is_called(tokens: &[Token<'_>], index: usize) -> bool {
         && is_at(tokens, next, Symbol::OpenBracket)
         && !is_line_start(tokens, next)
         && !is_defined(tokens, index)
-}
-
-/// Whether a name is assigned to, or its address taken, by the token with this index.
-pub fn is_changed(tokens: &[Token<'_>], index: usize) -> bool {
-    let next = index.saturating_add(1);
-    is_at(tokens, next, Symbol::Assign)
-        || is_at(tokens, next, Symbol::Comma)
-        || index > 0 && is_at(tokens, index - 1, Symbol::AddressOf)
 }
 
 /// How many arguments these commas part, where as many conditions stand among them as there are arrows, each with a comma of its own.
@@ -58,14 +50,6 @@ pub fn arguments_behind(tokens: &[Token<'_>], open: usize) -> Option<usize> {
     None
 }
 
-/// Whether a name is assigned to anywhere.
-pub fn is_changed_anywhere(tokens: &[Token<'_>], name: &[u8]) -> bool {
-    tokens.iter().enumerate().any(|(index, _)| {
-        name_at(tokens, index) == Some(name)
-            && is_at(tokens, index.saturating_add(1), Symbol::Assign)
-    })
-}
-
 /// What is missing where the token with this index calls a routine of the main with fewer arguments than it has parameters.
 pub fn missing_arguments(
     tokens: &[Token<'_>],
@@ -78,7 +62,7 @@ pub fn missing_arguments(
     let name = name_at(tokens, index)?;
     let parameters = declarations.parameters(name)?;
     let arguments = arguments_behind(tokens, index.saturating_add(1))?;
-    if arguments < parameters && !is_changed_anywhere(tokens, name) {
+    if arguments < parameters && !stands_before(tokens, name, Symbol::Assign) {
         Some(Missing {
             arguments,
             parameters,

@@ -1,5 +1,5 @@
 use crate::globals::list_of;
-use crate::tokens::{is_at, is_separated, name_at, symbol_at};
+use crate::tokens::{is_at, is_separated, name_at, stands_behind, symbol_at};
 use bc_lex_tokens::{Symbol, Token};
 
 /// Whether the token with this index is the name of a label where its list of commands has it.
@@ -22,13 +22,7 @@ fn is_label(tokens: &[Token<'_>], index: usize) -> bool {
 /// Whether the token with this index looks like the word DEFAULT, where it is a label that no GOTO names.
 pub fn idle_label(tokens: &[Token<'_>], index: usize) -> Option<bool> {
     let name = name_at(tokens, index)?;
-    if !is_label(tokens, index) {
-        return None;
-    }
-    let is_named = tokens.iter().enumerate().any(|(at, _)| {
-        at > 0 && name_at(tokens, at) == Some(name) && is_at(tokens, at - 1, Symbol::Goto)
-    });
-    if is_named {
+    if !is_label(tokens, index) || stands_behind(tokens, name, Symbol::Goto) {
         return None;
     }
     Some(name.eq_ignore_ascii_case(b"DEFAULT") || name.eq_ignore_ascii_case(b"OTHERWISE"))

@@ -25,6 +25,26 @@ pub fn closes_at(tokens: &[Token<'_>], index: usize) -> bool {
     is_at(tokens, index, Symbol::CloseBracket) || is_at(tokens, index, Symbol::CloseSection)
 }
 
+/// Whether this name stands somewhere with this symbol right in front of it.
+pub fn stands_behind(tokens: &[Token<'_>], name: &[u8], symbol: Symbol) -> bool {
+    for (at, _) in tokens.iter().enumerate() {
+        if is_at(tokens, at, symbol) && name_at(tokens, at.saturating_add(1)) == Some(name) {
+            return true;
+        }
+    }
+    false
+}
+
+/// Whether this name stands somewhere with this symbol right behind it.
+pub fn stands_before(tokens: &[Token<'_>], name: &[u8], symbol: Symbol) -> bool {
+    for (at, _) in tokens.iter().enumerate() {
+        if name_at(tokens, at) == Some(name) && is_at(tokens, at.saturating_add(1), symbol) {
+            return true;
+        }
+    }
+    false
+}
+
 /// Whether a line break stands in front of the token with this index.
 pub fn is_line_start(tokens: &[Token<'_>], index: usize) -> bool {
     match tokens.get(index) {

@@ -1,6 +1,6 @@
-use crate::arguments::{is_called, is_changed_anywhere};
+use crate::arguments::is_called;
 use crate::declared::Declarations;
-use crate::tokens::{is_at, name_at};
+use crate::tokens::{is_at, name_at, stands_before};
 use bc_lex_tokens::{Symbol, Token};
 
 /// Whether no section that is open at the first token is closed in front of the second.
@@ -38,7 +38,7 @@ pub fn is_vector_called(
         Some(at) => {
             is_at(tokens, at.saturating_add(2), Symbol::Vector)
                 && is_open_still(tokens, at, index)
-                && !is_changed_anywhere(tokens, name)
+                && !stands_before(tokens, name, Symbol::Assign)
         }
         None => false,
     }
