@@ -1,6 +1,6 @@
 use crate::declared::Declarations;
 use crate::routines::is_defined;
-use crate::tokens::{is_at, is_line_start, name_at};
+use crate::tokens::{closes_at, is_at, is_line_start, name_at, opens_at, stands_before};
 use bc_lex_tokens::{Symbol, Token};
 
 /// A call with fewer arguments than the routine has parameters.
@@ -19,12 +19,13 @@ pub fn is_called(tokens: &[Token<'_>], index: usize) -> bool {
         && !is_defined(tokens, index)
 }
 
-/// Whether a name is assigned to, or its address taken, by the token with this index.
-pub fn is_changed(tokens: &[Token<'_>], index: usize) -> bool {
-    let next = index.saturating_add(1);
-    is_at(tokens, next, Symbol::Assign)
-        || is_at(tokens, next, Symbol::Comma)
-        || index > 0 && is_at(tokens, index - 1, Symbol::AddressOf)
+/// How many arguments these commas part, where as many conditions stand among them as there are arrows, each with a comma of its own.
+fn parted(is_empty: bool, commas: usize, arrows: usize) -> usize {
+    if is_empty {
+        0
+    } else {
+        commas.saturating_sub(arrows).saturating_add(1)
+    }
 }
 
 /// How many arguments stand behind the bracket with this index; none where it is not closed.
@@ -33,18 +34,12 @@ pub fn arguments_behind(tokens: &[Token<'_>], open: usize) -> Option<usize> {
     let mut commas: usize = 0;
     let mut arrows: usize = 0;
     for (index, _) in tokens.iter().enumerate().skip(open) {
-        let opens = is_at(tokens, index, Symbol::OpenBracket)
-            || is_at(tokens, index, Symbol::OpenSection);
-        let closes = is_at(tokens, index, Symbol::CloseBracket)
-            || is_at(tokens, index, Symbol::CloseSection);
-        if opens {
+        if opens_at(tokens, index) {
             depth = depth.saturating_add(1);
-        } else if closes && depth == 1 {
-            // each condition has a comma of its own
-            let parted = commas.saturating_sub(arrows).saturating_add(1);
-            let is_empty = index == open.saturating_add(1);
-            return Some(if is_empty { 0 } else { parted });
-        } else if closes {
+        } else if closes_at(tokens, index) {
+            if depth == 1 {
+                return Some(parted(index == open.saturating_add(1), commas, arrows));
+            }
             depth = depth.saturating_sub(1);
         } else if depth == 1 && is_at(tokens, index, Symbol::Comma) {
             commas = commas.saturating_add(1);
@@ -53,14 +48,6 @@ pub fn arguments_behind(tokens: &[Token<'_>], open: usize) -> Option<usize> {
         }
     }
     None
-}
-
-/// Whether a name is assigned to anywhere.
-fn is_changed_anywhere(tokens: &[Token<'_>], name: &[u8]) -> bool {
-    tokens.iter().enumerate().any(|(index, _)| {
-        name_at(tokens, index) == Some(name)
-            && is_at(tokens, index.saturating_add(1), Symbol::Assign)
-    })
 }
 
 /// What is missing where the token with this index calls a routine of the main with fewer arguments than it has parameters.
@@ -75,7 +62,7 @@ pub fn missing_arguments(
     let name = name_at(tokens, index)?;
     let parameters = declarations.parameters(name)?;
     let arguments = arguments_behind(tokens, index.saturating_add(1))?;
-    if arguments < parameters && !is_changed_anywhere(tokens, name) {
+    if arguments < parameters && !stands_before(tokens, name, Symbol::Assign) {
         Some(Missing {
             arguments,
             parameters,

@@ -169,6 +169,17 @@ impl<'s> Declarations<'s> {
         }
     }
 
+    /// The token of the last declaration of this name in front of the token with this index.
+    pub fn last_before(&self, name: &[u8], index: usize) -> Option<usize> {
+        let mut found = None;
+        for declared in &self.all {
+            if declared.name == name && declared.at < index {
+                found = Some(declared.at);
+            }
+        }
+        found
+    }
+
     /// Whether a routine of this name is declared.
     pub fn has_routine(&self, name: &[u8]) -> bool {
         self.all.iter().any(|declared| {

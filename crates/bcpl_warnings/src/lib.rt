@@ -2,9 +2,12 @@
 #![tactic(auto)]
 
 mod arguments;
+mod comments;
 mod declared;
 mod formats;
 mod globals;
+mod labels;
+mod results;
 mod routines;
 mod separated;
 mod starts;
@@ -13,6 +16,7 @@ mod tokens;
 mod unreachable;
 mod unset;
 mod values;
+mod vectors;
 mod warning;
 
 pub use warning::{likely_starts, warnings};

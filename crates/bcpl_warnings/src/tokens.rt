@@ -1,4 +1,4 @@
-use bc_lex_tokens::{Token, TokenKind};
+use bc_lex_tokens::{Symbol, Token, TokenKind};
 use bc_parse_close::{is_symbol_beginning, is_symbol_end};
 pub use bcpl_messages::{is_at, symbol_at};
 
@@ -13,6 +13,36 @@ pub fn name_at<'s>(tokens: &[Token<'s>], index: usize) -> Option<&'s [u8]> {
         ) => Some(*name),
         _ => None,
     }
+}
+
+/// Whether the token with this index opens a bracket or a section.
+pub fn opens_at(tokens: &[Token<'_>], index: usize) -> bool {
+    is_at(tokens, index, Symbol::OpenBracket) || is_at(tokens, index, Symbol::OpenSection)
+}
+
+/// Whether the token with this index closes a bracket or a section.
+pub fn closes_at(tokens: &[Token<'_>], index: usize) -> bool {
+    is_at(tokens, index, Symbol::CloseBracket) || is_at(tokens, index, Symbol::CloseSection)
+}
+
+/// Whether this name stands somewhere with this symbol right in front of it.
+pub fn stands_behind(tokens: &[Token<'_>], name: &[u8], symbol: Symbol) -> bool {
+    for (at, _) in tokens.iter().enumerate() {
+        if is_at(tokens, at, symbol) && name_at(tokens, at.saturating_add(1)) == Some(name) {
+            return true;
+        }
+    }
+    false
+}
+
+/// Whether this name stands somewhere with this symbol right behind it.
+pub fn stands_before(tokens: &[Token<'_>], name: &[u8], symbol: Symbol) -> bool {
+    for (at, _) in tokens.iter().enumerate() {
+        if name_at(tokens, at) == Some(name) && is_at(tokens, at.saturating_add(1), symbol) {
+            return true;
+        }
+    }
+    false
 }
 
 /// Whether a line break stands in front of the token with this index.

@@ -1,4 +1,4 @@
-use crate::tokens::{is_at, is_line_start, is_separated, name_at, symbol_at};
+use crate::tokens::{closes_at, is_at, is_line_start, is_separated, name_at, opens_at, symbol_at};
 use bc_lex_tokens::{Symbol, Token};
 
 /// Whether a command of this word goes on elsewhere.
@@ -16,7 +16,7 @@ fn leaves(symbol: Symbol) -> bool {
 }
 
 /// Whether a command that begins with the token with this index is carried out only under a condition whose DO is left out.
-fn is_conditional(tokens: &[Token<'_>], index: usize) -> bool {
+pub fn is_conditional(tokens: &[Token<'_>], index: usize) -> bool {
     let mut at = index;
     for _ in 0..index {
         at = at.saturating_sub(1);
@@ -59,17 +59,14 @@ fn behind(tokens: &[Token<'_>], index: usize) -> usize {
     let mut depth: usize = 0;
     for (at, _) in tokens.iter().enumerate() {
         if at > index {
-            let is_open = is_at(tokens, at, Symbol::OpenSection)
-                || is_at(tokens, at, Symbol::OpenBracket);
-            let is_closed = is_at(tokens, at, Symbol::CloseSection)
-                || is_at(tokens, at, Symbol::CloseBracket);
+            let is_closed = closes_at(tokens, at);
             let is_end = is_at(tokens, at, Symbol::Semicolon)
                 || is_closed
                 || is_separated(tokens, at);
             if depth == 0 && is_end {
                 return at;
             }
-            if is_open {
+            if opens_at(tokens, at) {
                 depth = depth.saturating_add(1);
             } else if is_closed {
                 depth = depth.saturating_sub(1);

@@ -1,6 +1,6 @@
-use crate::arguments::{is_called, is_changed};
+use crate::arguments::is_called;
 use crate::declared::{Declarations, Meaning};
-use crate::tokens::{is_at, name_at};
+use crate::tokens::{name_at, stands_before, stands_behind};
 use bc_lex::{Source, lex};
 use bc_lex_tokens::{Symbol, Token};
 use bc_word::Memory;
@@ -61,19 +61,16 @@ impl Settings {
     }
 }
 
-/// Whether a name may be assigned to somewhere.
-fn is_changed_in(tokens: &[Token<'_>], name: &[u8]) -> bool {
-    tokens.iter().enumerate().any(|(index, _)| name_at(tokens, index) == Some(name)
-        && is_changed(tokens, index))
-}
-
 /// Whether the address of a name is taken somewhere.
 fn is_address_taken(tokens: &[Token<'_>], name: &[u8]) -> bool {
-    tokens.iter().enumerate().any(|(index, _)| {
-        index > 0
-            && name_at(tokens, index) == Some(name)
-            && is_at(tokens, index - 1, Symbol::AddressOf)
-    })
+    stands_behind(tokens, name, Symbol::AddressOf)
+}
+
+/// Whether a name may be assigned to somewhere.
+fn is_changed_in(tokens: &[Token<'_>], name: &[u8]) -> bool {
+    stands_before(tokens, name, Symbol::Assign)
+        || stands_before(tokens, name, Symbol::Comma)
+        || is_address_taken(tokens, name)
 }
 
 /// The number of the global that the token with this index calls, as the first one of its main, and that nothing sets.

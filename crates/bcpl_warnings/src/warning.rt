@@ -1,7 +1,10 @@
 use crate::arguments::{Missing, missing_arguments};
+use crate::comments::swallowed_do;
 use crate::declared::Declarations;
 use crate::formats::{Lacking, lacking_arguments, unknown_format};
 use crate::globals::{is_library_assigned, library_global, number_twice};
+use crate::labels::idle_label;
+use crate::results::has_no_result;
 use crate::routines::Routines;
 use crate::separated::{Looks, misread, seeming_head};
 use crate::starts::{Likeness, likeness_at};
@@ -9,6 +12,7 @@ use crate::strings::has_backslash;
 use crate::unreachable::unreached;
 use crate::unset::{Settings, unset_global};
 use crate::values::is_used;
+use crate::vectors::is_vector_called;
 use bc_lex::{Source, lex};
 use bc_lex_tokens::Token;
 use bc_word::Memory;
@@ -18,6 +22,52 @@ use std::alloc::Global;
 
 /// The most warnings that are told.
 const MOST: usize = 10;
+
+/// What is said of a token that is likely wrong by itself, and what helps.
+const ASSIGNMENT: (&str, &str) = (
+    "{} is a routine of the library, and this assignment puts something else in its place",
+    "all calls of it are changed, the library's own too; a variable of one's own is declared by LET",
+);
+
+const VALUE: (&str, &str) = (
+    "the value of {} is used, and it is a routine of BE, whose value means nothing",
+    "a routine with a value is defined by =, as in LET F(X) = VALOF $( .. RESULTIS E $)",
+);
+
+const BACKSLASH: (&str, &str) = (
+    "a backslash in a string stands for itself",
+    "a line break is written *N, and a tab *T",
+);
+
+const NO_RESULT: (&str, &str) = (
+    "this VALOF has no RESULTIS, so its value is always 0",
+    "RESULTIS E gives the value; a routine that has none is defined by BE",
+);
+
+const VECTOR: (&str, &str) = (
+    "{} is a vector, and this calls it as a routine",
+    "its elements are {}!0, {}!1 and so on",
+);
+
+const DEFAULT: (&str, &str) = (
+    "{} is a label here; the reserved word is DEFAULT",
+    "a SWITCHON goes to its CASEs and its DEFAULT, and to no label",
+);
+
+const LABEL: (&str, &str) = (
+    "nothing goes to the label {}",
+    "a GOTO that names it would go there; where none is wanted, take it away",
+);
+
+const APART: (&str, &str) = (
+    "this line goes on with the expression of the line before",
+    "no command begins with `-`; where that is meant, indent the line",
+);
+
+const TOGETHER: (&str, &str) = (
+    "a command of its own begins here; it doesn't go on with the line before",
+    "a line goes on where the one before ends with an operator, a comma or an open bracket",
+);
 
 /// What is known of a main.
 #[derive(Clone, Copy)]
@@ -114,23 +164,6 @@ fn warns_of_unset(draft: &mut Draft, main: &Main<'_, '_, '_>, at: usize) -> bool
     true
 }
 
-/// Says so where the token with this index assigns to a routine of the library; whether it does.
-fn warns_of_assignment(draft: &mut Draft, main: &Main<'_, '_, '_>, at: usize) -> bool {
-    if !is_library_assigned(main.tokens, main.declarations, main.library, at) {
-        return false;
-    }
-    begin(draft, main.tokens, at);
-    draft.say(
-        "{} is a routine of the library, and this assignment puts something else in its place",
-        &[Fill::Shown(main.text(at))],
-    );
-    draft.help(
-        "all calls of it are changed, the library's own too; a variable of one's own is declared by LET",
-        &[],
-    );
-    true
-}
-
 /// Says so where the token with this index is called with fewer arguments than it has parameters; whether it is.
 fn warns_of_arguments(draft: &mut Draft, main: &Main<'_, '_, '_>, at: usize) -> bool {
     let Some(missing) = missing_arguments(main.tokens, main.declarations, at) else {
@@ -181,7 +214,7 @@ fn warns_of_format(draft: &mut Draft, main: &Main<'_, '_, '_>, at: usize) -> boo
         if is_further {
             "it knows %N, %C, %S, %P, %+, %- and %%, and with a width %I, %U, %O, %X and %T, as in %I4"
         } else {
-            "it knows %N, %C and %S, in capitals; with a width, as in %I4, it is EXTHDR's: --library ext"
+            "it knows %N, %C and %S, in capitals; a width, as in %I4, takes both GET \"EXTHDR\" and --library ext"
         },
         &[],
     );
@@ -218,23 +251,6 @@ fn warns_of_lacking(draft: &mut Draft, main: &Main<'_, '_, '_>, at: usize) -> bo
     true
 }
 
-/// Says so where the value of a routine of BE is used at the token with this index; whether it is.
-fn warns_of_value(draft: &mut Draft, main: &Main<'_, '_, '_>, at: usize) -> bool {
-    if !is_used(main.tokens, main.routines, at) {
-        return false;
-    }
-    begin(draft, main.tokens, at);
-    draft.say(
-        "the value of {} is used, and it is a routine of BE, whose value means nothing",
-        &[Fill::Shown(main.text(at))],
-    );
-    draft.help(
-        "a routine with a value is defined by =, as in LET F(X) = VALOF $( .. RESULTIS E $)",
-        &[],
-    );
-    true
-}
-
 /// Says so where nothing comes to the command behind the token with this index; whether that is so.
 fn warns_of_unreached(draft: &mut Draft, main: &Main<'_, '_, '_>, at: usize) -> bool {
     let Some(behind) = unreached(main.tokens, at) else {
@@ -252,17 +268,6 @@ fn warns_of_unreached(draft: &mut Draft, main: &Main<'_, '_, '_>, at: usize) -> 
     true
 }
 
-/// Says so where the token with this index is a string with a backslash; whether it is.
-fn warns_of_backslash(draft: &mut Draft, main: &Main<'_, '_, '_>, at: usize) -> bool {
-    if !has_backslash(main.tokens, at) {
-        return false;
-    }
-    begin(draft, main.tokens, at);
-    draft.say("a backslash in a string stands for itself", &[]);
-    draft.help("a line break is written *N, and a tab *T", &[]);
-    true
-}
-
 /// Says so where a line that begins with the token with this index stands below the one command of a body; whether it does.
 fn warns_of_body(draft: &mut Draft, main: &Main<'_, '_, '_>, at: usize) -> bool {
     let Some(word) = seeming_head(main.sources, main.tokens, at) else {
@@ -277,22 +282,65 @@ fn warns_of_body(draft: &mut Draft, main: &Main<'_, '_, '_>, at: usize) -> bool 
     true
 }
 
-/// Says so where a line that begins with the token with this index looks otherwise than it is read.
-fn warn_of_line(draft: &mut Draft, main: &Main<'_, '_, '_>, at: usize) {
-    let (sentence, help) = match misread(main.sources, main.tokens, at) {
-        Some(Looks::Apart) => (
-            "this line goes on with the expression of the line before",
-            "no command begins with `-`; where that is meant, indent the line",
-        ),
-        Some(Looks::Together) => (
-            "a command of its own begins here; it doesn't go on with the line before",
-            "a line goes on where the one before ends with an operator, a comma or an open bracket",
-        ),
-        None => return,
+/// Says so where a comment takes the THEN or DO in front of the command at the token with this index; whether one does.
+fn warns_of_comment(draft: &mut Draft, main: &Main<'_, '_, '_>, at: usize) -> bool {
+    let Some(span) = swallowed_do(main.sources, main.tokens, at) else {
+        return false;
     };
+    draft.place(span);
+    draft.say("warning: `||` begins a comment; or is written `|`", &[]);
+    draft.help(
+        "the THEN or DO in it counts for nothing, and the command of the next line depends on the condition",
+        &[],
+    );
+    true
+}
+
+/// What is said of the token with this index, and what helps, where it is likely wrong by itself. `{}` is the token.
+fn oddity(main: &Main<'_, '_, '_>, at: usize) -> Option<(&'static str, &'static str)> {
+    if is_library_assigned(main.tokens, main.declarations, main.library, at) {
+        Some(ASSIGNMENT)
+    } else if is_used(main.tokens, main.routines, at) {
+        Some(VALUE)
+    } else if has_backslash(main.tokens, at) {
+        Some(BACKSLASH)
+    } else if has_no_result(main.tokens, at) {
+        Some(NO_RESULT)
+    } else if is_vector_called(main.tokens, main.declarations, at) {
+        Some(VECTOR)
+    } else {
+        None
+    }
+}
+
+/// The same of a label, and of a line that looks otherwise than it is read.
+fn likeness(main: &Main<'_, '_, '_>, at: usize) -> Option<(&'static str, &'static str)> {
+    match idle_label(main.tokens, at) {
+        Some(true) => Some(DEFAULT),
+        Some(false) => Some(LABEL),
+        None => match misread(main.sources, main.tokens, at) {
+            Some(Looks::Apart) => Some(APART),
+            Some(Looks::Together) => Some(TOGETHER),
+            None => None,
+        },
+    }
+}
+
+/// Says this of the token with this index, if there is something; whether there is.
+fn warns_by(
+    draft: &mut Draft,
+    main: &Main<'_, '_, '_>,
+    at: usize,
+    said: Option<(&str, &str)>,
+) -> bool {
+    let Some((sentence, help)) = said else {
+        return false;
+    };
+    let token = Fill::Shown(main.text(at));
     begin(draft, main.tokens, at);
-    draft.say(sentence, &[]);
-    draft.help(help, &[]);
+    draft.say(sentence, &[token]);
+    draft.help(help, &[token, token]);
+    true
 }
 
 /// Says so where a global or a call at the token with this index is likely wrong; whether one is.
@@ -300,7 +348,6 @@ fn warns_of_use(draft: &mut Draft, main: &Main<'_, '_, '_>, at: usize) -> bool {
     warns_of_library_global(draft, main, at)
         || warns_of_number(draft, main, at)
         || warns_of_unset(draft, main, at)
-        || warns_of_assignment(draft, main, at)
         || warns_of_arguments(draft, main, at)
         || warns_of_format(draft, main, at)
         || warns_of_lacking(draft, main, at)
@@ -309,12 +356,12 @@ fn warns_of_use(draft: &mut Draft, main: &Main<'_, '_, '_>, at: usize) -> bool {
 /// Says what is likely wrong at the token with this index.
 fn warn_at(draft: &mut Draft, main: &Main<'_, '_, '_>, at: usize) {
     let is_told = warns_of_use(draft, main, at)
-        || warns_of_value(draft, main, at)
+        || warns_by(draft, main, at, oddity(main, at))
         || warns_of_unreached(draft, main, at)
-        || warns_of_backslash(draft, main, at)
+        || warns_of_comment(draft, main, at)
         || warns_of_body(draft, main, at);
     if !is_told {
-        warn_of_line(draft, main, at);
+        warns_by(draft, main, at, likeness(main, at));
     }
 }
 

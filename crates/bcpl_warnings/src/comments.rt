@@ -1,0 +1,66 @@
+use crate::tokens::is_separated;
+use crate::unreachable::is_conditional;
+use bc_lex::Source;
+use bc_lex_tokens::Token;
+use bcpl_places::Span;
+
+/// Whether these bytes begin with THEN or DO as a word behind a blank.
+fn begins_do(bytes: &[u8]) -> bool {
+    bytes.starts_with(b" DO ")
+        || bytes.starts_with(b" DO\n")
+        || bytes.starts_with(b" THEN ")
+        || bytes.starts_with(b" THEN\n")
+}
+
+/// Whether THEN or DO stands as a word on the first of these lines.
+fn has_do(lines: &[u8]) -> bool {
+    for (at, byte) in lines.iter().enumerate() {
+        if *byte == b'\n' {
+            return false;
+        }
+        if let Some(rest) = lines.get(at..)
+            && begins_do(rest)
+        {
+            return true;
+        }
+    }
+    false
+}
+
+/// What stands behind a token in its file.
+fn text_behind<'s>(sources: &[Source<'s>], token: &Token<'_>) -> &'s [u8] {
+    match sources.get(token.file) {
+        Some(source) => &source.text[token.end.min(source.text.len())..],
+        None => b"",
+    }
+}
+
+/// Where `||` begins a comment with THEN or DO behind a token.
+fn comment_behind(sources: &[Source<'_>], token: &Token<'_>) -> Option<Span> {
+    let rest = text_behind(sources, token);
+    let comment = rest.trim_ascii_start();
+    if !comment.starts_with(b"||") || !has_do(comment) {
+        return None;
+    }
+    let blanks = rest.len().saturating_sub(comment.len());
+    let start = token.end.saturating_add(blanks);
+    Some(Span {
+        file: token.file,
+        start,
+        end: start.saturating_add(2),
+    })
+}
+
+/// Where a comment begins with `||` that takes the THEN or DO of a condition, so that the command that begins with the token with this
+/// index, on the next line, belongs to it.
+pub fn swallowed_do(sources: &[Source<'_>], tokens: &[Token<'_>], index: usize) -> Option<Span> {
+    if !is_separated(tokens, index) {
+        return None;
+    }
+    let comment = comment_behind(sources, tokens.get(index.saturating_sub(1))?)?;
+    if is_conditional(tokens, index) {
+        Some(comment)
+    } else {
+        None
+    }
+}

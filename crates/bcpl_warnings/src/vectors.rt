@@ -1,0 +1,45 @@
+use crate::arguments::is_called;
+use crate::declared::Declarations;
+use crate::tokens::{is_at, name_at, stands_before};
+use bc_lex_tokens::{Symbol, Token};
+
+/// Whether no section that is open at the first token is closed in front of the second.
+fn is_open_still(tokens: &[Token<'_>], first: usize, second: usize) -> bool {
+    let mut depth: usize = 0;
+    for (at, _) in tokens.iter().enumerate().skip(first) {
+        if at >= second {
+            break;
+        }
+        if is_at(tokens, at, Symbol::OpenSection) {
+            depth = depth.saturating_add(1);
+        } else if is_at(tokens, at, Symbol::CloseSection) {
+            if depth == 0 {
+                return false;
+            }
+            depth = depth.saturating_sub(1);
+        }
+    }
+    true
+}
+
+/// Whether the token with this index calls a name that means a vector, to which nothing is assigned.
+pub fn is_vector_called(
+    tokens: &[Token<'_>],
+    declarations: &Declarations<'_>,
+    index: usize,
+) -> bool {
+    let Some(name) = name_at(tokens, index) else {
+        return false
+    };
+    if !is_called(tokens, index) {
+        return false;
+    }
+    match declarations.last_before(name, index) {
+        Some(at) => {
+            is_at(tokens, at.saturating_add(2), Symbol::Vector)
+                && is_open_still(tokens, at, index)
+                && !stands_before(tokens, name, Symbol::Assign)
+        }
+        None => false,
+    }
+}
