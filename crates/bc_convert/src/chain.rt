@@ -1,7 +1,7 @@
 use crate::complaint::Fault;
 use crate::notes::Notes;
 use crate::operands::{is_plain, is_too_long, take_out};
-use bc_convert_tokens::TokenizedText;
+use bc_convert_tokens::{Kind, TokenizedText};
 
 /// What was read of a chain of relations: where it begins, the indices around its last operand, and what is to be put behind it.
 #[derive(Clone, Copy)]
@@ -29,6 +29,9 @@ impl Chain {
     /// Joins a relation whose operator stands at the index behind the last operand. `is_inner` says whether the chain is an
     /// operand of an operator that binds more tightly than `&`.
     pub fn join(self, source: TokenizedText<'_>, notes: &mut Notes, is_inner: bool) -> ChainState {
+        if let Some(percent) = self.percent(source) {
+            notes.complain(source, percent, Fault::PercentOr);
+        }
         if is_plain(source, self.from, self.to) {
             self.join_plain(source, notes, is_inner)
         } else if self.state == ChainState::Single && is_plain(source, self.at, self.from) {
@@ -37,6 +40,14 @@ impl Chain {
             notes.complain(source, self.at, Fault::CallInChain);
             self.state
         }
+    }
+
+    /// The index of the first `%` in the last operand, where `=` stands in front of that or behind it.
+    fn percent(self, source: TokenizedText<'_>) -> Option<usize> {
+        let is_equality = source.kind(self.to) == Kind::Equal
+            || source.kind(self.from.saturating_sub(1)) == Kind::Equal;
+        let percent = (self.from..self.to).find(|index| source.kind(*index) == Kind::Percent);
+        if is_equality { percent } else { None }
     }
 
     /// Joins a relation behind an operand that may be worked out twice.

@@ -33,7 +33,7 @@ pub enum Fault {
     StringTooLong,
     /// A comment, a string or a constant that is not closed.
     Unclosed,
-    /// A byte that begins no token.
+    /// A character that begins no token.
     UnknownByte,
     /// A full stop behind a section, with another one behind it.
     SectionEnd,
@@ -69,6 +69,12 @@ pub enum Fault {
     FurtherCall,
     /// What wants EXTHDR, in a source that gets a header of its own, where no source gets the library's.
     NoHeader,
+    /// GETVEC, where nothing makes its pool.
+    NoPool,
+    /// A name that is a reserved word here.
+    ReservedName,
+    /// `%` that may be `|`.
+    PercentOr,
     /// A line of a list of names with one name.
     NameAlone,
     /// An old name that stands in an earlier line of a list of names.
@@ -78,7 +84,7 @@ pub enum Fault {
 }
 
 /// What is told of each fault, and what is to be done by hand, in their order.
-static WORDS: [(&str, &str); 36] = [
+static WORDS: [(&str, &str); 39] = [
     (
         "no jump leaves a routine here",
         "let each routine on the way back look at a flag, in place of LEVEL and LONGJUMP",
@@ -134,7 +140,7 @@ static WORDS: [(&str, &str); 36] = [
     ("a string has at most 255 characters", "cut it into two"),
     ("what begins here is not closed", "add the closing sign"),
     (
-        "no token begins with this byte",
+        "no token begins with this character",
         "remove it, or write what it stands for",
     ),
     (
@@ -201,6 +207,18 @@ static WORDS: [(&str, &str); 36] = [
     (
         "this wants EXTHDR, and no source that is converted gets the library's header",
         "convert all files of the program in one go, with the header that gets the library's",
+    ),
+    (
+        "GETVEC gives 0 here until INITVEC has made its pool, and no INITVEC is called",
+        "at the beginning of START hand in a vector, as INITVEC(POOL, 4000) behind LET POOL = VEC 4000",
+    ),
+    (
+        "this name is a reserved word here",
+        "give the name another spelling wherever it stands",
+    ),
+    (
+        "perhaps this % is or, not a byte of a string",
+        "write | in its place, or GETBYTE(S, I), if it is byte I of S",
     ),
     (
         "this name stands alone in its line",

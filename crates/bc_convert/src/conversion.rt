@@ -3,7 +3,7 @@ ghost use Rattle.bc_convert_edits.specs.Converted.{converted, RiseWithin, Change
 
 use crate::complaint::{Complaint, Fault};
 use crate::formats::{Format, format_at, gets_header_alone};
-use crate::names::is_declared;
+use crate::names::{is_called, is_declared, is_for};
 use crate::notes::Notes;
 use crate::options::{Header, Options};
 use crate::program::Program;
@@ -91,6 +91,15 @@ fn tell_want(source: TokenizedText<'_>, notes: &mut Notes, options: Options<'_>)
     }
 }
 
+/// The first call of GETVEC, where no source of the program makes its pool.
+fn tell_pool(source: TokenizedText<'_>, notes: &mut Notes, options: Options<'_>) {
+    for index in 0..source.tokens.len() {
+        if is_called(source, index) && is_for(source.bytes(index), options.library, b"GETVEC") {
+            return notes.complain(source, index, Fault::NoPool);
+        }
+    }
+}
+
 /// What there is to tell of the library, where something becomes of the source.
 fn tell_library(
     source: TokenizedText<'_>,
@@ -105,6 +114,9 @@ fn tell_library(
     tell_formats(source, notes, options, header);
     if !program.gets_library && !gets_header_alone(source) {
         tell_want(source, notes, options);
+    }
+    if !program.makes_pool {
+        tell_pool(source, notes, options);
     }
 }
 

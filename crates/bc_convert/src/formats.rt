@@ -1,4 +1,4 @@
-use crate::names::{has_routine, renamed};
+use crate::names::{has_routine, is_for, renamed};
 use crate::options::Renaming;
 use crate::spelling::inside;
 use bc_convert_tokens::{Kind, TokenizedText, span};
@@ -15,14 +15,6 @@ pub enum Format {
     Hidden,
 }
 
-/// Whether a word, once names of an old library have those that they have here, is WRITEF in either case.
-fn is_writef(word: &[u8], library: &[Renaming<'_>]) -> bool {
-    match renamed(library, word) {
-        Some(new) => new == b"WRITEF".as_slice(),
-        None => word.eq_ignore_ascii_case(b"WRITEF"),
-    }
-}
-
 /// The format of the call of WRITEF whose name stands at an index; `None` where no such call stands there, or where the source declares
 /// a routine of that name.
 pub fn format_at(
@@ -35,7 +27,7 @@ pub fn format_at(
     let is_call = source.kind(index) == Kind::Name
         && source.kind(opening) == Kind::OpenRound
         && source.kind(format) != Kind::CloseRound
-        && is_writef(source.bytes(index), library)
+        && is_for(source.bytes(index), library, b"WRITEF")
         && !has_routine(source, index);
     if !is_call {
         return None;

@@ -17,7 +17,7 @@ pub fn dotted(byte: u8) -> u8 {
 }
 
 /// Whether the name at an index stands there for the first time.
-fn is_first(source: TokenizedText<'_>, index: usize) -> bool {
+pub fn is_first(source: TokenizedText<'_>, index: usize) -> bool {
     let mut earlier = 0..index;
     !earlier.any(|other| source.kind(other) == Kind::Name && source.is_same(index, other))
 }
@@ -90,6 +90,14 @@ pub fn renamed<'o>(library: &[Renaming<'o>], bytes: &[u8]) -> Option<&'o [u8]> {
         }
     }
     None
+}
+
+/// Whether a word, once names of an old library have those that they have here, is this name of the library in either case.
+pub fn is_for(word: &[u8], library: &[Renaming<'_>], name: &[u8]) -> bool {
+    match renamed(library, word) {
+        Some(new) => new == name,
+        None => word.eq_ignore_ascii_case(name),
+    }
 }
 
 /// Whether a word has no capital letter.
@@ -206,12 +214,12 @@ fn is_same_name(source: TokenizedText<'_>, index: usize, other: usize) -> bool {
 }
 
 /// Whether a round bracket stands behind the name at an index.
-fn is_called(source: TokenizedText<'_>, index: usize) -> bool {
+pub fn is_called(source: TokenizedText<'_>, index: usize) -> bool {
     source.kind(index.saturating_add(1)) == Kind::OpenRound
 }
 
 /// Whether the name at an index is declared there as a routine.
-fn declares_routine(source: TokenizedText<'_>, index: usize) -> bool {
+pub fn declares_routine(source: TokenizedText<'_>, index: usize) -> bool {
     index > 0 && matches!(source.kind(index - 1), Kind::Let | Kind::And) && is_called(source, index)
 }
 
@@ -230,12 +238,6 @@ pub fn is_number(source: TokenizedText<'_>, index: usize) -> bool {
 
 /// Whether the name at an index stands there as no vector's.
 fn stands_as_number(source: TokenizedText<'_>, index: usize) -> bool {
-    let sign = index.saturating_add(1);
-    let value = index.saturating_add(2);
-    let is_set = matches!(
-        source.kind(sign),
-        Kind::Equal | Kind::Relation | Kind::Assign | Kind::Underline
-    );
     let before = if index == 0 {
         Kind::End
     } else {
@@ -243,8 +245,100 @@ fn stands_as_number(source: TokenizedText<'_>, index: usize) -> bool {
     };
     let is_content = matches!(before, Kind::Bang | Kind::Content | Kind::Address);
     before == Kind::For
-        || is_set && !is_content && value_of_number(source, value).is_ok_and(|value| value != 0)
+        || !is_content && begins_number(source, value_of_name(source, index))
         || declares(source, index) && listing_word(source, index) == Kind::Manifest
+}
+
+/// Whether a number other than 0 stands at an index, or a sign and a number.
+fn begins_number(source: TokenizedText<'_>, index: usize) -> bool {
+    let number = if source.kind(index) == Kind::Add {
+        index.saturating_add(1)
+    } else {
+        index
+    };
+    value_of_number(source, number).is_ok_and(|value| value != 0)
+}
+
+/// Where the value begins that the name at an index is set to or compared with; the name's own index where it is neither. In a
+/// list it is the value with as many others in front of it as the name has.
+fn value_of_name(source: TokenizedText<'_>, index: usize) -> usize {
+    let next = index.saturating_add(1);
+    let sign = if source.kind(next) == Kind::Comma {
+        behind_list(source, next)
+    } else {
+        next
+    };
+    match source.kind(sign) {
+        Kind::Equal if is_in_heading(source, index) => value_behind(source, sign, index),
+        Kind::Assign | Kind::Underline => value_behind(source, sign, index),
+        Kind::Equal | Kind::Relation if sign == next => next.saturating_add(1),
+        _ => index,
+    }
+}
+
+/// The index behind what is left of a list of variables, from a comma in it on.
+fn behind_list(source: TokenizedText<'_>, comma: usize) -> usize {
+    let mut open: usize = 0;
+    for at in comma..source.tokens.len() {
+        if open == 0 && source.is_separated(at) {
+            return comma;
+        }
+        match source.kind(at) {
+            Kind::OpenRound => open = open.saturating_add(1),
+            Kind::CloseRound if open > 0 => open = open.saturating_sub(1),
+            Kind::Comma | Kind::Star => {}
+            kind if open > 0 || kind.can_be_operand() => {}
+            _ => return at,
+        }
+    }
+    comma
+}
+
+/// How many others stand in front of the name at an index in its list: as many as commas, outside of brackets.
+fn names_before(source: TokenizedText<'_>, index: usize) -> usize {
+    let mut count: usize = 0;
+    let mut closed: usize = 0;
+    for back in 1..=index {
+        let at = index - back;
+        if closed == 0 && source.is_separated(at.saturating_add(1)) {
+            return count;
+        }
+        match source.kind(at) {
+            Kind::CloseRound => closed = closed.saturating_add(1),
+            Kind::OpenRound if closed > 0 => closed = closed.saturating_sub(1),
+            _ if closed > 0 => {}
+            Kind::Comma => count = count.saturating_add(1),
+            kind if kind.can_be_operand() || kind == Kind::Star => {}
+            _ => return count,
+        }
+    }
+    count
+}
+
+/// Where the value of the list behind a sign begins that has as many others in front of it as the name at an index has: behind so many
+/// commas, outside of brackets and choices. The name's own index where there is none.
+fn value_behind(source: TokenizedText<'_>, sign: usize, name: usize) -> usize {
+    let mut left = names_before(source, name);
+    let mut open: usize = 0;
+    let mut waiting: usize = 0;
+    for index in sign.saturating_add(1)..source.tokens.len() {
+        if left == 0 {
+            return index;
+        }
+        if open == 0 && source.is_separated(index) {
+            return name;
+        }
+        match source.kind(index) {
+            Kind::OpenRound | Kind::OpenSection => open = open.saturating_add(1),
+            Kind::CloseRound | Kind::CloseSection => open = open.saturating_sub(1),
+            _ if open > 0 => {}
+            Kind::Arrow => waiting = waiting.saturating_add(1),
+            Kind::Comma if waiting > 0 => waiting = waiting.saturating_sub(1),
+            Kind::Comma => left = left.saturating_sub(1),
+            _ => {}
+        }
+    }
+    name
 }
 
 /// Whether the name at an index is declared there, and not by GLOBAL.

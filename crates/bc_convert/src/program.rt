@@ -1,7 +1,7 @@
 use crate::formats::{
     Format, bit_at, format_at, gets_header, gets_header_alone, is_further_string,
 };
-use crate::names::{declares, is_declared, is_entry};
+use crate::names::{declares, declares_routine, is_declared, is_entry, is_for};
 use crate::options::{Header, Renaming};
 use crate::reading::Reading;
 use bc_convert_tokens::{Dialect, Kind, TokenizedText};
@@ -25,9 +25,18 @@ pub struct Program {
     gets_library_alone: bool,
     /// It has more than one source.
     has_several: bool,
+    /// INITVEC stands in a source, or GETVEC is a routine of one.
+    pub makes_pool: bool,
     /// The names that EXTHDR alone has, as bits: those that a source uses and doesn't declare, and those that one declares for others.
     used: u32,
     declared: u32,
+}
+
+/// Whether the name at an index is INITVEC, or GETVEC where the source declares it as a routine.
+fn makes_pool(source: TokenizedText<'_>, index: usize, library: &[Renaming<'_>]) -> bool {
+    let word = source.bytes(index);
+    is_for(word, library, b"INITVEC")
+        || is_for(word, library, b"GETVEC") && declares_routine(source, index)
 }
 
 impl Program {
@@ -51,6 +60,7 @@ impl Program {
             gets_library: false,
             gets_library_alone: gets_header_alone(source),
             has_several: false,
+            makes_pool: false,
             used: 0,
             declared: 0,
         };
@@ -70,6 +80,9 @@ impl Program {
             Some(Format::Further) => self.needs_further = true,
             Some(Format::Hidden) => self.hides_format = true,
             Some(Format::Plain) | None => {}
+        }
+        if makes_pool(source, index, library) {
+            self.makes_pool = true;
         }
         let bit = bit_at(source, index, library);
         if bit == 0 {
@@ -105,6 +118,7 @@ impl Program {
             gets_library: self.gets_library || other.gets_library,
             gets_library_alone: self.gets_library_alone && other.gets_library_alone,
             has_several: true,
+            makes_pool: self.makes_pool || other.makes_pool,
             used: self.used | other.used,
             declared: self.declared | other.declared,
         }

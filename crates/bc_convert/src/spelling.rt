@@ -1,6 +1,6 @@
 use crate::complaint::Fault;
 use crate::formats::gets_header;
-use crate::names::{dotted, is_declared, name_change};
+use crate::names::{dotted, is_declared, is_first, name_change};
 use crate::notes::Notes;
 use crate::numbers::{NumberChange, decimal, number_change};
 use crate::options::{Header, Options};
@@ -98,6 +98,11 @@ fn routine_fault(bytes: &[u8]) -> Option<Fault> {
     }
 }
 
+/// Whether the name at an index is a reserved word in this dialect.
+fn is_reserved_here(source: TokenizedText<'_>, index: usize) -> bool {
+    reserved(source.bytes(index), false).is_some_and(|word| !word.is_name_now)
+}
+
 /// What becomes of a name.
 fn respell_name(
     source: TokenizedText<'_>,
@@ -111,6 +116,9 @@ fn respell_name(
         && !is_declared(source, index)
     {
         notes.complain(source, index, fault);
+    }
+    if is_reserved_here(source, index) && is_first(source, index) {
+        notes.complain(source, index, Fault::ReservedName);
     }
     let change = name_change(notes.alloc(), source, index, dialect, options);
     if let Some(Some(new)) = notes.made(change) {
@@ -228,13 +236,24 @@ fn respell_sign(
         Kind::Query => notes.replace(index, b"0"),
         Kind::Underline => notes.replace(index, b":="),
         Kind::Not => replace_if_other(source, notes, index, b"~"),
-        Kind::Relation if matches!(bytes, [b'\\' | 0xc2, ..]) => notes.replace(index, b"~="),
+        Kind::Relation => respell_relation(source, notes, index),
         Kind::OpenRound => replace_if_other(source, notes, index, b"("),
         Kind::CloseRound => replace_if_other(source, notes, index, b")"),
         Kind::OpenSection => respell_section(source, notes, index, b"$("),
         Kind::CloseSection => respell_section(source, notes, index, b"$)"),
         _ => {}
     }
+}
+
+/// What becomes of the sign of a relation.
+fn respell_relation(source: TokenizedText<'_>, notes: &mut Notes, index: usize) {
+    let sign: &[u8] = match source.bytes(index) {
+        [b'\\' | 0xc2, ..] | [0xe2, 0x89, 0xa0] => b"~=",
+        [0xe2, 0x89, 0xa4] => b"<=",
+        [0xe2, 0x89, 0xa5] => b">=",
+        bytes => bytes,
+    };
+    replace_if_other(source, notes, index, sign)
 }
 
 /// What becomes of a section bracket, whose tag has dots in place of underlines.

@@ -564,14 +564,41 @@ fn is_star_subscript(walk: Walk<'_>, index: usize) -> bool {
         && is_adjacent(source, index)
 }
 
+/// Whether what was read from an index up to another one is a constant that is no string.
+fn is_constant_alone(source: TokenizedText<'_>, at: usize, end: usize) -> bool {
+    end == at.saturating_add(1)
+        && matches!(
+            source.kind(at),
+            Kind::Number | Kind::Character | Kind::Constant
+        )
+}
+
 /// Whether what was read from an index up to another one is a number: a constant, or a name that is used as no vector's.
 fn is_number_alone(source: TokenizedText<'_>, at: usize, end: usize) -> bool {
-    let is_one = end == at.saturating_add(1);
-    match source.kind(at) {
-        Kind::Number | Kind::Character | Kind::Constant => is_one,
-        Kind::Name => is_one && is_number(source, at),
-        _ => false,
+    let is_name = end == at.saturating_add(1) && source.kind(at) == Kind::Name;
+    is_constant_alone(source, at, end) || is_name && is_number(source, at)
+}
+
+/// Whether brackets enclose what is read from an index up to another one, with a relation in them and no choice: a truth value.
+fn is_truth(source: TokenizedText<'_>, from: usize, to: usize) -> bool {
+    source.kind(from) == Kind::OpenRound
+        && source.partner(from).saturating_add(1) == to
+        && (from..to).any(|index| matches!(source.kind(index), Kind::Equal | Kind::Relation))
+        && (from..to).all(|index| source.kind(index) != Kind::Arrow)
+}
+
+/// Why the sign at an index, behind what was read from another one, goes on with no subscript, though it is that of one.
+fn subscript_fault(walk: Walk<'_>, at: usize, sign: usize) -> Option<Fault> {
+    let source = walk.source;
+    if is_star_subscript(walk, sign) && is_number_alone(source, at, sign) {
+        return Some(Fault::StarProduct);
     }
+    let behind = sign.saturating_add(1);
+    let is_or = source.kind(sign) == Kind::Percent
+        && (is_constant_alone(source, at, sign)
+            || is_truth(source, at, sign)
+            || is_truth(source, behind, source.partner(behind).saturating_add(1)));
+    if is_or { Some(Fault::PercentOr) } else { None }
 }
 
 /// The calls and subscripts behind what was read from an index up to another one.
@@ -600,8 +627,8 @@ fn selected(
             whole = Operand::plain(bracket(walk.deeper(), notes, here, to));
         } else if calls_only {
             break;
-        } else if is_star_subscript(walk, here) && is_number_alone(source, at, here) {
-            notes.complain(source, here, Fault::StarProduct);
+        } else if let Some(fault) = subscript_fault(walk, at, here) {
+            notes.complain(source, here, fault);
             break;
         } else if is_star_subscript(walk, here) {
             finish(notes, at, whole);

@@ -1,6 +1,6 @@
 use crate::kind::Kind;
 use crate::source::{Token, TokenizedText};
-use crate::words::{is_same_word, is_small, reserved};
+use crate::words::{ReservedWord, is_same_word, is_small, reserved};
 use bc_word::Memory;
 use std::alloc::Global;
 
@@ -204,6 +204,39 @@ fn is_name_somewhere(source: TokenizedText<'_>, index: usize, kind: Kind) -> boo
     false
 }
 
+/// Whether the word at an index, a reserved one, is declared there as a name all the same, or assigned to.
+fn is_set_as_name(source: TokenizedText<'_>, index: usize, kind: Kind) -> bool {
+    match source.kind(index.saturating_add(1)) {
+        Kind::Assign => kind.level() == 0,
+        Kind::OpenRound => index > 0 && is_let_or_and(source, index - 1),
+        Kind::Comma | Kind::CloseRound | Kind::Semicolon | Kind::Equal | Kind::Colon => {
+            is_declared_at(source, index)
+        }
+        _ => false,
+    }
+}
+
+/// Whether the word at an index, a reserved one, is a name where it stands in capitals: it is set as one somewhere.
+fn is_capital_name(source: TokenizedText<'_>, index: usize, kind: Kind) -> bool {
+    let mut indices = 0..source.tokens.len();
+    indices.any(|other| source.is_same(index, other) && is_set_as_name(source, other, kind))
+}
+
+/// Whether the word at an index, which is a reserved one, is a name in this source.
+fn is_name_here(
+    source: TokenizedText<'_>,
+    index: usize,
+    dialect: Dialect,
+    word: &ReservedWord,
+) -> bool {
+    if word.is_name_now {
+        return is_name_somewhere(source, index, word.kind);
+    }
+    dialect.has_small_words
+        && source.bytes(index) == word.text
+        && is_capital_name(source, index, word.kind)
+}
+
 /// What the word at an index is.
 fn kind_of_word(source: TokenizedText<'_>, index: usize, dialect: Dialect) -> Kind {
     match reserved(source.bytes(index), dialect.has_small_words) {
@@ -215,7 +248,7 @@ fn kind_of_word(source: TokenizedText<'_>, index: usize, dialect: Dialect) -> Ki
                 Kind::Name
             }
         }
-        Some(word) if word.is_name_now && is_name_somewhere(source, index, word.kind) => Kind::Name,
+        Some(word) if is_name_here(source, index, dialect, word) => Kind::Name,
         Some(word) => word.kind,
     }
 }

@@ -161,6 +161,19 @@ fn short_sign(byte: u8) -> Kind {
     }
 }
 
+/// How many bytes the character in front has: several where it begins with one of UTF-8 that has no seven bits, and these follow.
+fn character_bytes(bytes: &[u8]) -> usize
+    requires { 0 < length bytes.now }
+    ensures { result ≤ length bytes.now }
+{
+    match bytes {
+        [0xc2..=0xdf, 0x80..=0xbf, ..] => 2,
+        [0xe0..=0xef, 0x80..=0xbf, 0x80..=0xbf, ..] => 3,
+        [0xf0..=0xf4, 0x80..=0xbf, 0x80..=0xbf, 0x80..=0xbf, ..] => 4,
+        _ => 1,
+    }
+}
+
 /// The sign in front, a section bracket with its whole tag, with the number of its bytes.
 fn sign(bytes: &[u8]) -> (Kind, usize)
     requires { 0 < length bytes.now }
@@ -171,10 +184,11 @@ fn sign(bytes: &[u8]) -> (Kind, usize)
         [b'$', b')', ..] => (Kind::CloseSection, 2 + name_bytes(behind(bytes, 2))),
         [0xc2, 0xac, b'=', ..] => (Kind::Relation, 3),
         [0xc2, 0xac, ..] => (Kind::Not, 2),
+        [0xe2, 0x89, 0xa0 | 0xa4 | 0xa5, ..] => (Kind::Relation, 3),
         [b'/', b'*', ..] => (Kind::Unclosed, bytes.len()),
         _ => match long_sign(bytes) {
             Some(kind) => (kind, 2),
-            None => (short_sign(bytes[0]), 1),
+            None => (short_sign(bytes[0]), character_bytes(bytes)),
         },
     }
 }
