@@ -1,12 +1,12 @@
 ghost use Rattle.std.specs.Prelude.{slice_get};
 ghost use Rattle.bcpl_messages.specs.Spans.{IsSpanOf};
 
-use crate::brackets::{help_for_round, open_at, tag};
+use crate::brackets::{help_for_round, open_at, say_blank, says_tag, tag_at};
 use crate::draft::{Draft, Fill};
 use crate::likeness::reserved_word;
 use crate::neighbours::{help_for_name, help_for_neighbours, help_for_token};
 use crate::read::Read;
-use crate::sides::says_sides;
+use crate::sides::{is_one_of, says_sides};
 use crate::trial::{Change, reached};
 use crate::wanted::{could_be, could_be_name, say_wanted};
 use crate::words::{back, is_at, is_symbol, symbol_at};
@@ -119,6 +119,8 @@ enum Site {
     OnLine,
     /// The same, and a name in front.
     OnLineBehindName,
+    /// A name that begins its line, and a name in front.
+    BetweenNames,
     /// DEFAULT in front, or CASE and a constant of one token.
     BehindCase,
 }
@@ -134,6 +136,8 @@ enum Trial {
     Behind(Symbol),
     /// So with a pair of brackets.
     BehindBrackets,
+    /// With a pair of brackets in front the token at the place is read.
+    AtBrackets,
     /// So with brackets around the token.
     Enclosed,
 }
@@ -170,7 +174,7 @@ const FIRST_GUESSES: [Guess; 4] = [
 ];
 
 /// Those that are tried behind them.
-const NEXT_GUESSES: [Guess; 4] = [
+const NEXT_GUESSES: [Guess; 5] = [
     Guess {
         site: Site::Any,
         trial: Trial::Stands(Symbol::Else),
@@ -187,6 +191,11 @@ const NEXT_GUESSES: [Guess; 4] = [
         help: "a routine is declared and called with brackets, as in NEWLINE()",
     },
     Guess {
+        site: Site::BetweenNames,
+        trial: Trial::AtBrackets,
+        help: "a routine is declared and called with brackets, as in NEWLINE()",
+    },
+    Guess {
         site: Site::Any,
         trial: Trial::StandsOutside,
         help: "outside routines stand declarations alone; commands stand in a routine, as in LET START() BE $( .. $)",
@@ -194,7 +203,7 @@ const NEXT_GUESSES: [Guess; 4] = [
 ];
 
 /// Those that are tried at the end.
-const LAST_GUESSES: [Guess; 4] = [
+const LAST_GUESSES: [Guess; 5] = [
     Guess {
         site: Site::OnLine,
         trial: Trial::Behind(Symbol::Comma),
@@ -215,6 +224,11 @@ const LAST_GUESSES: [Guess; 4] = [
         trial: Trial::Behind(Symbol::Colon),
         help: "a colon stands behind it, as in CASE 1: WRITES(\"A\")",
     },
+    Guess {
+        site: Site::At(Symbol::CloseSection),
+        trial: Trial::Stands(Symbol::Do),
+        help: "a command stands behind it, as in UNTIL E DO C; a loop that tests behind its command is written $( .. $) REPEATUNTIL E",
+    },
 ];
 
 /// Whether a name stands in front of a place.
@@ -223,6 +237,15 @@ fn is_behind_name(tokens: &[Token<'_>], index: usize) -> bool {
         Some(token) => matches!(token.kind, TokenKind::Name(_)),
         None => false,
     }
+}
+
+/// Whether a name that begins its line stands at a place, and a name in front of it.
+fn is_between_names(tokens: &[Token<'_>], index: usize) -> bool {
+    let begins_line = match tokens.get(index) {
+        Some(token) => token.line_before && matches!(token.kind, TokenKind::Name(_)),
+        None => false,
+    };
+    begins_line && is_behind_name(tokens, index)
 }
 
 /// Whether DEFAULT stands in front of a place, or CASE and one token.
@@ -254,6 +277,7 @@ fn is_site(tokens: &[Token<'_>], index: usize, site: Site) -> bool {
         Site::BehindName => is_behind_name(tokens, index),
         Site::OnLine => is_on_line(tokens, index),
         Site::OnLineBehindName => is_on_line(tokens, index) && is_behind_name(tokens, index),
+        Site::BetweenNames => is_between_names(tokens, index),
         Site::BehindCase => is_behind_case(tokens, index),
     }
 }
@@ -268,11 +292,17 @@ fn gets_further(draft: &mut Draft, tokens: &[Token<'_>], index: usize, change: C
     reached(draft, tokens, index, change).is_behind(index)
 }
 
+/// Whether the token at a place is read with a pair of brackets in front.
+fn is_read_with_brackets(draft: &mut Draft, tokens: &[Token<'_>], index: usize) -> bool {
+    reached(draft, tokens, index, Change::InsertBrackets).is_past(index)
+}
+
 /// Whether the parser takes what a guess tries.
 fn is_taken(draft: &mut Draft, tokens: &[Token<'_>], index: usize, trial: Trial) -> bool {
     let change = match trial {
         Trial::Stands(symbol) => return could_be(draft, tokens, index, symbol),
         Trial::StandsOutside => return is_outside(draft, tokens, index),
+        Trial::AtBrackets => return is_read_with_brackets(draft, tokens, index),
         Trial::Behind(symbol) => Change::Insert(TokenKind::Symbol(symbol)),
         Trial::BehindBrackets => Change::InsertBrackets,
         Trial::Enclosed => Change::Enclose,
@@ -458,7 +488,10 @@ fn guessed(draft: &mut Draft, tokens: &[Token<'_>], index: usize) -> Option<&'st
 
 /// Says what may have been meant, where no known mistake stands around the place.
 fn help_by_trying(draft: &mut Draft, tokens: &[Token<'_>], index: usize) {
-    if says_reserved(draft, tokens, index) || says_sides(draft, tokens, index) {
+    if says_reserved(draft, tokens, index)
+        || says_tag(draft, tokens, index)
+        || says_sides(draft, tokens, index)
+    {
         return;
     }
     if let Some(help) = help_in_words(draft, tokens, index) {
@@ -480,6 +513,51 @@ fn help_for(draft: &mut Draft, tokens: &[Token<'_>], index: usize) {
     }
 }
 
+/// What begins a command whose condition goes up to DO or THEN.
+const HEADS: [Symbol; 5] = [
+    Symbol::If,
+    Symbol::Unless,
+    Symbol::While,
+    Symbol::Until,
+    Symbol::Test,
+];
+
+/// Whether a condition stands in front of a place on the line of the token before it.
+fn is_behind_condition(tokens: &[Token<'_>], index: usize) -> bool {
+    for count in 1..LOOK_BACK {
+        let Some(token) = back(tokens, index, count) else {
+            return false;
+        };
+        if is_one_of(token, &HEADS) {
+            return true;
+        }
+        if token.line_before || is_symbol(token, Symbol::Do) {
+            return false;
+        }
+    }
+    false
+}
+
+/// Whether a comment that begins with `||` stands behind a token, the last one of its line.
+fn is_before_bars(read: Read<'_, '_>, token: &Token<'_>) -> bool {
+    let text = read.source(token.file);
+    for byte in text.get(token.end..).unwrap_or(b"") {
+        if *byte != b' ' {
+            return *byte == b'|';
+        }
+    }
+    false
+}
+
+/// Whether what is refused begins a line, and on the line before it a condition ends with a comment that begins with `||`.
+fn is_behind_bars(read: Read<'_, '_>, index: usize) -> bool {
+    let is_commented = match back(read.tokens, index, 1) {
+        Some(token) => is_before_bars(read, token),
+        None => false,
+    };
+    is_commented && is_behind_condition(read.tokens, index)
+}
+
 /// Tells of the token that can't stand where it stands.
 fn tell_expected(draft: &mut Draft, read: Read<'_, '_>, index: usize) {
     draft.place(read.place(index));
@@ -488,7 +566,14 @@ fn tell_expected(draft: &mut Draft, read: Read<'_, '_>, index: usize) {
         None => draft.say("the file ends too early", &[]),
     }
     say_wanted(draft, read.tokens, index);
-    help_for(draft, read.tokens, index);
+    if is_behind_bars(read, index) {
+        draft.help(
+            "|| begins a comment, up to the end of its line; or is written |",
+            &[],
+        );
+    } else {
+        help_for(draft, read.tokens, index);
+    }
 }
 
 /// Says of a section bracket that it is not closed, one of so many that are open: the bracket is told with its tag.
@@ -518,7 +603,7 @@ fn is_at_margin(read: Read<'_, '_>, token: &Token<'_>) -> bool {
 }
 
 /// Whether the heading of a routine begins with the token at a place: LET or AND, a name and a bracket.
-fn is_heading(tokens: &[Token<'_>], index: usize) -> bool {
+pub fn is_heading(tokens: &[Token<'_>], index: usize) -> bool {
     let bracket = index.saturating_add(2);
     (is_at(tokens, index, Symbol::Let) || is_at(tokens, index, Symbol::And))
         && is_behind_name(tokens, bracket)
@@ -565,18 +650,26 @@ fn tell_unclosed(draft: &mut Draft, read: Read<'_, '_>) {
     );
 }
 
+/// Whether the tag of the `$)` at a place is likely none, but a word: a reserved one, or one with what would go on with it as a name.
+fn is_word_behind(tokens: &[Token<'_>], index: usize, name: &[u8]) -> bool {
+    let next = index.saturating_add(1);
+    Symbol::spelled(name).is_some()
+        || is_at(tokens, next, Symbol::OpenBracket)
+        || is_at(tokens, next, Symbol::Assign)
+}
+
 /// Tells of a `$)` whose tag no section has that is open, the innermost of which is this.
 fn tell_tag(draft: &mut Draft, read: Read<'_, '_>, index: usize, innermost: usize) {
-    let name = match read.tokens.get(index) {
-        Some(token) => tag(token),
-        None => b"",
-    };
+    let name = tag_at(read.tokens, index);
     draft.say("no open $( has the tag {}", &[Fill::Shown(name)]);
     draft.note(
         read.place(innermost),
         "the innermost that is open here",
         &[],
     );
+    if is_word_behind(read.tokens, index, name) {
+        say_blank(draft, read.tokens, index);
+    }
 }
 
 /// Tells of a `$)` that closes nothing.

@@ -55,6 +55,15 @@ impl Reach {
         !matches!(self, Reach::Before)
     }
 
+    /// Whether the token with this index is read.
+    pub fn is_past(self, index: usize) -> bool {
+        match self {
+            Reach::Before => false,
+            Reach::Behind(next) => next > index,
+            Reach::End => true,
+        }
+    }
+
     /// Whether more is read than the token with this index.
     pub fn is_behind(self, index: usize) -> bool {
         match self {
@@ -135,6 +144,14 @@ fn add_change<'s>(
     }
 }
 
+/// A token, with this kind where it is the one that is replaced.
+fn of_kind<'s>(token: &Token<'s>, kind: TokenKind<'s>, is_it: bool) -> Token<'s> {
+    Token {
+        kind: if is_it { kind } else { token.kind },
+        ..*token
+    }
+}
+
 /// The tokens with another one of this kind at a place. Memory is answered where a growth was refused.
 pub fn replaced<'s>(
     alloc: Global,
@@ -142,9 +159,9 @@ pub fn replaced<'s>(
     index: usize,
     kind: TokenKind<'s>,
 ) -> Result<Vec<Token<'s>>, Memory> {
-    let mut changed = Vec::from_slice(alloc, tokens)?;
-    if let Some(token) = changed.get_mut(index) {
-        token.kind = kind;
+    let mut changed = Vec::new(alloc);
+    for (place, token) in tokens.iter().enumerate() {
+        changed.push(of_kind(token, kind, place == index))?;
     }
     Ok(changed)
 }
