@@ -1,4 +1,5 @@
-use crate::draft::Draft;
+use crate::draft::{Draft, Fill};
+use crate::sides::closed_in_front;
 use crate::trial::{Change, Reach, reached};
 use crate::words::{back, is_at, is_symbol};
 use bc_lex_tokens::{Symbol, Token, TokenKind};
@@ -7,21 +8,29 @@ use bcpl_places::Span;
 use std::alloc::Global;
 
 /// The tag of a section bracket: what stands behind its two signs.
-pub fn tag<'s>(token: &Token<'s>) -> &'s [u8] {
+fn tag<'s>(token: &Token<'s>) -> &'s [u8] {
     token.text.get(2..).unwrap_or(b"")
 }
 
-/// Takes off the sections that this closing bracket closes.
-fn close(open: &mut Vec<usize>, tokens: &[Token<'_>], closing: &Token<'_>) {
-    let name = tag(closing);
+/// The tag of the section bracket at a place.
+pub fn tag_at<'s>(tokens: &[Token<'s>], place: usize) -> &'s [u8] {
+    match tokens.get(place) {
+        Some(token) => tag(token),
+        None => b"",
+    }
+}
+
+/// Whether a closing bracket with this tag closes the section that the token at a place opens, and none around it.
+fn is_last(tokens: &[Token<'_>], place: usize, name: &[u8]) -> bool {
+    name.is_empty() || tag_at(tokens, place) == name
+}
+
+/// Takes off the sections that a bracket with this tag closes.
+fn close(open: &mut Vec<usize>, tokens: &[Token<'_>], name: &[u8]) {
     for _ in 0..open.len() {
-        let Some(last) = open.pop() else { break };
-        let is_it = match tokens.get(last) {
-            Some(token) => tag(token) == name,
-            None => true,
-        };
-        if name.is_empty() || is_it {
-            break;
+        match open.pop() {
+            Some(last) if !is_last(tokens, last, name) => {}
+            _ => break,
         }
     }
 }
@@ -30,14 +39,11 @@ fn close(open: &mut Vec<usize>, tokens: &[Token<'_>], closing: &Token<'_>) {
 /// growth was refused.
 pub fn open_before(alloc: Global, tokens: &[Token<'_>], end: usize) -> Result<Vec<usize>, Memory> {
     let mut open = Vec::new(alloc);
-    for (index, token) in tokens.iter().enumerate() {
-        if index >= end {
-            break;
-        }
-        if is_symbol(token, Symbol::OpenSection) {
+    for index in 0..end.min(tokens.len()) {
+        if is_at(tokens, index, Symbol::OpenSection) {
             open.push(index)?;
-        } else if is_symbol(token, Symbol::CloseSection) {
-            close(&mut open, tokens, token);
+        } else if is_at(tokens, index, Symbol::CloseSection) {
+            close(&mut open, tokens, tag_at(tokens, index));
         }
     }
     Ok(open)
@@ -49,20 +55,8 @@ pub fn open_at(draft: &mut Draft, tokens: &[Token<'_>], end: usize) -> Vec<usize
     draft.found(open_before(alloc, tokens, end), Vec::new(alloc))
 }
 
-/// How many round brackets are closed behind a token that are opened in front of it, given how many are behind the next one; none where
-/// the token opens one that isn't closed.
-fn closed_in_front(closed: usize, token: &Token<'_>) -> Option<usize> {
-    if is_symbol(token, Symbol::CloseBracket) {
-        Some(closed.saturating_add(1))
-    } else if is_symbol(token, Symbol::OpenBracket) {
-        closed.checked_sub(1)
-    } else {
-        Some(closed)
-    }
-}
-
-/// The innermost round bracket that is open in front of a place.
-fn open_round(tokens: &[Token<'_>], index: usize) -> Option<usize> {
+/// The innermost bracket, round or of a section, that is open in front of a place.
+fn open_bracket(tokens: &[Token<'_>], index: usize) -> Option<usize> {
     let mut closed: usize = 0;
     for count in 1..index.saturating_add(1) {
         match closed_in_front(closed, back(tokens, index, count)?) {
@@ -71,6 +65,14 @@ fn open_round(tokens: &[Token<'_>], index: usize) -> Option<usize> {
         }
     }
     None
+}
+
+/// Whether the innermost bracket that is open in front of a place is a round one.
+pub fn is_in_round(tokens: &[Token<'_>], index: usize) -> bool {
+    match open_bracket(tokens, index) {
+        Some(open) => is_at(tokens, open, Symbol::OpenBracket),
+        None => false,
+    }
 }
 
 /// Whether more is read than the token at a place with a `)` in front of it, and what is refused then is no further `)`.
@@ -90,8 +92,8 @@ pub fn help_for_round(
     tokens: &[Token<'_>],
     index: usize,
 ) -> Option<&'static str> {
-    let open = *tokens.get(open_round(tokens, index)?)?;
-    if !lacks_round(draft, tokens, index) {
+    let open = *tokens.get(open_bracket(tokens, index)?)?;
+    if !is_symbol(&open, Symbol::OpenBracket) || !lacks_round(draft, tokens, index) {
         return None;
     }
     let span = Span {
@@ -101,4 +103,45 @@ pub fn help_for_round(
     };
     draft.note(span, "this ( is not closed", &[]);
     Some("write the ) that closes it")
+}
+
+/// Says of the bracket with a tag at a place that a blank was likely meant behind its signs.
+pub fn say_blank(draft: &mut Draft, tokens: &[Token<'_>], place: usize) {
+    if let Some(bracket) = tokens.get(place) {
+        draft.help(
+            "{} is a bracket with the tag {}: write a blank behind its {}",
+            &[
+                Fill::Shown(bracket.text),
+                Fill::Shown(tag(bracket)),
+                Fill::Shown(bracket.text.get(..2).unwrap_or(b"")),
+            ],
+        );
+    }
+}
+
+/// Whether more is read than the token at a place with the tag of this bracket as a word behind it; no if it has none.
+fn is_glued(draft: &mut Draft, tokens: &[Token<'_>], index: usize, open: usize) -> bool {
+    let name = tag_at(tokens, open);
+    if name.is_empty() {
+        return false;
+    }
+    let kind = match Symbol::spelled(name) {
+        Some(symbol) => TokenKind::Symbol(symbol),
+        None => TokenKind::Name(b"N"),
+    };
+    let behind = open.saturating_add(1);
+    reached(draft, tokens, behind, Change::Insert(kind)).is_behind(index)
+}
+
+/// Says so where the section that a place stands in is opened by a bracket with a tag, and with a blank behind its signs more is read;
+/// whether that is so.
+pub fn says_tag(draft: &mut Draft, tokens: &[Token<'_>], index: usize) -> bool {
+    let Some(open) = open_at(draft, tokens, index).last().copied() else {
+        return false;
+    };
+    let is_meant = is_glued(draft, tokens, index, open);
+    if is_meant {
+        say_blank(draft, tokens, open);
+    }
+    is_meant
 }

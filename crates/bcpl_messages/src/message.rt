@@ -34,32 +34,10 @@ pub struct Message {
 }
 
 impl Message {
-    /// A message of this sentence alone. Memory is answered where a growth was refused.
-    pub fn new(
-        alloc: Global,
-        main: usize,
-        span: Option<Span>,
-        sentence: &str,
-    ) -> Result<Message, Memory> {
-        Ok(Message {
-            span,
-            main,
-            sentence: String::from_str(alloc, sentence)?,
-            notes: Vec::new(alloc),
-            help: None,
-        })
-    }
-
     /// Says what one may have meant. Memory is answered where a growth was refused.
-    pub fn set_help(&mut self, alloc: Global, help: &str) -> Result<(), Memory> {
+    fn set_help(&mut self, alloc: Global, help: &str) -> Result<(), Memory> {
         self.help = Some(String::from_str(alloc, help)?);
         Ok(())
-    }
-
-    /// Adds a further place. Memory is answered where a growth was refused.
-    pub fn add_note(&mut self, alloc: Global, span: Span, sentence: &str) -> Result<(), Memory> {
-        let sentence = String::from_str(alloc, sentence)?;
-        Ok(self.notes.push(Note { span, sentence })?)
     }
 
     /// This message with a help, if there is one. Memory is answered where a growth was refused.
@@ -68,13 +46,6 @@ impl Message {
         if let Some(help) = help {
             message.set_help(alloc, help)?;
         }
-        Ok(message)
-    }
-
-    /// This message with a further place. Memory is answered where a growth was refused.
-    pub fn noted(self, alloc: Global, span: Span, sentence: &str) -> Result<Message, Memory> {
-        let mut message = self;
-        message.add_note(alloc, span, sentence)?;
         Ok(message)
     }
 }

@@ -1,10 +1,11 @@
 //! Tokens side by side, and tokens by themselves, that are known mistakes.
 
-use crate::words::{back, is_symbol};
+use crate::brackets::is_in_round;
+use crate::words::{back, is_at, is_symbol};
 use bc_lex_tokens::{Symbol, Token, TokenKind};
 
 /// What is said of two spellings side by side.
-const PAIRS: [(&[u8], &[u8], &str); 18] = [
+const PAIRS: [(&[u8], &[u8], &str); 21] = [
     (b"=", b"=", "equality is written with one ="),
     (b"=", b"<", "at most is written <="),
     (b"=", b">", "at least is written >="),
@@ -12,6 +13,11 @@ const PAIRS: [(&[u8], &[u8], &str); 18] = [
         b"FOR",
         b"LET",
         "FOR declares its variable itself, as in FOR I = 1 TO 9 DO ..",
+    ),
+    (
+        b"FOR",
+        b"(",
+        "FOR counts from one value to another, without brackets, as in FOR I = 0 TO 9 DO ..",
     ),
     (b"~", b"=", "unequal is written ~= or NE"),
     (b"!", b"=", "unequal is written ~= or NE"),
@@ -39,6 +45,8 @@ const PAIRS: [(&[u8], &[u8], &str); 18] = [
     (b"+", b"=", "to add to X, write X := X + 1"),
     (b"-", b"-", "to take from X, write X := X - 1"),
     (b"-", b"=", "to take from X, write X := X - 1"),
+    (b"*", b"=", "to multiply X, write X := X * 2"),
+    (b"/", b"=", "to divide X, write X := X / 2"),
     (b"&", b"&", "and is written with one &"),
     (b"|", b"|", "or is written with one |"),
     (
@@ -108,8 +116,11 @@ const COMMAND: &str =
 const DECLARATION: &str =
     "the declarations of a block stand in front of its commands, apart by ; or line breaks; open a block by $( for further ones";
 
+const REPEATED: &str =
+    "it stands behind its command, as in $( .. $) REPEAT or $( .. $) REPEATUNTIL E";
+
 /// What is said of a symbol that is refused by itself.
-const SYMBOLS: [(Symbol, &str); 18] = [
+const SYMBOLS: [(Symbol, &str); 21] = [
     (
         Symbol::Else,
         "ELSE and OR belong to TEST .. THEN .. ELSE; an IF has no second command, and the operator or is written |",
@@ -137,6 +148,9 @@ const SYMBOLS: [(Symbol, &str); 18] = [
         "a vector is declared by LET V = VEC K, alone in its definition",
     ),
     (Symbol::ResultIs, "RESULTIS stands in VALOF $( .. $)"),
+    (Symbol::Repeat, REPEATED),
+    (Symbol::RepeatWhile, REPEATED),
+    (Symbol::RepeatUntil, REPEATED),
 ];
 
 /// How a token is spelled; nothing where there is none.
@@ -147,14 +161,39 @@ fn text_of<'s>(token: Option<&Token<'s>>) -> &'s [u8] {
     }
 }
 
-/// Whether an octal number ends in front of a digit that is none of its own.
-fn is_octal(before: Option<&Token<'_>>, at: Option<&Token<'_>>) -> bool {
-    let (Some(before), Some(at)) = (before, at) else {
-        return false
-    };
-    before.text.starts_with(b"#")
-        && before.end == at.start
-        && (at.text.starts_with(b"8") || at.text.starts_with(b"9"))
+/// What is said of two tokens without a blank between them: how the first one begins, how the second one may, and the help. Where
+/// nothing stands for the second one, it begins with a letter, a digit or a quote.
+const GLUED: [(&[u8], &[u8], &str); 3] = [
+    (
+        b"#",
+        b"89",
+        "octal digits, which stand behind #, go from 0 to 7; a decimal number has no #",
+    ),
+    (
+        b"0",
+        b"xX",
+        "hexadecimal digits stand behind #X, as in #X1F",
+    ),
+    (b"\"", b"", "a quote within a string is written *\""),
+];
+
+/// Whether a spelling begins with one of these bytes; where there are none, with a letter, a digit or a quote.
+fn begins_with(spelling: &[u8], bytes: &[u8]) -> bool {
+    match spelling.first() {
+        Some(byte) if bytes.is_empty() => byte.is_ascii_alphanumeric() || *byte == b'"',
+        Some(byte) => bytes.contains(byte),
+        None => false,
+    }
+}
+
+/// What is said of two spellings that stand without a blank between them.
+fn help_for_glued(before: &[u8], at: &[u8]) -> Option<&'static str> {
+    for (front, bytes, help) in &GLUED {
+        if before.starts_with(*front) && begins_with(at, *bytes) {
+            return Some(*help);
+        }
+    }
+    None
 }
 
 /// Whether a token is a name.
@@ -181,7 +220,7 @@ fn is_relation(found: &[u8]) -> bool {
 /// What these rows say of a spelling.
 fn help_in_rows(rows: &[(&[u8], &'static str)], spelling: &[u8]) -> Option<&'static str> {
     for (known, help) in rows {
-        if *known == spelling {
+        if is_same(known, spelling) {
             return Some(*help);
         }
     }
@@ -196,7 +235,7 @@ fn is_same(one: &[u8], other: &[u8]) -> bool {
 /// What is said of two spellings side by side, if they are a known pair.
 fn help_for_known(before: &[u8], at: &[u8]) -> Option<&'static str> {
     for (first, second, help) in &PAIRS {
-        if *first == before && is_same(second, at) {
+        if is_same(first, before) && is_same(second, at) {
             return Some(*help);
         }
     }
@@ -217,30 +256,81 @@ fn help_for_pair(before: &[u8], at: &[u8]) -> Option<&'static str> {
 pub const VECTOR_WITHOUT_SIZE: &str =
     "perhaps VEC lacks its size, and this line was read as that: LET V = VEC 10";
 
-/// In how many tokens in front of a place a VEC without its size is looked for.
+/// In how many tokens in front of a place the begin of its line is looked for.
 const LOOK_BACK: usize = 12;
+
+/// The place of the token that begins the line of the one at a place, if it is near.
+fn begin_of_line(tokens: &[Token<'_>], index: usize) -> Option<usize> {
+    for count in 0..LOOK_BACK {
+        let place = index.checked_sub(count)?;
+        if tokens.get(place)?.line_before {
+            return Some(place);
+        }
+    }
+    None
+}
 
 /// Whether VEC ends the line in front of that of a place, so that the name which begins this line was read as the vector's size.
 fn is_behind_open_vector(tokens: &[Token<'_>], index: usize) -> bool {
-    let begin = index.saturating_sub(LOOK_BACK);
-    let behind = index.saturating_add(1);
-    let mut is_vector = false;
-    let mut is_open = false;
-    for token in tokens.get(begin..behind).unwrap_or(&[]) {
-        if token.line_before {
-            is_open = is_vector && matches!(token.kind, TokenKind::Name(_));
+    match begin_of_line(tokens, index) {
+        Some(begin) => {
+            is_name(tokens.get(begin)) && is_at(tokens, begin.wrapping_sub(1), Symbol::Vector)
         }
-        is_vector = is_symbol(token, Symbol::Vector);
+        None => false,
     }
-    is_open
 }
 
-/// What is said where a line was read on behind VEC, or an octal number ends in front of a digit.
+/// What is said where a line was read on behind VEC, or two tokens stand without a blank between them.
 fn help_for_number(tokens: &[Token<'_>], index: usize) -> Option<&'static str> {
+    let before = back(tokens, index, 1)?;
+    let at = tokens.get(index)?;
     if is_behind_open_vector(tokens, index) {
         Some(VECTOR_WITHOUT_SIZE)
-    } else if is_octal(back(tokens, index, 1), tokens.get(index)) {
-        Some("octal digits, which stand behind #, go from 0 to 7; a decimal number has no #")
+    } else if before.end == at.start {
+        help_for_glued(before.text, at.text)
+    } else {
+        None
+    }
+}
+
+/// What is said of a `*` that stands for the cell at an address.
+pub const POINTER: &str =
+    "the cell at P is written !P; a line that begins with * goes on with the one in front of it";
+
+/// Whether a `*` begins the line of the token in front of a place.
+pub fn is_behind_star(tokens: &[Token<'_>], index: usize) -> bool {
+    match begin_of_line(tokens, index.wrapping_sub(1)) {
+        Some(begin) => is_at(tokens, begin, Symbol::Multiply),
+        None => false,
+    }
+}
+
+/// Whether a `*` stands at a place, and a name behind it.
+fn is_pointer(tokens: &[Token<'_>], index: usize) -> bool {
+    is_at(tokens, index, Symbol::Multiply) && is_name(tokens.get(index.saturating_add(1)))
+}
+
+/// What is said of a `:=` that is refused, by what stands in front of it.
+fn help_for_assign(tokens: &[Token<'_>], index: usize) -> Option<&'static str> {
+    if is_behind_star(tokens, index) {
+        Some(POINTER)
+    } else if is_in_round(tokens, index) {
+        Some(
+            "an assignment is a command, not a value: assign in front, or use VALOF $( .. RESULTIS E $); to compare, write =",
+        )
+    } else {
+        None
+    }
+}
+
+/// What is said of a `:=`, a `)` or a `*` that is refused, by what stands around it.
+fn help_for_sign(tokens: &[Token<'_>], index: usize) -> Option<&'static str> {
+    if is_at(tokens, index, Symbol::Assign) {
+        help_for_assign(tokens, index)
+    } else if is_at(tokens, index, Symbol::CloseBracket) && !is_in_round(tokens, index) {
+        Some("this ) closes nothing: each ( in front of it is closed")
+    } else if is_pointer(tokens, index) {
+        Some(POINTER)
     } else {
         None
     }
@@ -251,23 +341,18 @@ fn is_typed(tokens: &[Token<'_>], index: usize) -> bool {
     is_let(back(tokens, index, 2)) && is_name(back(tokens, index, 1)) && is_name(tokens.get(index))
 }
 
-/// Whether two tokens side by side are spelled so.
-fn are_spelled(
-    one: Option<&Token<'_>>,
-    other: Option<&Token<'_>>,
-    spelled: (&[u8], &[u8]),
-) -> bool {
-    text_of(one) == spelled.0 && text_of(other) == spelled.1
+/// Whether these two symbols stand side by side, the first of them at a place.
+fn are_at(tokens: &[Token<'_>], place: usize, one: Symbol, other: Symbol) -> bool {
+    is_at(tokens, place, one) && is_at(tokens, place.wrapping_add(1), other)
 }
 
 /// What is said of known mistakes that have a further token in front of a place and the one before it, or behind it.
 fn help_for_further(tokens: &[Token<'_>], index: usize) -> Option<&'static str> {
-    let next = tokens.get(index.saturating_add(1));
     if is_typed(tokens, index) {
         Some("a variable has no type, and is declared by LET X = 1")
-    } else if are_spelled(back(tokens, index, 2), back(tokens, index, 1), (b"-", b"-")) {
+    } else if are_at(tokens, index.wrapping_sub(2), Symbol::Minus, Symbol::Minus) {
         Some("to take from X, write X := X - 1")
-    } else if are_spelled(tokens.get(index), next, (b";", b"ELSE")) {
+    } else if are_at(tokens, index, Symbol::Semicolon, Symbol::Else) {
         Some("no ; stands in front of ELSE")
     } else {
         None
@@ -281,6 +366,7 @@ pub fn help_for_neighbours(tokens: &[Token<'_>], index: usize) -> Option<&'stati
     help_for_number(tokens, index)
         .or(of_pair)
         .or(help_for_further(tokens, index))
+        .or(help_for_sign(tokens, index))
 }
 
 /// What is said of a name that is an operator or a bracket in other languages.

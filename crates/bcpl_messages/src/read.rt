@@ -34,6 +34,14 @@ impl<'s> Read<'_, 's> {
         }
     }
 
+    /// The text of a source; nothing of one that isn't there.
+    pub fn source(&self, file: usize) -> &'s [u8] {
+        match self.sources.get(file) {
+            Some(source) => source.text,
+            None => b"",
+        }
+    }
+
     /// The text of the token with this index; nothing where there is none.
     pub fn text(&self, index: usize) -> &'s [u8] {
         match self.tokens.get(index) {

@@ -2,10 +2,11 @@ use crate::constants::{Reason, reason_of};
 use crate::declared::{Declared, declaration_of};
 use crate::draft::{Draft, Fill};
 use crate::likeness::nearest;
-use crate::neighbours::VECTOR_WITHOUT_SIZE;
+use crate::neighbours::{POINTER, VECTOR_WITHOUT_SIZE, is_behind_star};
 use crate::read::Read;
+use crate::syntax::{is_heading, name_of};
 use crate::trial::replaced;
-use crate::words::{back, is_symbol};
+use crate::words::{back, is_at, is_symbol};
 use bc_build::ScopeFault;
 use bc_lex::{Source, lex};
 use bc_lex_tokens::{Symbol, Token, TokenKind};
@@ -203,12 +204,9 @@ fn said_of<'a>(fault: &ScopeFault, tokens: &[Token<'_>], index: usize) -> Option
 
 /// Whether the text of the main gets the header of the library.
 fn gets_library(draft: &mut Draft, read: Read<'_, '_>) -> bool {
-    let text = match read.sources.get(read.main) {
-        Some(source) => source.text,
-        None => b"",
-    };
     let alloc = draft.alloc();
-    let gets = draft.found(gets_of(alloc, text), Vec::new(alloc));
+    let gets = gets_of(alloc, read.source(read.main));
+    let gets = draft.found(gets, Vec::new(alloc));
     gets.iter().any(|get| get.name == b"LIBHDR".as_slice())
 }
 
@@ -269,6 +267,10 @@ fn add_second(draft: &mut Draft, read: Read<'_, '_>, second: Also) {
 const KNOWN: &str =
     "a name is known in the block, routine or FOR that declares it, from its declaration on";
 
+/// The same, of a routine that is declared behind its use.
+const KNOWN_ROUTINE: &str =
+    "a name is known from its declaration on; routines that call each other are one declaration, LET F() .. AND G() ..";
+
 /// From where on a name of a MANIFEST has a value.
 const BEHIND_ITS_ENTRY: &str =
     "a name of a MANIFEST is a constant behind its own entry: put that in front of its use";
@@ -292,7 +294,13 @@ fn add_declared(draft: &mut Draft, read: Read<'_, '_>, place: usize, name: &[u8]
         return false;
     };
     add_found(draft, read, name, found);
-    draft.help(KNOWN, &[]);
+    let is_routine = is_heading(read.tokens, found.index.saturating_sub(1));
+    let help = if is_routine && found.index > place {
+        KNOWN_ROUTINE
+    } else {
+        KNOWN
+    };
+    draft.help(help, &[]);
     true
 }
 
@@ -424,6 +432,55 @@ fn add_reason(draft: &mut Draft, read: Read<'_, '_>, at: TokenSpan) {
     }
 }
 
+/// The name of the last routine whose heading begins in front of a place.
+fn last_routine<'s>(tokens: &[Token<'s>], place: usize) -> Option<&'s [u8]> {
+    let mut name = None;
+    for index in 0..place {
+        if is_heading(tokens, index) {
+            name = name_of(tokens.get(index.saturating_add(1)));
+        }
+    }
+    name
+}
+
+/// Whether an expression is the name of the last routine whose heading begins in front of it.
+fn is_result(tokens: &[Token<'_>], at: TokenSpan) -> bool {
+    let name = name_of(tokens.get(at.first));
+    match (last_routine(tokens, at.first), name) {
+        (Some(routine), Some(name)) => at.first == at.last && routine == name,
+        _ => false,
+    }
+}
+
+/// Whether an expression is a name with brackets behind it.
+fn is_call(tokens: &[Token<'_>], at: TokenSpan) -> bool {
+    name_of(tokens.get(at.first)).is_some()
+        && is_at(tokens, at.first.saturating_add(1), Symbol::OpenBracket)
+        && is_at(tokens, at.last, Symbol::CloseBracket)
+}
+
+/// What may have been meant by an expression that has no cell.
+fn help_for_cell(tokens: &[Token<'_>], at: TokenSpan) -> Option<&'static str> {
+    let behind = at.last.saturating_add(1);
+    let is_assigned = is_at(tokens, behind, Symbol::Assign);
+    if is_assigned && is_behind_star(tokens, behind) {
+        Some(POINTER)
+    } else if is_call(tokens, at) {
+        Some("an element of a vector is written V!0, as in V!0 := 1; brackets call a routine")
+    } else if is_assigned && is_result(tokens, at) {
+        Some("a function gives its value by RESULTIS in VALOF $( .. $), or as LET F(X) = E")
+    } else {
+        None
+    }
+}
+
+/// Adds what may have been meant by an expression that has no cell, where that is seen.
+fn add_cell(draft: &mut Draft, read: Read<'_, '_>, at: TokenSpan) {
+    if let Some(help) = help_for_cell(read.tokens, at) {
+        draft.help(help, &[]);
+    }
+}
+
 /// Adds what is said of a fault at a place beside its sentence.
 fn add_more(draft: &mut Draft, read: Read<'_, '_>, fault: &ScopeFault, found: FaultPlace) {
     add_second(draft, read, found.also);
@@ -431,6 +488,7 @@ fn add_more(draft: &mut Draft, read: Read<'_, '_>, fault: &ScopeFault, found: Fa
     match fault {
         ScopeFault::Undeclared(name) => add_undeclared(draft, read, place, name.as_slice()),
         ScopeFault::NotConstant => add_reason(draft, read, found.at),
+        ScopeFault::NotAssignable => add_cell(draft, read, found.at),
         _ => {}
     }
 }

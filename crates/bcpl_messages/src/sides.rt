@@ -5,7 +5,7 @@ use crate::words::{back, is_at, is_symbol};
 use bc_lex_tokens::{Symbol, Token};
 
 /// Whether a token is one of these symbols.
-fn is_one_of(token: &Token<'_>, symbols: &[Symbol]) -> bool {
+pub fn is_one_of(token: &Token<'_>, symbols: &[Symbol]) -> bool {
     symbols.iter().any(|symbol| is_symbol(token, *symbol))
 }
 
@@ -26,7 +26,7 @@ const FRONTS: [Symbol; 4] = [Symbol::Semicolon, Symbol::Colon, Symbol::Do, Symbo
 
 /// How many brackets are closed behind a token that are opened in front of it, given how many are behind the next one; none where the
 /// token opens one that isn't closed.
-fn closed_in_front(closed: usize, token: &Token<'_>) -> Option<usize> {
+pub fn closed_in_front(closed: usize, token: &Token<'_>) -> Option<usize> {
     if is_one_of(token, &OPENING) {
         closed.checked_sub(1)
     } else if is_one_of(token, &CLOSING) {

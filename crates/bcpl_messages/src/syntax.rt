@@ -1,12 +1,12 @@
 ghost use Rattle.std.specs.Prelude.{slice_get};
 ghost use Rattle.bcpl_messages.specs.Spans.{IsSpanOf};
 
-use crate::brackets::{help_for_round, open_at, tag};
+use crate::brackets::{help_for_round, open_at, say_blank, says_tag, tag_at};
 use crate::draft::{Draft, Fill};
 use crate::likeness::reserved_word;
 use crate::neighbours::{help_for_name, help_for_neighbours, help_for_token};
 use crate::read::Read;
-use crate::sides::says_sides;
+use crate::sides::{is_one_of, says_sides};
 use crate::trial::{Change, reached};
 use crate::wanted::{could_be, could_be_name, say_wanted};
 use crate::words::{back, is_at, is_symbol, symbol_at};
@@ -203,7 +203,7 @@ const NEXT_GUESSES: [Guess; 5] = [
 ];
 
 /// Those that are tried at the end.
-const LAST_GUESSES: [Guess; 4] = [
+const LAST_GUESSES: [Guess; 5] = [
     Guess {
         site: Site::OnLine,
         trial: Trial::Behind(Symbol::Comma),
@@ -223,6 +223,11 @@ const LAST_GUESSES: [Guess; 4] = [
         site: Site::BehindCase,
         trial: Trial::Behind(Symbol::Colon),
         help: "a colon stands behind it, as in CASE 1: WRITES(\"A\")",
+    },
+    Guess {
+        site: Site::At(Symbol::CloseSection),
+        trial: Trial::Stands(Symbol::Do),
+        help: "a command stands behind it, as in UNTIL E DO C; a loop that tests behind its command is written $( .. $) REPEATUNTIL E",
     },
 ];
 
@@ -483,7 +488,10 @@ fn guessed(draft: &mut Draft, tokens: &[Token<'_>], index: usize) -> Option<&'st
 
 /// Says what may have been meant, where no known mistake stands around the place.
 fn help_by_trying(draft: &mut Draft, tokens: &[Token<'_>], index: usize) {
-    if says_reserved(draft, tokens, index) || says_sides(draft, tokens, index) {
+    if says_reserved(draft, tokens, index)
+        || says_tag(draft, tokens, index)
+        || says_sides(draft, tokens, index)
+    {
         return;
     }
     if let Some(help) = help_in_words(draft, tokens, index) {
@@ -505,6 +513,51 @@ fn help_for(draft: &mut Draft, tokens: &[Token<'_>], index: usize) {
     }
 }
 
+/// What begins a command whose condition goes up to DO or THEN.
+const HEADS: [Symbol; 5] = [
+    Symbol::If,
+    Symbol::Unless,
+    Symbol::While,
+    Symbol::Until,
+    Symbol::Test,
+];
+
+/// Whether a condition stands in front of a place on the line of the token before it.
+fn is_behind_condition(tokens: &[Token<'_>], index: usize) -> bool {
+    for count in 1..LOOK_BACK {
+        let Some(token) = back(tokens, index, count) else {
+            return false;
+        };
+        if is_one_of(token, &HEADS) {
+            return true;
+        }
+        if token.line_before || is_symbol(token, Symbol::Do) {
+            return false;
+        }
+    }
+    false
+}
+
+/// Whether a comment that begins with `||` stands behind a token, the last one of its line.
+fn is_before_bars(read: Read<'_, '_>, token: &Token<'_>) -> bool {
+    let text = read.source(token.file);
+    for byte in text.get(token.end..).unwrap_or(b"") {
+        if *byte != b' ' {
+            return *byte == b'|';
+        }
+    }
+    false
+}
+
+/// Whether what is refused begins a line, and on the line before it a condition ends with a comment that begins with `||`.
+fn is_behind_bars(read: Read<'_, '_>, index: usize) -> bool {
+    let is_commented = match back(read.tokens, index, 1) {
+        Some(token) => is_before_bars(read, token),
+        None => false,
+    };
+    is_commented && is_behind_condition(read.tokens, index)
+}
+
 /// Tells of the token that can't stand where it stands.
 fn tell_expected(draft: &mut Draft, read: Read<'_, '_>, index: usize) {
     draft.place(read.place(index));
@@ -513,7 +566,14 @@ fn tell_expected(draft: &mut Draft, read: Read<'_, '_>, index: usize) {
         None => draft.say("the file ends too early", &[]),
     }
     say_wanted(draft, read.tokens, index);
-    help_for(draft, read.tokens, index);
+    if is_behind_bars(read, index) {
+        draft.help(
+            "|| begins a comment, up to the end of its line; or is written |",
+            &[],
+        );
+    } else {
+        help_for(draft, read.tokens, index);
+    }
 }
 
 /// Says of a section bracket that it is not closed, one of so many that are open: the bracket is told with its tag.
@@ -543,7 +603,7 @@ fn is_at_margin(read: Read<'_, '_>, token: &Token<'_>) -> bool {
 }
 
 /// Whether the heading of a routine begins with the token at a place: LET or AND, a name and a bracket.
-fn is_heading(tokens: &[Token<'_>], index: usize) -> bool {
+pub fn is_heading(tokens: &[Token<'_>], index: usize) -> bool {
     let bracket = index.saturating_add(2);
     (is_at(tokens, index, Symbol::Let) || is_at(tokens, index, Symbol::And))
         && is_behind_name(tokens, bracket)
@@ -590,18 +650,26 @@ fn tell_unclosed(draft: &mut Draft, read: Read<'_, '_>) {
     );
 }
 
+/// Whether the tag of the `$)` at a place is likely none, but a word: a reserved one, or one with what would go on with it as a name.
+fn is_word_behind(tokens: &[Token<'_>], index: usize, name: &[u8]) -> bool {
+    let next = index.saturating_add(1);
+    Symbol::spelled(name).is_some()
+        || is_at(tokens, next, Symbol::OpenBracket)
+        || is_at(tokens, next, Symbol::Assign)
+}
+
 /// Tells of a `$)` whose tag no section has that is open, the innermost of which is this.
 fn tell_tag(draft: &mut Draft, read: Read<'_, '_>, index: usize, innermost: usize) {
-    let name = match read.tokens.get(index) {
-        Some(token) => tag(token),
-        None => b"",
-    };
+    let name = tag_at(read.tokens, index);
     draft.say("no open $( has the tag {}", &[Fill::Shown(name)]);
     draft.note(
         read.place(innermost),
         "the innermost that is open here",
         &[],
     );
+    if is_word_behind(read.tokens, index, name) {
+        say_blank(draft, read.tokens, index);
+    }
 }
 
 /// Tells of a `$)` that closes nothing.

@@ -144,6 +144,14 @@ fn add_change<'s>(
     }
 }
 
+/// A token, with this kind where it is the one that is replaced.
+fn of_kind<'s>(token: &Token<'s>, kind: TokenKind<'s>, is_it: bool) -> Token<'s> {
+    Token {
+        kind: if is_it { kind } else { token.kind },
+        ..*token
+    }
+}
+
 /// The tokens with another one of this kind at a place. Memory is answered where a growth was refused.
 pub fn replaced<'s>(
     alloc: Global,
@@ -151,9 +159,9 @@ pub fn replaced<'s>(
     index: usize,
     kind: TokenKind<'s>,
 ) -> Result<Vec<Token<'s>>, Memory> {
-    let mut changed = Vec::from_slice(alloc, tokens)?;
-    if let Some(token) = changed.get_mut(index) {
-        token.kind = kind;
+    let mut changed = Vec::new(alloc);
+    for (place, token) in tokens.iter().enumerate() {
+        changed.push(of_kind(token, kind, place == index))?;
     }
     Ok(changed)
 }
