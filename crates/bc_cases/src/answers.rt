@@ -1,23 +1,8 @@
 use crate::answer::Answer;
 use crate::escapes::expanded;
-use crate::linking::OfText;
 use crate::rules::OfRoot;
-use crate::tokens::Reading;
-use crate::trees::OfTree;
 use crate::{arithmetic, certificates, linking, machines, rules, streams, sweeps, tokens};
 use std::str;
-
-/// The kinds of cases that read the tokens of a source.
-const READINGS: [(&str, Reading); 8] = [
-    ("tokens", Reading::All),
-    ("kinds", Reading::Kinds),
-    ("counts", Reading::Counts),
-    ("rendered", Reading::Rendered),
-    ("closed", Reading::Closed),
-    ("spelling", Reading::Tree(OfTree::Spelling)),
-    ("read back", Reading::Tree(OfTree::Back)),
-    ("resolved", Reading::Tree(OfTree::Resolved)),
-];
 
 /// A kind of cases that speaks of roots and their code, in whose inputs a text may be written once for many times.
 #[derive(Clone, Copy)]
@@ -40,36 +25,33 @@ const OF_ROOTS: [(&str, OfRoots); 8] = [
     ("altered certificates", OfRoots::AlteredCertificates),
 ];
 
-/// Another kind of cases: one that speaks of several sources, or of words, texts and machines.
+/// Another kind of cases: one that speaks of the library, or of words, texts and machines.
 #[derive(Clone, Copy)]
 enum Other {
-    Alike,
     Library,
+    Rendered,
     AlteredSources,
     Arithmetic,
     Word,
     Operator,
     Symbol,
     Text,
-    Fronts,
-    Whole(OfText),
+    TextWords,
     Steps,
     Streams,
     AlteredTexts,
 }
 
-const OTHERS: [(&str, Other); 14] = [
-    ("alike", Other::Alike),
+const OTHERS: [(&str, Other); 12] = [
     ("library", Other::Library),
+    ("rendered", Other::Rendered),
     ("altered sources", Other::AlteredSources),
     ("arithmetic", Other::Arithmetic),
     ("word", Other::Word),
     ("operator", Other::Operator),
     ("symbol", Other::Symbol),
     ("text", Other::Text),
-    ("fronts", Other::Fronts),
-    ("words of a text", Other::Whole(OfText::Words)),
-    ("linked", Other::Whole(OfText::Image)),
+    ("words of a text", Other::TextWords),
     ("steps", Other::Steps),
     ("streams", Other::Streams),
     ("altered texts", Other::AlteredTexts),
@@ -97,16 +79,15 @@ fn of_roots(answer: &mut Answer, kind: OfRoots, input: &str) {
 
 fn of_others(answer: &mut Answer, kind: Other, input: &str) {
     match kind {
-        Other::Alike => tokens::add_alike(answer, input),
-        Other::Library => tokens::add_library(answer),
+        Other::Library => tokens::add_library(answer, input),
+        Other::Rendered => tokens::add_text(answer, input),
         Other::AlteredSources => sweeps::add_sources(answer, input),
         Other::Arithmetic => arithmetic::add_applied(answer, input),
         Other::Word => arithmetic::add_word(answer, input),
         Other::Operator => arithmetic::add_operator(answer, input),
         Other::Symbol => arithmetic::add_symbol(answer, input),
         Other::Text => linking::add_text(answer, input),
-        Other::Fronts => linking::add_fronts(answer, input),
-        Other::Whole(what) => linking::add_whole(answer, what, input),
+        Other::TextWords => linking::add_text_words(answer, input),
         Other::Steps => machines::add_steps(answer, input),
         Other::Streams => streams::add_streams(answer, input),
         Other::AlteredTexts => sweeps::add_texts(answer, input),
@@ -123,7 +104,7 @@ fn of_expanded(answer: &mut Answer, kind: OfRoots, input: &str) {
     );
 }
 
-/// Adds what an input of this kind answers, if the kind asks neither of one source's tokens nor of roots.
+/// Adds what an input of this kind answers, if the kind doesn't ask of roots.
 fn add_other(answer: &mut Answer, kind: &str, input: &str) {
     match named(&OTHERS, kind) {
         Some(kind) => of_others(answer, kind, input),
@@ -131,18 +112,10 @@ fn add_other(answer: &mut Answer, kind: &str, input: &str) {
     }
 }
 
-/// Adds what an input of this kind answers, if the kind doesn't ask of one source's tokens.
-fn add_unread(answer: &mut Answer, kind: &str, input: &str) {
+/// Adds what an input of this kind answers.
+pub fn add_answer(answer: &mut Answer, kind: &str, input: &str) {
     match named(&OF_ROOTS, kind) {
         Some(kind) => of_expanded(answer, kind, input),
         None => add_other(answer, kind, input),
-    }
-}
-
-/// Adds what an input of this kind answers.
-pub fn add_answer(answer: &mut Answer, kind: &str, input: &str) {
-    match named(&READINGS, kind) {
-        Some(reading) => tokens::add_read(answer, reading, input),
-        None => add_unread(answer, kind, input),
     }
 }

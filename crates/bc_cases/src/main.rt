@@ -14,11 +14,9 @@ mod linking;
 mod machines;
 mod number;
 mod rules;
-mod sources;
 mod streams;
 mod sweeps;
 mod tokens;
-mod trees;
 
 use crate::answer::Answer;
 use crate::answers::add_answer;

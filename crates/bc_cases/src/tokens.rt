@@ -1,93 +1,57 @@
 use crate::answer::Answer;
 use crate::growth::Growth;
+use crate::linking::text_of;
 use crate::number::count;
-use crate::sources::sources_of;
-use crate::trees::{OfTree, add_closed, add_of_tree};
 use bc_lex::{LexError, Source, lex};
 use bc_lex_tokens::{Token, TokenKind};
 use bc_library::{BLIB, LIBHDR};
 use bc_parse_spell::render;
-use bc_show::{ShownKind, ShownToken};
 use std::alloc::Global;
 
-/// What is answered of the tokens of a source.
+/// What is answered of tokens.
 #[derive(Clone, Copy)]
-pub enum Reading {
-    /// Each token on a line, with all that it says.
-    All,
-    /// Their kinds, with blanks between them.
-    Kinds,
+pub enum OfTokens {
     /// How many there are of each kind.
     Counts,
     /// Their text, where it has the same tokens and no line break.
     Rendered,
-    /// Their indexes once tags are closed and line breaks stand for semicolons.
-    Closed,
-    /// What is answered of the section that they are.
-    Tree(OfTree),
 }
 
-/// The tokens of the source with this index.
-fn tokens_of<'s>(
-    alloc: Global,
-    sources: &[Source<'s>],
-    main: usize,
-) -> Result<Vec<Token<'s>>, LexError> {
-    if main < sources.len() {
-        lex(alloc, sources, main)
-    } else {
-        Ok(Vec::new(alloc))
+/// The tokens of a text.
+fn tokens_of<'s>(alloc: Global, text: &'s [u8]) -> Result<Vec<Token<'s>>, LexError> {
+    let library = Source {
+        name: b"LIBHDR",
+        text: LIBHDR.as_bytes(),
+    };
+    lex(alloc, &[Source { name: b"A", text }, library], 0)
+}
+
+fn add_told(answer: &mut Answer, what: OfTokens, tokens: &[Token<'_>]) {
+    match what {
+        OfTokens::Counts => add_counts(answer, tokens),
+        OfTokens::Rendered => add_rendered(answer, tokens),
     }
 }
 
-fn add_told(answer: &mut Answer, reading: Reading, tokens: &[Token<'_>]) {
-    match reading {
-        Reading::All => add_lines(answer, tokens),
-        Reading::Kinds => add_kinds(answer, tokens),
-        Reading::Counts => add_counts(answer, tokens),
-        Reading::Rendered => add_rendered(answer, tokens),
-        Reading::Closed => add_closed(answer, tokens),
-        Reading::Tree(what) => add_of_tree(answer, what, tokens),
-    }
-}
-
-/// Adds what is answered of the tokens of a source, or their fault.
-fn add_of_source(answer: &mut Answer, reading: Reading, sources: &[Source<'_>], main: usize) {
-    match tokens_of(answer.alloc(), sources, main) {
-        Ok(tokens) => add_told(answer, reading, tokens.as_slice()),
+/// Adds what is answered of the tokens of a text, or their fault.
+fn add_of_text(answer: &mut Answer, what: OfTokens, text: &[u8]) {
+    match tokens_of(answer.alloc(), text) {
+        Ok(tokens) => add_told(answer, what, tokens.as_slice()),
         Err(fault) => answer.name(&fault),
     }
 }
 
-/// Adds what is answered of the tokens of the sources of a case, or their fault.
-pub fn add_read(answer: &mut Answer, reading: Reading, input: &str) {
-    let given = sources_of(&mut answer.growth, input);
-    let sources = given.all(&mut answer.growth);
-    add_of_source(answer, reading, sources.as_slice(), given.main);
+/// Adds what is answered of the tokens of an input.
+pub fn add_text(answer: &mut Answer, input: &str) {
+    let text = text_of(&mut answer.growth, input);
+    add_of_text(answer, OfTokens::Rendered, text.as_slice());
 }
 
-fn add_line(answer: &mut Answer, token: &Token<'_>) {
-    let token = ShownToken(token);
-    answer.go_on("\n");
-    answer.show(&token);
-}
-
-fn add_lines(answer: &mut Answer, tokens: &[Token<'_>]) {
-    for token in tokens {
-        add_line(answer, token);
-    }
-}
-
-fn add_kind(answer: &mut Answer, kind: &TokenKind<'_>) {
-    let kind = ShownKind(kind);
-    answer.go_on(" ");
-    answer.show(&kind);
-}
-
-fn add_kinds(answer: &mut Answer, tokens: &[Token<'_>]) {
-    for token in tokens {
-        add_kind(answer, &token.kind);
-    }
+/// Adds how many bytes a text of the library has, and how many tokens of each kind.
+pub fn add_library(answer: &mut Answer, input: &str) {
+    let text = if input.starts_with("LIBHDR") { LIBHDR } else { BLIB };
+    answer.sentence("{} bytes, ", &[text.len() as u64]);
+    add_of_text(answer, OfTokens::Counts, text.as_bytes());
 }
 
 /// How many tokens there are of each kind.
@@ -136,49 +100,6 @@ fn add_all_counts(answer: &mut Answer, counts: &Counts, all: usize) {
             counts.strings,
         ],
     );
-}
-
-/// Adds how many bytes the library has.
-pub fn add_library(answer: &mut Answer) {
-    answer.sentence(
-        "LIBHDR {} bytes, BLIB {} bytes",
-        &[LIBHDR.len() as u64, BLIB.len() as u64],
-    );
-}
-
-/// The kind of the first of these tokens.
-fn first_of<'s>(tokens: &[Token<'s>]) -> Option<TokenKind<'s>> {
-    Some(tokens.first()?.kind)
-}
-
-/// The kind of the first token of the source with this index.
-fn first_kind<'s>(alloc: Global, sources: &[Source<'s>], main: usize) -> Option<TokenKind<'s>> {
-    match tokens_of(alloc, sources, main) {
-        Ok(tokens) => first_of(tokens.as_slice()),
-        Err(_) => None,
-    }
-}
-
-fn compared(first: Option<TokenKind<'_>>, second: Option<TokenKind<'_>>) -> &'static str {
-    match (first, second) {
-        (Some(first), Some(second)) => {
-            if first == second {
-                "alike"
-            } else {
-                "different"
-            }
-        }
-        _ => "no tokens",
-    }
-}
-
-/// Adds whether the first tokens of two sources are of one kind.
-pub fn add_alike(answer: &mut Answer, input: &str) {
-    let given = sources_of(&mut answer.growth, input);
-    let sources = given.all(&mut answer.growth);
-    let first = first_kind(answer.alloc(), sources.as_slice(), 0);
-    let second = first_kind(answer.alloc(), sources.as_slice(), 1);
-    answer.say(compared(first, second));
 }
 
 fn kinds_of<'s>(growth: &mut Growth, tokens: &[Token<'s>]) -> Vec<TokenKind<'s>> {
