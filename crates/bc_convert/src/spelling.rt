@@ -6,8 +6,6 @@ use crate::numbers::{NumberChange, decimal, number_change};
 use crate::options::{Header, Options};
 use crate::quoted::{Respelled, inside_respelled};
 use bc_convert_tokens::{Dialect, Kind, TokenizedText, reserved, span};
-use bc_word::Memory;
-use std::alloc::Global;
 
 /// What becomes of each token by itself: words and signs in this dialect's spelling, names without underlines, numbers and
 /// strings as they are written here, and complaints of what has no counterpart.
@@ -141,15 +139,6 @@ pub fn inside(bytes: &[u8]) -> &[u8] {
     span(bytes, 1, bytes.len().saturating_sub(1))
 }
 
-/// Bytes between two signs.
-fn quoted(alloc: Global, sign: u8, inside: &[u8]) -> Result<Vec<u8>, Memory> {
-    let mut text = Vec::new(alloc);
-    text.push(sign)?;
-    text.extend_from_slice(inside)?;
-    text.push(sign)?;
-    Ok(text)
-}
-
 /// What becomes of a string: the library's header has its name here where it stands behind GET.
 fn respell_string(source: TokenizedText<'_>, notes: &mut Notes, index: usize, header: Header) {
     if gets_header(source, index) {
@@ -165,7 +154,7 @@ fn respell_string(source: TokenizedText<'_>, notes: &mut Notes, index: usize, he
             index,
             Fault::StringTooLong,
         ),
-        Some(respelled) => put_quoted(source, notes, index, b'"', respelled.inside.as_slice()),
+        Some(respelled) => put_quoted(source, notes, index, b"\"", respelled.inside.as_slice()),
         None => {}
     }
 }
@@ -185,7 +174,7 @@ fn respell_character(source: TokenizedText<'_>, notes: &mut Notes, index: usize)
                     notes.replace(index, digits.as_bytes());
                 }
             }
-            _ => put_quoted(source, notes, index, b'\'', respelled.inside.as_slice()),
+            _ => put_quoted(source, notes, index, b"'", respelled.inside.as_slice()),
         },
         None => {}
     }
@@ -203,11 +192,12 @@ fn respelled(source: TokenizedText<'_>, notes: &mut Notes, index: usize) -> Opti
     }
 }
 
-/// Puts bytes between two signs in the place of a token that is spelled otherwise.
-fn put_quoted(source: TokenizedText<'_>, notes: &mut Notes, index: usize, sign: u8, inside: &[u8]) {
-    let whole = quoted(notes.alloc(), sign, inside);
-    if let Some(whole) = notes.made(whole) {
-        replace_if_other(source, notes, index, whole.as_slice());
+/// Puts bytes between the two signs at an index, where others stand there.
+fn put_quoted(source: TokenizedText<'_>, notes: &mut Notes, index: usize, sign: &[u8], new: &[u8]) {
+    if inside(source.bytes(index)) != new {
+        notes.replace(index, new);
+        notes.put_before(index, sign);
+        notes.put_behind(index.saturating_add(1), sign);
     }
 }
 
@@ -259,17 +249,11 @@ fn respell_relation(source: TokenizedText<'_>, notes: &mut Notes, index: usize) 
 /// What becomes of a section bracket, whose tag has dots in place of underlines.
 fn respell_section(source: TokenizedText<'_>, notes: &mut Notes, index: usize, sign: &[u8]) {
     let bytes = source.bytes(index);
-    let whole = with_dotted(notes.alloc(), sign, span(bytes, 2, bytes.len()));
-    if let Some(whole) = notes.made(whole) {
-        replace_if_other(source, notes, index, whole.as_slice());
+    if bytes.starts_with(sign) && !bytes.contains(&b'_') {
+        return;
     }
-}
-
-/// A sign, and a tag behind it with dots for its underlines.
-fn with_dotted(alloc: Global, sign: &[u8], tag: &[u8]) -> Result<Vec<u8>, Memory> {
-    let mut whole = Vec::from_slice(alloc, sign)?;
-    for byte in tag {
-        whole.push(dotted(*byte))?;
+    notes.replace(index, sign);
+    for byte in span(bytes, 2, bytes.len()) {
+        notes.put_behind(index.saturating_add(1), &[dotted(*byte)]);
     }
-    Ok(whole)
 }
