@@ -9,7 +9,7 @@ use bc_scope_places::VariableSite;
 use bcpl_messages::{Draft, Fill};
 
 /// The address of the cell of global 0.
-const GLOBALS: u16 = 8;
+pub const GLOBALS: u16 = 8;
 
 /// The address behind the cells of the globals, at which the primitives stand.
 const SEGMENTS: u16 = 520;

@@ -1,7 +1,7 @@
 // The sentence on a wild access, and what one may have meant.
 
 use crate::message::Met;
-use crate::owner::{Kind, Owner};
+use crate::owner::{GLOBALS, Kind, Owner};
 use bc_interpret_quiet::Cause;
 use bcpl_messages::{Draft, Fill};
 
@@ -173,6 +173,12 @@ pub fn help(met: &Met<'_>, known: Known<'_>) -> Option<&'static str> {
         ),
         Cause::Dead(_) | Cause::NoCell(_) if is_code => Some(
             "a routine is called by brackets behind its name; `!` goes with vectors, tables and strings",
+        ),
+        Cause::Dead(address) | Cause::NoCell(address) if address < GLOBALS => Some(
+            "no vector stands there: was its address set, and did GETVEC have a pool?",
+        ),
+        Cause::Dead(_) | Cause::NoCell(_) if known.owner.is_none() => Some(
+            "TABLE 1, 2, 3 has the cells 0 to 2, and VEC n the cells 0 to n; character I of the string S is GETBYTE(S, I)",
         ),
         Cause::Dead(_) | Cause::NoCell(_) => Some(
             "VEC n has the cells 0 to n, and they and all variables are gone once their block or routine is left",
