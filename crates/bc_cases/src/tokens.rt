@@ -49,7 +49,11 @@ pub fn add_text(answer: &mut Answer, input: &str) {
 
 /// Adds how many bytes a text of the library has, and how many tokens of each kind.
 pub fn add_library(answer: &mut Answer, input: &str) {
-    let text = if input.starts_with("LIBHDR") { LIBHDR } else { BLIB };
+    let text = if input.starts_with("LIBHDR") {
+        LIBHDR
+    } else {
+        BLIB
+    };
     answer.sentence("{} bytes, ", &[text.len() as u64]);
     add_of_text(answer, OfTokens::Counts, text.as_bytes());
 }
