@@ -1,7 +1,7 @@
 use crate::answer::Answer;
 use crate::escapes::expanded;
 use crate::rules::OfRoot;
-use crate::{arithmetic, certificates, linking, machines, rules, streams, sweeps, tokens};
+use crate::{arithmetic, linking, machines, rules, streams, sweeps, tokens};
 use std::str;
 
 /// A kind of cases that speaks of roots and their code, in whose inputs a text may be written once for many times.
@@ -10,18 +10,14 @@ enum OfRoots {
     Root(OfRoot),
     Operand,
     Free,
-    Certificate,
     AlteredCertificates,
 }
 
-const OF_ROOTS: [(&str, OfRoots); 8] = [
+const OF_ROOTS: [(&str, OfRoots); 5] = [
     ("derivation", OfRoots::Root(OfRoot::Derivation)),
-    ("least", OfRoots::Root(OfRoot::Least)),
-    ("least words", OfRoots::Root(OfRoot::LeastWords)),
     ("copy", OfRoots::Root(OfRoot::Copied)),
     ("operand", OfRoots::Operand),
     ("free", OfRoots::Free),
-    ("certificate", OfRoots::Certificate),
     ("altered certificates", OfRoots::AlteredCertificates),
 ];
 
@@ -72,7 +68,6 @@ fn of_roots(answer: &mut Answer, kind: OfRoots, input: &str) {
         OfRoots::Root(what) => rules::add_told(answer, what, input),
         OfRoots::Operand => rules::add_operands(answer, input),
         OfRoots::Free => rules::add_freedom(answer, input),
-        OfRoots::Certificate => certificates::add_written(answer, input),
         OfRoots::AlteredCertificates => sweeps::add_certificates(answer, input),
     }
 }

@@ -5,7 +5,6 @@ mod answer;
 mod answers;
 mod arithmetic;
 mod case;
-mod certificates;
 mod derivations;
 mod escapes;
 mod expressions;

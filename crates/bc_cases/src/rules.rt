@@ -4,9 +4,8 @@ use crate::expressions::{expression_of, read_expressions, root_of};
 use crate::number::{next, short};
 use bc_core::{CoreExp, Operand, Root, constant, copy, copy_expression, operand};
 use bc_rules::{code_of, free, is_derivation, is_derivation_by, next_label, words};
-use bc_rules_defs::{Derivation, Piece, Rule, Table};
-use bc_select::{Row, Selected, is_selectable, rows, select};
-use bc_show::{ShownDerivation, ShownExpression, ShownPiece, ShownRoot};
+use bc_rules_defs::{Derivation, Piece, Table};
+use bc_show::{ShownExpression, ShownPiece, ShownRoot};
 use bc_text_items::Base;
 use bc_word::{Memory, Word};
 
@@ -15,10 +14,6 @@ use bc_word::{Memory, Word};
 pub enum OfRoot {
     /// Whether a derivation is one of it by each table, and what its code is.
     Derivation,
-    /// The derivation that is chosen for it, its words, and the row of each node.
-    Least,
-    /// Its least words.
-    LeastWords,
     /// Its copy and that of its expression, where they are equal to them.
     Copied,
 }
@@ -50,8 +45,6 @@ pub fn add_told(answer: &mut Answer, what: OfRoot, input: &str) {
 fn add_of_root(answer: &mut Answer, what: OfRoot, root: &Root, input: &str) {
     match what {
         OfRoot::Derivation => add_judged(answer, root, input),
-        OfRoot::Least => add_least(answer, root),
-        OfRoot::LeastWords => add_least_words(answer, root),
         OfRoot::Copied => add_copies(answer, root, line(input, 1)),
     }
 }
@@ -116,79 +109,6 @@ fn add_pieces(answer: &mut Answer, code: &[Piece]) {
 fn add_words(answer: &mut Answer, code: &[Piece]) {
     if code.len() < 1 << 32 {
         answer.sentence("\n{} words", &[words(code)]);
-    }
-}
-
-/// Adds the derivation that is chosen for a root, its words, and the row of each node.
-fn add_least(answer: &mut Answer, root: &Root) {
-    if !is_selectable(root) {
-        return answer.say("not selectable");
-    }
-    let table = rows(answer.alloc(), root);
-    let table = answer.growth.list(table);
-    match select(answer.alloc(), root) {
-        Ok(selected) => add_selected(answer, &selected, &table),
-        Err(_) => answer.refuse(),
-    }
-}
-
-fn add_selected(answer: &mut Answer, selected: &Selected, table: &Vec<Row>) {
-    add_derivation(answer, selected);
-    add_rows(answer, table);
-    if *table != selected.table {
-        answer.say("\nother rows");
-    }
-}
-
-/// Adds the words and the derivation that are chosen for a root.
-fn add_derivation(answer: &mut Answer, selected: &Selected) {
-    let derivation = ShownDerivation(&selected.derivation);
-    answer.sentence("{} words by ", &[selected.words]);
-    answer.show(&derivation);
-}
-
-fn add_rows(answer: &mut Answer, table: &[Row]) {
-    for row in table {
-        add_row(answer, row);
-    }
-}
-
-/// Adds the least words of a node, as a value, as a value that is pushed, as a jump on false and as a jump on true, each with the
-/// rule that gives them; `-` where there is no derivation: `6 V12, -, 8 J6, 8 J6`.
-fn add_row(answer: &mut Answer, row: &Row) {
-    for aim in 0..4 {
-        answer.say(if aim > 0 { ", " } else { "\n" });
-        add_choice(answer, row.costs[aim], row.rules[aim]);
-    }
-}
-
-fn add_choice(answer: &mut Answer, words: Option<u64>, rule: Option<Rule>) {
-    match words {
-        Some(words) => add_cost(answer, words, rule),
-        None => answer.say("-"),
-    }
-}
-
-fn add_cost(answer: &mut Answer, words: u64, rule: Option<Rule>) {
-    answer.number(words);
-    if let Some(rule) = rule {
-        add_rule(answer, rule);
-    }
-}
-
-fn add_rule(answer: &mut Answer, rule: Rule) {
-    answer.say(" ");
-    answer.name(&rule);
-}
-
-/// Adds the least words of a root.
-fn add_least_words(answer: &mut Answer, root: &Root) {
-    if !is_selectable(root) {
-        return answer.say("not selectable");
-    }
-    match select(answer.alloc(), root) {
-        Ok(selected) => answer.number(selected.words),
-        Err(_) => answer.refuse(),
     }
 }
 

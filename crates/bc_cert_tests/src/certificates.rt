@@ -1,10 +1,17 @@
 use bc_cert_write::{CertFault, Entry, write_cert};
 use bc_core::{CoreExp, Root};
 use bc_rules_defs::{Derivation, Rule};
-use bc_word::{Memory, Word};
+use bc_word::{Memory, Op, Word};
 use std::alloc::Global;
 use std::io;
 use std::io::{ErrorKind, Write};
+
+const NONE: &[u8] = b"BCPLCERT 2\nZ 0\n";
+
+/// A test, and an assignment whose segment is the greatest one.
+const TWO: &[u8] =
+    b"BCPLCERT 2\nE 0 1 9 10 3\n4 P2 1 1 3 3 -\n4 ! 1 1 3 3 V0.V1\n4 N0 1 1 2 0 -\n3 X10 3 - 3 3 J8\nR F\nC LIP2 TL9\n\
+    E 18446744073709551615 7 0 20 1\n5 V3 0 - 2 2 V22\n5 P2 1 1 3 3 -\n5 ! 1 1 3 3 -\nR A1 5\nC ?12 20 SIP2\nZ 2\n";
 
 const SAMPLE: &[u8] =
     b"BCPLCERT 2\nE 0 1 0 2 4\n4 N65 1 1 0 2 V0.V1\n5 G14 1 1 3 3 -\n5 ! 1 1 3 3 V0.V1\n2 K1 4 - 6 6 V22\nR V\nC L65 SP4 LIG14 K2\nZ 1\n";
@@ -16,14 +23,16 @@ fn leaf(alloc: Global, rule: Rule) -> Derivation {
     }
 }
 
+/// A rule over one derivation.
+fn over(alloc: Global, rule: Rule, part: Derivation) -> Result<Derivation, Memory> {
+    let mut parts = Vec::new(alloc);
+    parts.push(part)?;
+    Ok(Derivation { rule, parts })
+}
+
 /// V0 over V1.
 fn pushed(alloc: Global) -> Result<Derivation, Memory> {
-    let mut parts = Vec::new(alloc);
-    parts.push(leaf(alloc, Rule::V1))?;
-    Ok(Derivation {
-        rule: Rule::V0,
-        parts,
-    })
+    over(alloc, Rule::V0, leaf(alloc, Rule::V1))
 }
 
 /// V22 over two of these.
@@ -79,6 +88,74 @@ fn written(alloc: Global, entries: &[Entry]) -> Result<Vec<u8>, CertFault> {
     let mut text = Vec::with_capacity(alloc, 512)?;
     write_cert(alloc, entries, &mut text)?;
     Ok(text)
+}
+
+/// What the cell at offset 2 holds.
+fn variable(alloc: Global) -> Result<CoreExp, Memory> {
+    let cell = Box::new(alloc, CoreExp::Frame(2))?;
+    Ok(CoreExp::Load(cell))
+}
+
+/// That against 0.
+fn comparison(alloc: Global) -> Result<CoreExp, Memory> {
+    let variable = Box::new(alloc, variable(alloc)?)?;
+    let zero = Box::new(alloc, CoreExp::Num(Word::new(0)))?;
+    Ok(CoreExp::Bin(Op::Equal, variable, zero))
+}
+
+/// A test of that by its content.
+fn test(alloc: Global) -> Result<Entry, Memory> {
+    Ok(Entry {
+        segment: 0,
+        item: 1,
+        target: 9,
+        first: 10,
+        root: Root::Test {
+            level: 3,
+            sense: false,
+            expression: comparison(alloc)?,
+        },
+        derivation: over(alloc, Rule::J8, pushed(alloc)?)?,
+        bodies: Vec::new(alloc),
+    })
+}
+
+/// A VALOF of 12 items, assigned through the variable.
+fn assignment(alloc: Global) -> Result<Entry, Memory> {
+    let mut bodies = Vec::new(alloc);
+    bodies.push(12)?;
+    Ok(Entry {
+        segment: u64::MAX,
+        item: 7,
+        target: 0,
+        first: 20,
+        root: Root::Assign {
+            level: 5,
+            value: CoreExp::Valof(3),
+            address: variable(alloc)?,
+        },
+        derivation: over(alloc, Rule::A1, leaf(alloc, Rule::V22))?,
+        bodies,
+    })
+}
+
+/// Whether both have their certificate.
+fn has_two(alloc: Global) -> Result<bool, CertFault> {
+    let mut entries = Vec::new(alloc);
+    entries.push(test(alloc)?)?;
+    entries.push(assignment(alloc)?)?;
+    Ok(written(alloc, entries.as_slice())?.as_slice() == TWO)
+}
+
+/// Whether no entry has its certificate.
+fn has_none(alloc: Global) -> Result<bool, CertFault> {
+    Ok(written(alloc, &[])?.as_slice() == NONE)
+}
+
+#[test]
+fn writes_a_test_and_an_assignment(rt: HostRuntime) {
+    assert_eq!(rt; has_two(rt.alloc()), Ok(true));
+    assert_eq!(rt; has_none(rt.alloc()), Ok(true));
 }
 
 // Takes some bytes, and then fails or takes nothing.
