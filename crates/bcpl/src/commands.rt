@@ -6,10 +6,10 @@ ghost use Rattle.bcpl_faults.specs.Statuses.{status_of};
 use crate::checking::check_certificate;
 use crate::compiling::compile;
 use crate::hinting::{Taken, line_on_words, with_hints};
-use crate::interpreting::{Standards, interpret_files};
+use crate::interpreting::{Console, Standards, interpret_files};
 use crate::listing::list;
 use crate::loading::{LinkedProgram, all_contents, program_of};
-use crate::output::{of_output, print_words};
+use crate::output::{of_output, print_words, tell_lines};
 use crate::reporting::explain;
 use crate::running::{run, run_input};
 use crate::showing::show;
@@ -192,12 +192,6 @@ fn status_of_files<F: Files, E: Write + Drop>(
     status(with_hints(rt, alloc, done, taken), taken.shows, err)
 }
 
-/// Tells what is told beside the status of a command, or behind it.
-fn tell_lines<E: Write + Drop>(lines: &str, err: &mut E) {
-    let _ = err.write_all(lines.as_bytes());
-    let _ = err.flush();
-}
-
 /// Refuses words that ask for nothing.
 fn refuse<F: Files, R: Read + Drop, O: Write + Drop, E: Write + Drop>(
     rt: &F,
@@ -319,7 +313,11 @@ fn do_interpret<F: Files, R: Read + Drop, O: Write + Drop, E: Write + Drop>(
         is_terminal: terminals.out,
         shows,
     };
-    let done = interpret_files(rt, alloc, order, standards);
+    let console = Console {
+        standards,
+        err: &mut err,
+    };
+    let done = interpret_files(rt, alloc, order, console);
     let taken = Taken::new(Wanted::Source, order.sources.files.as_slice(), shows);
     let done = with_hints(rt, alloc, done, taken);
     let tells = are_told_of(&done, order.places, terminals.err);

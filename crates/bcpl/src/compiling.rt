@@ -39,14 +39,15 @@ pub fn refused(alloc: Global, program: &Program<'_, '_>, fault: BuildError, show
     }
 }
 
-/// What there is to warn of in a program that was built of these sources.
-fn warnings_on(
+/// The lines of what there is to warn of in a program that these segments were built of.
+pub fn warnings_on(
     alloc: Global,
     given: &Sources<'_>,
     gathered: &Gathered<'_, '_>,
+    segments: &[Segment],
 ) -> Result<String, Memory> {
     let mut warnings = ignored_gets(alloc, given)?;
-    let further = warnings_of(alloc, gathered.library, &gathered.program())?;
+    let further = warnings_of(alloc, gathered.library, &gathered.program(), segments)?;
     warnings.push_str(further.as_str())?;
     Ok(warnings)
 }
@@ -56,10 +57,11 @@ fn warnings_wanted(
     alloc: Global,
     order: &BuildOrder<'_>,
     gathered: &Gathered<'_, '_>,
+    segments: &[Segment],
     shows: bool,
 ) -> Result<String, Memory> {
     if order.warns && shows {
-        warnings_on(alloc, &order.sources, gathered)
+        warnings_on(alloc, &order.sources, gathered, segments)
     } else {
         Ok(String::new(alloc))
     }
@@ -76,10 +78,12 @@ fn built_of(
 {
     let program = gathered.program();
     match build(alloc, program.named.sources, program.mains) {
-        Ok(built) => match warnings_wanted(alloc, order, gathered, shows) {
-            Ok(warnings) => Ok((built, warnings)),
-            Err(_) => Err(Failure::new(Cause::Memory)),
-        },
+        Ok(built) => {
+            match warnings_wanted(alloc, order, gathered, built.segments.as_slice(), shows) {
+                Ok(warnings) => Ok((built, warnings)),
+                Err(_) => Err(Failure::new(Cause::Memory)),
+            }
+        }
         Err(fault) => Err(refused(alloc, &program, fault, shows)),
     }
 }

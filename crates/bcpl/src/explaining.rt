@@ -1,8 +1,9 @@
 //! What is told of refusals and warnings beside the first line.
 
 use bc_build::{BuildError, build};
+use bc_text_items::{Item, Segment};
 use bc_word::Memory;
-use bcpl_messages::{Named, is_set, message_of, told_lines};
+use bcpl_messages::{Named, message_of, told_lines};
 use bcpl_warnings::{likely_starts, warnings};
 use std::alloc::Global;
 
@@ -123,26 +124,37 @@ fn no_start(alloc: Global, library: usize, program: &Program<'_, '_>) -> Result<
     Ok(told)
 }
 
-/// The lines of warnings on the global that a run calls; none where a routine sets it.
+/// Whether a routine of this segment sets the global that a run calls.
+fn sets_start(segment: &Segment) -> bool {
+    segment.items().iter().any(|item| match item {
+        Item::Global { number, .. } => number.get() == START,
+        _ => false,
+    })
+}
+
+/// The lines of warnings on the global that a run calls; none where a routine of the segments sets it.
 fn start_warnings(
     alloc: Global,
     library: usize,
     program: &Program<'_, '_>,
+    segments: &[Segment],
 ) -> Result<String, Memory> {
-    if is_set(alloc, program.named.sources, program.mains, START)? {
+    if segments.iter().any(|segment| sets_start(segment)) {
         Ok(String::new(alloc))
     } else {
         no_start(alloc, library, program)
     }
 }
 
-/// The lines of warnings on a program that was built, of which so many sources in front are the library's. Memory is answered where a growth was refused.
+/// The lines of warnings on a program that these segments were built of, and of which so many sources in front are the library's. Memory is
+/// answered where a growth was refused.
 pub fn warnings_of(
     alloc: Global,
     library: usize,
     program: &Program<'_, '_>,
+    segments: &[Segment],
 ) -> Result<String, Memory> {
-    let mut told = start_warnings(alloc, library, program)?;
+    let mut told = start_warnings(alloc, library, program, segments)?;
     let further = warnings(alloc, program.named, library, program.mains)?;
     told.push_str(further.as_str())?;
     Ok(told)

@@ -1,11 +1,10 @@
 //! The command `interpret`.
 
-ghost use Rattle.std.specs.Prelude.{◌<◌, length, All};
-
+use crate::compiling::{refused, warnings_on};
 use crate::devices::Source;
-use crate::explaining::{Program, explained};
-use crate::gathering::{Gathered, Loaded, sources_of};
-use crate::output::unfinished;
+use crate::explaining::Program;
+use crate::gathering::{Gathered, sources_of};
+use crate::output::{tell_lines, unfinished};
 use crate::running::{Streams, streams_of};
 use crate::sparing::spare_files;
 use bc_build::{Built, build};
@@ -13,6 +12,7 @@ use bc_interpret_sources::{
     Cause as Access, Ending, Interpreted, Outcome, Program as Sections, interpret,
 };
 use bc_machine_defs::End;
+use bc_text_items::Segment;
 use bc_word::Memory;
 use bcpl_faults::{Cause, Failure, Wild};
 use bcpl_messages::{Message, told_lines};
@@ -31,99 +31,40 @@ pub struct Standards<R: Read + Drop, O: Write + Drop> {
     pub shows: bool,
 }
 
-/// Runs sources by what they mean. The place of a refusal is told where places are; that of an end of the run other than finishing
-/// is told in any case.
-pub fn interpret_files<F: Files, R: Read + Drop, O: Write + Drop>(
+/// The standard streams of a run, and where what there is to warn of is told in front of it.
+#[derive(Drop)]
+pub struct Console<'e, R: Read + Drop, O: Write + Drop, E: Write + Drop> {
+    pub standards: Standards<R, O>,
+    pub err: &'e mut E,
+}
+
+/// Runs sources by what they mean. The place of a refusal, and warnings, are told where places are; that of an end of the run other than
+/// finishing is told in any case.
+pub fn interpret_files<F: Files, R: Read + Drop, O: Write + Drop, E: Write + Drop>(
     rt: &F,
     alloc: Global,
     order: &InterpretOrder<'_>,
-    standards: Standards<R, O>,
+    console: Console<'_, R, O, E>,
 ) -> Result<(), Failure> {
-    match sources_of(rt, alloc, &order.sources) {
-        Ok(files) => interpret_loaded(rt, alloc, order, files.as_slice(), standards),
-        Err(failure) => Err(failure),
-    }
+    let files = sources_of(rt, alloc, &order.sources)?;
+    let gathered = Gathered::new(alloc, &order.sources, files.as_slice())?;
+    let run = interpretation_of(rt, alloc, order, &gathered, console)?;
+    came_to(alloc, &gathered.program(), &run)
 }
 
-/// Runs sources that were read by what they mean.
-fn interpret_loaded<F: Files, R: Read + Drop, O: Write + Drop>(
-    rt: &F,
-    alloc: Global,
-    order: &InterpretOrder<'_>,
-    files: &[Loaded],
-    standards: Standards<R, O>,
-) -> Result<(), Failure> {
-    match Gathered::new(alloc, &order.sources, files) {
-        Ok(gathered) => interpret_gathered(rt, alloc, order, &gathered, standards),
-        Err(_) => Err(Failure::new(Cause::Memory)),
-    }
-}
-
-/// Runs sources that were gathered by what they mean.
-fn interpret_gathered<F: Files, R: Read + Drop, O: Write + Drop>(
-    rt: &F,
+/// Tells what there is to warn of in a program that these segments were built of, where warnings are wanted.
+fn tell_warnings<E: Write + Drop>(
     alloc: Global,
     order: &InterpretOrder<'_>,
     gathered: &Gathered<'_, '_>,
-    standards: Standards<R, O>,
-) -> Result<(), Failure> {
-    let shows = standards.shows;
-    let program = gathered.program();
-    let done = run_program(rt, alloc, order, standards, &program);
-    if shows {
-        told_of_refusal(alloc, &program, done)
-    } else {
-        done
+    segments: &[Segment],
+    err: &mut E,
+) -> Result<(), Memory> {
+    if order.warns {
+        let warnings = warnings_on(alloc, &order.sources, gathered, segments)?;
+        tell_lines(warnings.as_str(), err);
     }
-}
-
-/// Builds a program and runs it by what its sources mean.
-fn run_program<F: Files, R: Read + Drop, O: Write + Drop>(
-    rt: &F,
-    alloc: Global,
-    order: &InterpretOrder<'_>,
-    standards: Standards<R, O>,
-    program: &Program<'_, '_>,
-) -> Result<(), Failure>
-    requires { All (λ main. main < length program.now.named.sources.now) program.now.mains.now }
-{
-    match interpretation_of(rt, alloc, order, standards, program) {
-        Ok(run) => came_to(alloc, program, &run),
-        Err(failure) => Err(failure),
-    }
-}
-
-/// What is told of a failure, where the program was refused; none of another failure.
-fn lines_on_refusal(
-    alloc: Global,
-    program: &Program<'_, '_>,
-    failure: &Failure,
-) -> Result<Option<String>, Memory> {
-    match &failure.cause {
-        Cause::Build(fault) => Ok(Some(explained(alloc, program, fault)?)),
-        _ => Ok(None),
-    }
-}
-
-/// A failure with what is told of it, where the program was refused; that of memory where there is none for that.
-fn told_with_refusal(alloc: Global, program: &Program<'_, '_>, failure: Failure) -> Failure {
-    match lines_on_refusal(alloc, program, &failure) {
-        Ok(Some(told)) => failure.with(told),
-        Ok(None) => failure,
-        Err(_) => Failure::new(Cause::Memory),
-    }
-}
-
-/// What a run came to, with what is told of it, where the program was refused.
-fn told_of_refusal(
-    alloc: Global,
-    program: &Program<'_, '_>,
-    done: Result<(), Failure>,
-) -> Result<(), Failure> {
-    match done {
-        Ok(()) => Ok(()),
-        Err(failure) => Err(told_with_refusal(alloc, program, failure)),
-    }
+    Ok(())
 }
 
 /// A program that was built and run by what its sources mean.
@@ -136,22 +77,25 @@ struct Interpretation {
     is_closed: bool,
 }
 
-/// Builds a program and runs it by what its sources mean.
-fn interpretation_of<F: Files, R: Read + Drop, O: Write + Drop>(
+/// Builds a program that was gathered, tells what there is to warn of, and runs it by what its sources mean.
+fn interpretation_of<F: Files, R: Read + Drop, O: Write + Drop, E: Write + Drop>(
     rt: &F,
     alloc: Global,
     order: &InterpretOrder<'_>,
-    standards: Standards<R, O>,
-    program: &Program<'_, '_>,
-) -> Result<Interpretation, Failure>
-    requires { All (λ main. main < length program.now.named.sources.now) program.now.mains.now }
-{
+    gathered: &Gathered<'_, '_>,
+    console: Console<'_, R, O, E>,
+) -> Result<Interpretation, Failure> {
+    let Console { standards, err } = console;
+    let program = gathered.program();
     let sources = program.named.sources;
     let mains = program.mains;
     let built = match build(alloc, sources, mains) {
         Ok(built) => built,
-        Err(fault) => return Err(Failure::new(Cause::Build(fault))),
+        Err(fault) => return Err(refused(alloc, &program, fault, standards.shows)),
     };
+    if standards.shows {
+        tell_warnings(alloc, order, gathered, built.segments.as_slice(), err)?;
+    }
     let mut streams = run_streams(rt, alloc, order, standards)?;
     let run = Sections {
         sources,

@@ -37,6 +37,12 @@ pub fn print_all<O: Write + Drop>(text: &[u8], out: &mut O) -> io::Result<()> {
     out.flush()
 }
 
+/// Tells what is told beside the status of a command, or behind it.
+pub fn tell_lines<E: Write + Drop>(lines: &str, err: &mut E) {
+    let _ = err.write_all(lines.as_bytes());
+    let _ = err.flush();
+}
+
 /// Writes the words of the store up to the stack base, one a line.
 pub fn print_words<O: Write + Drop>(alloc: Global, image: &Image, out: O) -> io::Result<()> {
     let mut out = BufWriter::new(alloc, out)?;

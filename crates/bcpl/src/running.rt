@@ -12,7 +12,7 @@ use crate::loading::{
 };
 use crate::output::unfinished;
 use crate::sparing::spare_files;
-use crate::watching::{Notes, is_watched, spare_texts, window_of};
+use crate::watching::{Last, Notes, is_watched, spare_texts, window_of};
 use bc_machine::{FileStreams, Machine, Named, StreamsError};
 use bc_machine_defs::End;
 use bc_machine_image::Image;
@@ -261,7 +261,13 @@ fn end_notes<W: Write + Drop, F: Files<File = W>>(
     noted: Noted<'_>,
 ) -> Result<Result<(), Failure>, Memory> {
     match profile_of(alloc, order, noted) {
-        Ok(text) => Ok(notes.finish(rt, alloc, order, noted.watch.is_whole(), text.as_str())),
+        Ok(text) => {
+            let last = Last {
+                is_whole: noted.watch.is_whole(),
+                profile: text.as_str(),
+            };
+            Ok(notes.finish(rt, alloc, order, last))
+        }
         Err(memory) => Err(memory),
     }
 }

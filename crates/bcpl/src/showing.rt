@@ -40,6 +40,15 @@ struct Shown<'a, 's> {
     ghost within: { All (λ index. index < length files.sources.now) mains.now },
 }
 
+/// A source that was built, with its tokens and its trees.
+#[derive(Clone, Copy)]
+struct Resolved<'r, 's> {
+    built: &'r Built,
+    tokens: &'r [Token<'s>],
+    section: &'r Section<'s>,
+    core: &'r Core,
+}
+
 impl<'a, 's> Shown<'a, 's> {
     /// The failure of a source that is refused.
     fn refused(&self, alloc: Global, mains: &[usize], fault: BuildError) -> Failure {
@@ -113,8 +122,12 @@ impl<'a, 's> Shown<'a, 's> {
         let tokens = self.tokens(alloc)?;
         match parse(alloc, tokens.as_slice()) {
             Ok(section) => {
-                let found = (&built, tokens.as_slice());
-                let text = self.resolved_listing(alloc, listing, found, &section);
+                let text = self.resolved_listing(
+                    alloc,
+                    listing,
+                    (&built, tokens.as_slice()),
+                    &section,
+                );
                 // The process is about to end, and the system takes all memory back at once.
                 forget(section);
                 text
@@ -136,9 +149,15 @@ impl<'a, 's> Shown<'a, 's> {
         let (built, tokens) = found;
         match resolve(alloc, section) {
             Ok(core) => {
+                let resolved = Resolved {
+                    built,
+                    tokens,
+                    section,
+                    core: &core,
+                };
                 let text = match listing {
-                    Listing::Scopes => self.scopes_of(alloc, built, tokens, section, &core),
-                    _ => self.code_of(alloc, built, tokens, section, &core),
+                    Listing::Scopes => self.scopes_of(alloc, resolved),
+                    _ => self.code_of(alloc, resolved),
                 };
                 forget(core);
                 text
@@ -147,16 +166,9 @@ impl<'a, 's> Shown<'a, 's> {
         }
     }
 
-    fn scopes_of(
-        &self,
-        alloc: Global,
-        built: &Built,
-        tokens: &[Token<'s>],
-        section: &Section<'s>,
-        core: &Core,
-    ) -> Result<Vec<u8>, Failure> {
+    fn scopes_of(&self, alloc: Global, resolved: Resolved<'_, 's>) -> Result<Vec<u8>, Failure> {
         let primitives = primitives(alloc)?;
-        let library = libraries(built);
+        let library = libraries(resolved.built);
         let setters = [
             Setter {
                 name: "the primitives",
@@ -174,31 +186,25 @@ impl<'a, 's> Shown<'a, 's> {
         let scopes = Scopes {
             files: self.files,
             main: self.main,
-            tokens,
-            section,
-            core,
+            tokens: resolved.tokens,
+            section: resolved.section,
+            core: resolved.core,
             setters: &setters,
         };
         in_memory(scope_listing(alloc, scopes))
     }
 
-    fn code_of(
-        &self,
-        alloc: Global,
-        built: &Built,
-        tokens: &[Token<'s>],
-        section: &Section<'s>,
-        core: &Core,
-    ) -> Result<Vec<u8>, Failure> {
+    fn code_of(&self, alloc: Global, resolved: Resolved<'_, 's>) -> Result<Vec<u8>, Failure> {
+        let built = resolved.built;
         let Some(segment) = built.segments.last() else {
             return Ok(Vec::new(alloc));
         };
         let program = bcpl_show::Program {
             files: self.files,
             main: self.main,
-            tokens,
-            section,
-            core,
+            tokens: resolved.tokens,
+            section: resolved.section,
+            core: resolved.core,
             items: segment.items(),
             entries: entries_of(built.entries.as_slice(), libraries(built).len()),
             first: first_of(built),

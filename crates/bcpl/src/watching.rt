@@ -15,6 +15,15 @@ pub struct Notes<W: Write + Drop> {
     profile: Option<Written<W>>,
 }
 
+/// What is noted of a run when it has ended.
+#[derive(Clone, Copy)]
+pub struct Last<'t> {
+    /// Whether each line of the trace could be written.
+    pub is_whole: bool,
+    /// The text of the profile.
+    pub profile: &'t str,
+}
+
 /// The instructions that are traced, if any are.
 pub fn window_of(order: &WatchOrder<'_>) -> Option<Window> {
     match order.trace {
@@ -163,17 +172,16 @@ impl<W: Write + Drop> Notes<W> {
         }
     }
 
-    /// Ends the files: the trace, unless a line of it could not be written, and this text of the profile.
+    /// Ends the files, unless a line of the trace could not be written.
     pub fn finish<F: Files<File = W>>(
         self,
         rt: &F,
         alloc: Global,
         order: &WatchOrder<'_>,
-        is_whole: bool,
-        text: &str,
+        last: Last<'_>,
     ) -> Result<(), Failure> {
         let Notes { trace, profile } = self;
-        end_trace(rt, alloc, trace, order, is_whole)?;
-        end_profile(rt, alloc, profile, order, text)
+        end_trace(rt, alloc, trace, order, last.is_whole)?;
+        end_profile(rt, alloc, profile, order, last.profile)
     }
 }

@@ -165,7 +165,10 @@ fn is_libhdr(name: &[u8]) -> bool {
 /// Says what to do where GET names no source, whose name is this.
 fn help_for_get(draft: &mut Draft, name: &[u8]) {
     if is_libhdr(name) {
-        draft.help("the header of the library is LIBHDR, in capitals", &[]);
+        draft.help(
+            "the header of the library is LIBHDR, in capitals; bcpl convert brings old sources across",
+            &[],
+        );
     } else if name == b"EXTHDR".as_slice() {
         draft.help("it is the header of a further library: --library ext", &[]);
     } else {

@@ -6,6 +6,7 @@ mod brackets;
 mod constants;
 mod declared;
 mod draft;
+mod hidden;
 mod lexical;
 mod likeness;
 mod linking;
@@ -21,7 +22,6 @@ mod wanted;
 mod words;
 
 pub use draft::{Draft, Fill};
-pub use linking::is_set;
 pub use message::{Message, Note, message_of};
 pub use report::{Named, told_lines};
 pub use syntax::span_of;

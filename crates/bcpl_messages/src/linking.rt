@@ -138,16 +138,6 @@ fn setters_of<'s>(
     Ok(setters)
 }
 
-/// Whether a routine of these mains sets the global of this number. Memory is answered where a growth was refused.
-pub fn is_set(
-    alloc: Global,
-    sources: &[Source<'_>],
-    mains: &[usize],
-    number: u16,
-) -> Result<bool, Memory> {
-    Ok(!setters_of(alloc, sources, mains, number)?.is_empty())
-}
-
 /// Whether a main is the library's.
 fn is_library_main(sources: &[Source<'_>], main: usize) -> bool {
     match sources.get(main) {

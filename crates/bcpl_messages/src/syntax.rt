@@ -3,6 +3,7 @@ ghost use Rattle.bcpl_messages.specs.Spans.{IsSpanOf};
 
 use crate::brackets::{help_for_round, open_at, say_blank, says_tag, tag_at};
 use crate::draft::{Draft, Fill};
+use crate::hidden::hidden_between;
 use crate::likeness::reserved_word;
 use crate::neighbours::{help_for_name, help_for_neighbours, help_for_token};
 use crate::read::Read;
@@ -644,6 +645,9 @@ fn tell_unclosed(draft: &mut Draft, read: Read<'_, '_>) {
         draft.note(read.place(outermost), "the outermost that is open", &[]);
     }
     note_routine(draft, read, outermost);
+    if let Some(span) = hidden_between(read, innermost, end, "$)") {
+        draft.note(span, "a $) stands here in a comment", &[]);
+    }
     draft.help(
         "an untagged $) closes the innermost $( , and one with a tag all up to the $( with that tag",
         &[],
@@ -677,7 +681,12 @@ fn tell_not_open(draft: &mut Draft, read: Read<'_, '_>, index: usize) {
     draft.place(read.place(index));
     match open_at(draft, read.tokens, index).last() {
         Some(innermost) => tell_tag(draft, read, index, *innermost),
-        None => draft.say("this $) closes nothing: no $( is open here", &[]),
+        None => {
+            draft.say("this $) closes nothing: no $( is open here", &[]);
+            if let Some(span) = hidden_between(read, 0, index, "$(") {
+                draft.note(span, "a $( stands here in a comment", &[]);
+            }
+        }
     }
 }
 

@@ -74,15 +74,30 @@ impl<'p, 's> Listing<'p, 's> {
         self.page.end_line();
     }
 
-    /// Adds where a token stands: its line, or the file, where that is another one.
+    /// Adds where a token stands: its line; in another file that file's name and the line, in one of the library its name alone.
     fn add_token(&mut self, token: &Token<'s>) {
-        if token.file != self.scopes.main {
-            let path = self.scopes.files.path(token.file);
-            return self.page.add_text(path);
+        let files = self.scopes.files;
+        if token.file == self.scopes.main {
+            let number = self.lines.number_at(token.start) as u64;
+            return self
+                .page
+                .add_all(&[Field::Text("line "), Field::Number(number, 0)]);
         }
-        let number = self.lines.number_at(token.start) as u64;
+        self.page.add_text(files.path(token.file));
+        if token.file >= files.library {
+            self.add_line_of(token);
+        }
+    }
+
+    /// Adds the line on which a token stands in its file.
+    fn add_line_of(&mut self, token: &Token<'s>) {
+        let text = self.scopes.files.text(token.file);
+        let Ok(lines) = Lines::new(self.page.alloc(), text) else {
+            return self.page.refuse();
+        };
+        let number = lines.number_at(token.start) as u64;
         self.page
-            .add_all(&[Field::Text("line "), Field::Number(number, 0)]);
+            .add_all(&[Field::Text(":"), Field::Number(number, 0)]);
     }
 
     /// Adds what the cells of a row are, and where it is declared.

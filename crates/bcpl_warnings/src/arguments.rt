@@ -1,6 +1,6 @@
 use crate::declared::Declarations;
 use crate::routines::is_defined;
-use crate::tokens::{closes_at, is_at, is_line_start, name_at, opens_at, stands_before};
+use crate::tokens::{closes_at, is_at, is_line_start, name_at, opens_at};
 use bc_lex_tokens::{Symbol, Token};
 
 /// A call with fewer arguments than the routine has parameters.
@@ -33,7 +33,7 @@ pub fn arguments_behind(tokens: &[Token<'_>], open: usize) -> Option<usize> {
     let mut depth: usize = 0;
     let mut commas: usize = 0;
     let mut arrows: usize = 0;
-    for (index, _) in tokens.iter().enumerate().skip(open) {
+    for index in open..tokens.len() {
         if opens_at(tokens, index) {
             depth = depth.saturating_add(1);
         } else if closes_at(tokens, index) {
@@ -62,7 +62,7 @@ pub fn missing_arguments(
     let name = name_at(tokens, index)?;
     let parameters = declarations.parameters(name)?;
     let arguments = arguments_behind(tokens, index.saturating_add(1))?;
-    if arguments < parameters && !stands_before(tokens, name, Symbol::Assign) {
+    if arguments < parameters && !declarations.uses(name).is_assigned {
         Some(Missing {
             arguments,
             parameters,

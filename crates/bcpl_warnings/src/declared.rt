@@ -1,8 +1,9 @@
-use crate::globals::list_of;
 use crate::routines::is_defined;
-use crate::tokens::{is_at, name_at};
+use crate::tokens::{begins_command, is_at, is_behind, name_at, symbol_at};
+use crate::uses::Uses;
 use bc_lex_tokens::{Symbol, Token, TokenKind};
 use bc_word::Memory;
+use indexmap::IndexMap;
 use std::alloc::Global;
 
 /// As what a name is declared.
@@ -12,7 +13,9 @@ pub enum Meaning {
     Global(Option<u16>),
     /// A routine with so many parameters.
     Routine(usize),
-    /// Something else: a variable, a parameter, a static, a constant or a label.
+    /// A label of a list of commands.
+    Label,
+    /// Something else: a variable, a parameter, a static or a constant.
     Other,
 }
 
@@ -23,18 +26,76 @@ pub struct Declared<'s> {
     /// The index of the token.
     pub at: usize,
     pub meaning: Meaning,
+    /// The index among all declarations of the last one of this name in front of it.
+    before: Option<usize>,
 }
 
-/// The declarations of a main, in the order of its tokens.
+/// What is known of a name in a main.
+#[derive(Clone, Copy, Default)]
+struct Known {
+    /// The index among all declarations of its last one.
+    last: Option<usize>,
+    /// How many routines have it.
+    routines: usize,
+    /// How many parameters the first of them has.
+    parameters: usize,
+    /// The token and the number of the last global that has it.
+    global: Option<(usize, Option<u16>)>,
+    /// Whether it is declared as something else than a routine or a global.
+    is_other: bool,
+    uses: Uses,
+}
+
+impl Known {
+    /// What is known with a declaration more: one as this, by the token with this index, that has this index among all declarations.
+    fn with(self, meaning: Meaning, at: usize, index: usize) -> Known {
+        let known = Known {
+            last: Some(index),
+            ..self
+        };
+        match meaning {
+            Meaning::Global(number) => Known {
+                global: Some((at, number)),
+                ..known
+            },
+            Meaning::Routine(count) => Known {
+                routines: self.routines.saturating_add(1),
+                parameters: if self.routines == 0 {
+                    count
+                } else {
+                    self.parameters
+                },
+                ..known
+            },
+            Meaning::Label | Meaning::Other => Known {
+                is_other: true,
+                ..known
+            },
+        }
+    }
+}
+
+/// The number of a global in a file.
+#[derive(Clone, Copy, PartialEq, Eq, Hash)]
+struct Numbered {
+    file: usize,
+    number: u16,
+}
+
+/// The declarations of a main, and how its names are used.
 #[derive(Drop)]
 pub struct Declarations<'s> {
+    /// The declarations, in the order of their tokens.
     pub all: Vec<Declared<'s>>,
+    names: IndexMap<&'s [u8], Known>,
+    /// The name of the first global of each number in each file.
+    numbers: IndexMap<Numbered, &'s [u8]>,
 }
 
 /// How many parameters stand behind the bracket with this index.
 fn parameters_behind(tokens: &[Token<'_>], open: usize) -> usize {
     let mut count: usize = 0;
-    for (index, _) in tokens.iter().enumerate().skip(open) {
+    for index in open..tokens.len() {
         if is_at(tokens, index, Symbol::CloseBracket) {
             break;
         }
@@ -45,30 +106,95 @@ fn parameters_behind(tokens: &[Token<'_>], open: usize) -> usize {
     count
 }
 
-/// The index in front of the names, parted by commas, of which the one with this index is the last.
-fn before_names(tokens: &[Token<'_>], index: usize) -> Option<usize> {
-    let mut at = index;
-    for _ in 0..index {
-        let comma = at.checked_sub(1)?;
-        if !is_at(tokens, comma, Symbol::Comma) {
-            return Some(comma);
-        }
-        at = comma.checked_sub(1)?;
-        if name_at(tokens, at).is_none() {
-            return None;
-        }
-    }
-    None
+/// What a walk over all tokens knows of those in front of it, as far as declarations go by it.
+#[derive(Clone, Copy, Default)]
+struct Around {
+    /// The word in front of the bracket that opened a section last, unless one was closed since.
+    list: Option<Symbol>,
+    /// The index of the last name.
+    name: Option<usize>,
+    /// The index in front of the names, parted by commas, of which that one is the last.
+    before: Option<usize>,
 }
 
-/// Whether the name with this index is a parameter, or one of the variables of a LET.
-fn is_in_definition(tokens: &[Token<'_>], index: usize) -> bool {
-    match before_names(tokens, index) {
-        Some(before) if is_at(tokens, before, Symbol::OpenBracket) => {
-            before > 0 && is_defined(tokens, before - 1)
+impl Around {
+    /// The index in front of the names, parted by commas, of which the one with this index is the last.
+    fn before_names(self, tokens: &[Token<'_>], index: usize) -> Option<usize> {
+        let before = index.checked_sub(1)?;
+        if !is_at(tokens, before, Symbol::Comma) {
+            Some(before)
+        } else if self.name == before.checked_sub(1) {
+            self.before
+        } else {
+            None
         }
-        Some(before) => { is_at(tokens, before, Symbol::Let) || is_at(tokens, before, Symbol::And) }
-        None => false,
+    }
+
+    /// What is known behind the token with this index.
+    fn behind(self, tokens: &[Token<'_>], index: usize) -> Around {
+        if name_at(tokens, index).is_some() {
+            return Around {
+                name: Some(index),
+                before: self.before_names(tokens, index),
+                ..self
+            };
+        }
+        match symbol_at(tokens, index) {
+            Some(Symbol::OpenSection) if index > 0 => Around {
+                list: symbol_at(tokens, index - 1),
+                ..self
+            },
+            Some(Symbol::OpenSection | Symbol::CloseSection) => Around { list: None, ..self },
+            _ => self,
+        }
+    }
+
+    /// Whether the name with this index is a parameter, or one of the variables of a LET.
+    fn is_in_definition(self, tokens: &[Token<'_>], index: usize) -> bool {
+        match self.before_names(tokens, index) {
+            Some(before) if is_at(tokens, before, Symbol::OpenBracket) => {
+                before > 0 && is_defined(tokens, before - 1)
+            }
+            Some(before) => {
+                is_at(tokens, before, Symbol::Let) || is_at(tokens, before, Symbol::And)
+            }
+            None => false,
+        }
+    }
+
+    /// As what the token with this index declares a name where it stands as the entry of a list; none where it doesn't.
+    fn listed(self, tokens: &[Token<'_>], index: usize) -> Option<Meaning> {
+        let next = index.saturating_add(1);
+        if !is_at(tokens, next, Symbol::Colon) && !is_at(tokens, next, Symbol::Equal) {
+            return None;
+        }
+        match self.list? {
+            Symbol::Global => Some(Meaning::Global(global_number(tokens, index))),
+            Symbol::Static | Symbol::Manifest => Some(Meaning::Other),
+            _ => None,
+        }
+    }
+
+    /// As what the token with this index declares a name; none where it declares none.
+    fn meaning(self, tokens: &[Token<'_>], index: usize) -> Option<Meaning> {
+        let next = index.saturating_add(1);
+        if is_defined(tokens, index) && is_at(tokens, next, Symbol::OpenBracket) {
+            return Some(Meaning::Routine(parameters_behind(tokens, next)));
+        }
+        if let Some(meaning) = self.listed(tokens, index) {
+            return Some(meaning);
+        }
+        let is_label = is_at(tokens, next, Symbol::Colon);
+        if is_label && begins_command(tokens, index) {
+            Some(Meaning::Label)
+        } else if is_label
+            || is_behind(tokens, index, Symbol::For)
+            || self.is_in_definition(tokens, index)
+        {
+            Some(Meaning::Other)
+        } else {
+            None
+        }
     }
 }
 
@@ -90,100 +216,149 @@ fn global_number(tokens: &[Token<'_>], index: usize) -> Option<u16> {
     if is_alone { Some(number) } else { None }
 }
 
-/// As what the token with this index declares a name; none where it declares none.
-fn meaning_at(tokens: &[Token<'_>], index: usize) -> Option<Meaning> {
-    let next = index.saturating_add(1);
-    if is_defined(tokens, index) && is_at(tokens, next, Symbol::OpenBracket) {
-        return Some(Meaning::Routine(parameters_behind(tokens, next)));
-    }
-    let is_entry = is_at(tokens, next, Symbol::Colon) || is_at(tokens, next, Symbol::Equal);
-    let list = if is_entry {
-        list_of(tokens, index)
-    } else {
-        None
-    };
-    match list {
-        Some(Symbol::Global) => Some(Meaning::Global(global_number(tokens, index))),
-        Some(Symbol::Static | Symbol::Manifest) => Some(Meaning::Other),
-        _ => {
-            let is_label = is_at(tokens, next, Symbol::Colon);
-            let is_counter = index > 0 && is_at(tokens, index - 1, Symbol::For);
-            if is_label || is_counter || is_in_definition(tokens, index) {
-                Some(Meaning::Other)
-            } else {
-                None
-            }
-        }
-    }
-}
-
 impl<'s> Declarations<'s> {
     /// Those of these tokens. Memory is answered where a growth was refused.
     pub fn of(alloc: Global, tokens: &[Token<'s>]) -> Result<Declarations<'s>, Memory> {
-        let mut all = Vec::new(alloc);
-        for (at, _) in tokens.iter().enumerate() {
-            if let Some(name) = name_at(tokens, at)
-                && let Some(meaning) = meaning_at(tokens, at)
-            {
-                all.push(Declared { name, at, meaning })?;
+        let mut declarations = Declarations {
+            all: Vec::new(alloc),
+            names: IndexMap::new(alloc),
+            numbers: IndexMap::new(alloc),
+        };
+        let mut around = Around::default();
+        for index in 0..tokens.len() {
+            if let Some(name) = name_at(tokens, index) {
+                declarations.add_name(tokens, around, name, index)?;
+            }
+            around = around.behind(tokens, index);
+        }
+        Ok(declarations)
+    }
+
+    /// Adds the name that the token with this index is, behind what is known of those in front of it.
+    fn add_name(
+        &mut self,
+        tokens: &[Token<'s>],
+        around: Around,
+        name: &'s [u8],
+        index: usize,
+    ) -> Result<(), Memory> {
+        let earlier = self.known(name);
+        let known = Known {
+            uses: earlier.uses.with(tokens, index),
+            ..earlier
+        };
+        let known = match around.meaning(tokens, index) {
+            Some(meaning) => {
+                self.add_number(tokens, meaning, name, index)?;
+                self.all.push(Declared {
+                    name,
+                    at: index,
+                    meaning,
+                    before: known.last,
+                })?;
+                known.with(meaning, index, self.all.len() - 1)
+            }
+            None => known,
+        };
+        self.names.insert(name, known)?;
+        Ok(())
+    }
+
+    /// Adds the name of a global that the token with this index declares, if it is the first of its number in its file.
+    fn add_number(
+        &mut self,
+        tokens: &[Token<'_>],
+        meaning: Meaning,
+        name: &'s [u8],
+        index: usize,
+    ) -> Result<(), Memory> {
+        if let Meaning::Global(Some(number)) = meaning
+            && let Some(token) = tokens.get(index)
+        {
+            let numbered = Numbered {
+                file: token.file,
+                number,
+            };
+            if !self.numbers.contains_key(&numbered) {
+                self.numbers.insert(numbered, name)?;
             }
         }
-        Ok(Declarations { all })
+        Ok(())
+    }
+
+    /// What is known of this name.
+    fn known(&self, name: &[u8]) -> Known {
+        match self.names.get(name) {
+            Some(known) => *known,
+            None => Known::default(),
+        }
+    }
+
+    /// How this name is used.
+    pub fn uses(&self, name: &[u8]) -> Uses {
+        self.known(name).uses
     }
 
     /// How many parameters the routine of this name has, where the name means nothing else in the main, but perhaps the global that the
     /// routine sets.
     pub fn parameters(&self, name: &[u8]) -> Option<usize> {
-        let mut found = None;
-        for declared in &self.all {
-            if declared.name == name {
-                match declared.meaning {
-                    Meaning::Routine(count) if found.is_none() => found = Some(count),
-                    Meaning::Global(_) => {}
-                    Meaning::Routine(_) | Meaning::Other => return None,
-                }
-            }
+        let known = self.known(name);
+        if known.routines == 1 && !known.is_other {
+            Some(known.parameters)
+        } else {
+            None
         }
-        found
     }
 
     /// The token and the number of the global of this name, where the name means nothing else in the main.
     pub fn global(&self, name: &[u8]) -> Option<(usize, Option<u16>)> {
-        let mut found = None;
-        for declared in &self.all {
-            if declared.name == name {
-                match declared.meaning {
-                    Meaning::Global(number) => found = Some((declared.at, number)),
-                    Meaning::Routine(_) | Meaning::Other => return None,
-                }
-            }
+        let known = self.known(name);
+        if known.routines == 0 && !known.is_other {
+            known.global
+        } else {
+            None
         }
-        found
+    }
+
+    /// What the token with this index declares; none where it declares nothing.
+    pub fn at(&self, index: usize) -> Option<Declared<'s>> {
+        let found = self.all.partition_point(|declared| declared.at < index);
+        let declared = self.all.get(found)?;
+        if declared.at == index {
+            Some(*declared)
+        } else {
+            None
+        }
     }
 
     /// The number of the global that is declared by the token with this index.
-    pub fn number_of(&self, at: usize) -> Option<u16> {
-        match self.all.iter().find(|declared| declared.at == at)?.meaning {
+    pub fn number_of(&self, index: usize) -> Option<u16> {
+        match self.at(index)?.meaning {
             Meaning::Global(number) => number,
-            Meaning::Routine(_) | Meaning::Other => None,
+            Meaning::Routine(_) | Meaning::Label | Meaning::Other => None,
         }
+    }
+
+    /// The name of the first global of this number in a file.
+    pub fn first_name(&self, file: usize, number: u16) -> Option<&'s [u8]> {
+        self.numbers.get(&Numbered { file, number }).copied()
     }
 
     /// The token of the last declaration of this name in front of the token with this index.
     pub fn last_before(&self, name: &[u8], index: usize) -> Option<usize> {
-        let mut found = None;
-        for declared in &self.all {
-            if declared.name == name && declared.at < index {
-                found = Some(declared.at);
+        let mut last = self.known(name).last;
+        for _ in 0..self.all.len() {
+            let declared = self.all.get(last?)?;
+            if declared.at < index {
+                return Some(declared.at);
             }
+            last = declared.before;
         }
-        found
+        None
     }
 
     /// Whether a routine of this name is declared.
     pub fn has_routine(&self, name: &[u8]) -> bool {
-        self.all.iter().any(|declared| {
-            declared.name == name && matches!(declared.meaning, Meaning::Routine(_))
-        })
+        self.known(name).routines > 0
     }
 }

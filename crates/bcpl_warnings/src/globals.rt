@@ -1,58 +1,39 @@
-use crate::declared::{Declarations, Meaning};
-use crate::tokens::{is_at, name_at, symbol_at};
-use bc_lex_tokens::{Symbol, Token, TokenKind};
-use bcpl_segments::library_name;
+use crate::declared::Declarations;
+use crate::tokens::{is_at, is_behind, name_at};
+use bc_lex_tokens::{Symbol, Token};
+use bc_library::library_name;
 
 /// The globals of the library that are no routines of it.
 const NO_ROUTINES: [&[u8]; 3] = [b"START", b"TERMINATOR", b"RESULT2"];
 
-/// The word at whose section the token with this index stands as a declaration's name: the index of the bracket in front of it that is
-/// open.
-fn open_before(tokens: &[Token<'_>], index: usize) -> Option<usize> {
-    let mut at = index;
-    for _ in 0..index {
-        at = at.saturating_sub(1);
-        if is_at(tokens, at, Symbol::OpenSection) {
-            return Some(at);
-        }
-        if is_at(tokens, at, Symbol::CloseSection) {
-            return None;
-        }
+/// The number of the global that the token with this index declares.
+fn declared_number(
+    tokens: &[Token<'_>],
+    declarations: &Declarations<'_>,
+    index: usize,
+) -> Option<u16> {
+    let next = index.saturating_add(1);
+    if is_at(tokens, next, Symbol::Colon) || is_at(tokens, next, Symbol::Equal) {
+        declarations.number_of(index)
+    } else {
+        None
     }
-    None
-}
-
-/// The word in front of the open bracket in which the token with this index stands: GLOBAL, where that is a list of globals.
-pub fn list_of(tokens: &[Token<'_>], index: usize) -> Option<Symbol> {
-    let open = open_before(tokens, index)?;
-    symbol_at(tokens, open.checked_sub(1)?)
-}
-
-/// Whether the token with this index is a name in a list of globals.
-fn is_in_list(tokens: &[Token<'_>], index: usize) -> bool {
-    matches!(list_of(tokens, index), Some(Symbol::Global))
 }
 
 /// Where the token with this index declares a global by a number that its file has under another name already: the number, and that name.
 pub fn number_twice<'s>(
-    tokens: &[Token<'s>],
+    tokens: &[Token<'_>],
     declarations: &Declarations<'s>,
     index: usize,
 ) -> Option<(u16, &'s [u8])> {
     let token = tokens.get(index)?;
-    let wanted = declarations.number_of(index)?;
-    let earlier = declarations.all.iter().find(|declared| {
-        let is_number = match declared.meaning {
-            Meaning::Global(Some(number)) => number == wanted,
-            _ => false,
-        };
-        let is_same_file = match tokens.get(declared.at) {
-            Some(other) => other.file == token.file,
-            None => false,
-        };
-        is_number && is_same_file && declared.at < index && declared.name != token.text
-    })?;
-    Some((wanted, earlier.name))
+    let number = declared_number(tokens, declarations, index)?;
+    let first = declarations.first_name(token.file, number)?;
+    if first == token.text {
+        None
+    } else {
+        Some((number, first))
+    }
 }
 
 /// The words and signs behind which a command, or what is assigned to the first of several, has ended.
@@ -89,7 +70,7 @@ pub fn is_library_assigned(
     let Some(name) = name_at(tokens, index) else {
         return false;
     };
-    let is_element = index > 0 && is_at(tokens, index - 1, Symbol::Indirection);
+    let is_element = is_behind(tokens, index, Symbol::Indirection);
     if !is_at(tokens, index.saturating_add(1), Symbol::Assign) || is_element {
         return false;
     }
@@ -107,23 +88,15 @@ pub fn is_library_assigned(
 }
 
 /// Where the token with this index declares a global by a number that the library has under another name: the number, and that name.
-pub fn library_global(tokens: &[Token<'_>], index: usize) -> Option<(u16, &'static str)> {
+pub fn library_global(
+    tokens: &[Token<'_>],
+    declarations: &Declarations<'_>,
+    index: usize,
+) -> Option<(u16, &'static str)> {
     let name = name_at(tokens, index)?;
-    let next = index.saturating_add(1);
-    if !is_at(tokens, next, Symbol::Colon) && !is_at(tokens, next, Symbol::Equal) {
-        return None;
-    }
-    let number = match tokens.get(next.saturating_add(1)) {
-        Some(
-            Token {
-                kind: TokenKind::Number(number),
-                ..
-            },
-        ) => *number,
-        _ => return None,
-    };
+    let number = declared_number(tokens, declarations, index)?;
     let known = library_name(number)?;
-    if known.as_bytes() == name || !is_in_list(tokens, index) {
+    if known.as_bytes() == name {
         None
     } else {
         Some((number, known))

@@ -1,29 +1,32 @@
-use crate::globals::list_of;
-use crate::tokens::{is_at, is_separated, name_at, stands_behind, symbol_at};
+use crate::declared::{Declarations, Meaning};
+use crate::tokens::{is_at, name_at};
 use bc_lex_tokens::{Symbol, Token};
 
-/// Whether the token with this index is the name of a label where its list of commands has it.
-fn is_label(tokens: &[Token<'_>], index: usize) -> bool {
-    if index == 0 || !is_at(tokens, index.saturating_add(1), Symbol::Colon) {
-        return false;
-    }
-    let is_begun = is_separated(tokens, index)
-        || matches!(
-            symbol_at(tokens, index - 1),
-            Some(Symbol::Semicolon | Symbol::OpenSection | Symbol::Colon)
-        );
-    is_begun
-        && !matches!(
-            list_of(tokens, index),
-            Some(Symbol::Global | Symbol::Static | Symbol::Manifest)
-        )
+/// What a label is likely meant as that no GOTO names.
+#[derive(Clone, Copy)]
+pub enum Idle {
+    /// The word DEFAULT of a SWITCHON.
+    Default,
+    /// A label.
+    Label,
 }
 
-/// Whether the token with this index looks like the word DEFAULT, where it is a label that no GOTO names.
-pub fn idle_label(tokens: &[Token<'_>], index: usize) -> Option<bool> {
+/// What the label is likely meant as that the token with this index is; none where it is none, or a GOTO names it.
+pub fn idle_label(
+    tokens: &[Token<'_>],
+    declarations: &Declarations<'_>,
+    index: usize,
+) -> Option<Idle> {
     let name = name_at(tokens, index)?;
-    if !is_label(tokens, index) || stands_behind(tokens, name, Symbol::Goto) {
+    if !is_at(tokens, index.saturating_add(1), Symbol::Colon)
+        || !matches!(declarations.at(index)?.meaning, Meaning::Label)
+        || declarations.uses(name).is_target
+    {
         return None;
     }
-    Some(name.eq_ignore_ascii_case(b"DEFAULT") || name.eq_ignore_ascii_case(b"OTHERWISE"))
+    if name.eq_ignore_ascii_case(b"DEFAULT") || name.eq_ignore_ascii_case(b"OTHERWISE") {
+        Some(Idle::Default)
+    } else {
+        Some(Idle::Label)
+    }
 }

@@ -15,6 +15,7 @@ mod strings;
 mod tokens;
 mod unreachable;
 mod unset;
+mod uses;
 mod values;
 mod vectors;
 mod warning;

@@ -4,7 +4,7 @@ use bc_lex_tokens::{Symbol, Token};
 /// The index of the bracket that closes the section that the token with this index opens; none where it opens none.
 fn section_end(tokens: &[Token<'_>], open: usize) -> Option<usize> {
     let mut depth: usize = 0;
-    for (at, _) in tokens.iter().enumerate().skip(open) {
+    for at in open..tokens.len() {
         if is_at(tokens, at, Symbol::OpenSection) {
             depth = depth.saturating_add(1);
         } else if is_at(tokens, at, Symbol::CloseSection) {
@@ -39,10 +39,7 @@ pub fn has_no_result(tokens: &[Token<'_>], index: usize) -> bool {
     };
     // behind a VALOF within
     let mut behind = open;
-    for (at, _) in tokens.iter().enumerate().skip(open) {
-        if at >= end {
-            break;
-        }
+    for at in open..end {
         if at >= behind {
             if stays_away(tokens, at) {
                 return false;

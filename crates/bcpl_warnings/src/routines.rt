@@ -1,6 +1,7 @@
-use crate::tokens::{is_at, name_at};
+use crate::tokens::{is_at, is_behind, name_at};
 use bc_lex_tokens::{Symbol, Token};
 use bc_word::Memory;
+use indexmap::IndexSet;
 use std::alloc::Global;
 
 /// The routines of BE that LIBHDR names.
@@ -21,23 +22,21 @@ const LIBRARY: [&[u8]; 10] = [
 #[derive(Drop)]
 pub struct Routines<'s> {
     /// Those that BE defines.
-    commands: Vec<&'s [u8]>,
+    commands: IndexSet<&'s [u8]>,
     /// Those that are declared otherwise, too.
-    others: Vec<&'s [u8]>,
+    others: IndexSet<&'s [u8]>,
 }
 
 /// The index of the bracket that closes the one with this index.
 fn closing(tokens: &[Token<'_>], open: usize) -> Option<usize> {
     let mut depth: usize = 0;
-    for (index, _) in tokens.iter().enumerate() {
-        if index >= open {
-            if is_at(tokens, index, Symbol::OpenBracket) {
-                depth = depth.saturating_add(1);
-            } else if is_at(tokens, index, Symbol::CloseBracket) {
-                depth = depth.saturating_sub(1);
-                if depth == 0 {
-                    return Some(index);
-                }
+    for index in open..tokens.len() {
+        if is_at(tokens, index, Symbol::OpenBracket) {
+            depth = depth.saturating_add(1);
+        } else if is_at(tokens, index, Symbol::CloseBracket) {
+            depth = depth.saturating_sub(1);
+            if depth == 0 {
+                return Some(index);
             }
         }
     }
@@ -46,14 +45,14 @@ fn closing(tokens: &[Token<'_>], open: usize) -> Option<usize> {
 
 /// Whether the token with this index stands behind a word that begins a definition.
 pub fn is_defined(tokens: &[Token<'_>], index: usize) -> bool {
-    index > 0 && (is_at(tokens, index - 1, Symbol::Let) || is_at(tokens, index - 1, Symbol::And))
+    is_behind(tokens, index, Symbol::Let) || is_behind(tokens, index, Symbol::And)
 }
 
 /// Whether the name with this index is declared as something other than a routine.
 fn is_variable(tokens: &[Token<'_>], index: usize) -> bool {
     let is_begun = is_defined(tokens, index)
-        || index > 0
-            && (is_at(tokens, index - 1, Symbol::Comma) || is_at(tokens, index - 1, Symbol::For));
+        || is_behind(tokens, index, Symbol::Comma)
+        || is_behind(tokens, index, Symbol::For);
     let next = index.saturating_add(1);
     is_begun && (is_at(tokens, next, Symbol::Equal) || is_at(tokens, next, Symbol::Comma))
 }
@@ -61,8 +60,8 @@ fn is_variable(tokens: &[Token<'_>], index: usize) -> bool {
 impl<'s> Routines<'s> {
     /// The routines of these tokens, and those of the library. Memory is answered where a growth was refused.
     pub fn of(alloc: Global, tokens: &[Token<'s>]) -> Result<Routines<'s>, Memory> {
-        let mut commands = Vec::new(alloc);
-        let mut others = Vec::new(alloc);
+        let mut commands = IndexSet::new(alloc);
+        let mut others = IndexSet::new(alloc);
         for (index, _) in tokens.iter().enumerate() {
             if let Some(name) = name_at(tokens, index) {
                 let next = index.saturating_add(1);
@@ -72,12 +71,12 @@ impl<'s> Routines<'s> {
                         None => false,
                     };
                     if is_command {
-                        commands.push(name)?;
+                        commands.insert(name)?;
                     } else {
-                        others.push(name)?;
+                        others.insert(name)?;
                     }
                 } else if is_variable(tokens, index) {
-                    others.push(name)?;
+                    others.insert(name)?;
                 }
             }
         }
@@ -86,8 +85,7 @@ impl<'s> Routines<'s> {
 
     /// Whether a name means a routine of BE wherever it stands.
     pub fn has(&self, name: &[u8]) -> bool {
-        let is_command = self.commands.iter().any(|known| *known == name)
-            || LIBRARY.iter().any(|known| *known == name);
-        is_command && !self.others.iter().any(|known| *known == name)
+        let is_command = self.commands.contains(name) || LIBRARY.iter().any(|known| *known == name);
+        is_command && !self.others.contains(name)
     }
 }

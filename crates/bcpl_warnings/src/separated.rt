@@ -1,4 +1,4 @@
-use crate::tokens::{can_end, is_at, is_line_start, is_separated, name_at, symbol_at};
+use crate::tokens::{can_end, is_at, is_behind, is_line_start, is_separated, name_at, symbol_at};
 use bc_lex::Source;
 use bc_lex_tokens::{Symbol, Token};
 use bcpl_places::line_at;
@@ -71,6 +71,18 @@ pub fn misread(sources: &[Source<'_>], tokens: &[Token<'_>], index: usize) -> Op
     } else {
         None
     }
+}
+
+/// Whether the token with this index is a REPEAT that looks as if it repeated what stands behind it: it repeats the command of the line
+/// before, which is no section.
+pub fn is_repeat_in_front(sources: &[Source<'_>], tokens: &[Token<'_>], index: usize) -> bool {
+    let next = index.saturating_add(1);
+    is_at(tokens, index, Symbol::Repeat)
+        && is_line_start(tokens, index)
+        && !is_behind(tokens, index, Symbol::CloseSection)
+        && is_line_start(tokens, next)
+        && (is_at(tokens, next, Symbol::OpenSection)
+            || indented(sources, tokens, next) > indented(sources, tokens, index))
 }
 
 /// Whether the token with this index ends the head of a loop or of a choice, behind which a command stands.

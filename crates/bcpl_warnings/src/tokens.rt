@@ -25,24 +25,9 @@ pub fn closes_at(tokens: &[Token<'_>], index: usize) -> bool {
     is_at(tokens, index, Symbol::CloseBracket) || is_at(tokens, index, Symbol::CloseSection)
 }
 
-/// Whether this name stands somewhere with this symbol right in front of it.
-pub fn stands_behind(tokens: &[Token<'_>], name: &[u8], symbol: Symbol) -> bool {
-    for (at, _) in tokens.iter().enumerate() {
-        if is_at(tokens, at, symbol) && name_at(tokens, at.saturating_add(1)) == Some(name) {
-            return true;
-        }
-    }
-    false
-}
-
-/// Whether this name stands somewhere with this symbol right behind it.
-pub fn stands_before(tokens: &[Token<'_>], name: &[u8], symbol: Symbol) -> bool {
-    for (at, _) in tokens.iter().enumerate() {
-        if name_at(tokens, at) == Some(name) && is_at(tokens, at.saturating_add(1), symbol) {
-            return true;
-        }
-    }
-    false
+/// Whether this symbol stands right in front of the token with this index.
+pub fn is_behind(tokens: &[Token<'_>], index: usize, symbol: Symbol) -> bool {
+    index > 0 && is_at(tokens, index - 1, symbol)
 }
 
 /// Whether a line break stands in front of the token with this index.
@@ -75,4 +60,14 @@ pub fn is_separated(tokens: &[Token<'_>], index: usize) -> bool {
         && is_line_start(tokens, index)
         && can_end(tokens, index - 1)
         && can_begin(tokens, index)
+}
+
+/// Whether a command of a list begins with the token with this index.
+pub fn begins_command(tokens: &[Token<'_>], index: usize) -> bool {
+    is_separated(tokens, index)
+        || index > 0
+            && matches!(
+                symbol_at(tokens, index - 1),
+                Some(Symbol::Semicolon | Symbol::OpenSection | Symbol::Colon)
+            )
 }

@@ -57,20 +57,16 @@ fn begins_item(tokens: &[Token<'_>], index: usize) -> bool {
 /// of the first token of the next line's command.
 fn behind(tokens: &[Token<'_>], index: usize) -> usize {
     let mut depth: usize = 0;
-    for (at, _) in tokens.iter().enumerate() {
-        if at > index {
-            let is_closed = closes_at(tokens, at);
-            let is_end = is_at(tokens, at, Symbol::Semicolon)
-                || is_closed
-                || is_separated(tokens, at);
-            if depth == 0 && is_end {
-                return at;
-            }
-            if opens_at(tokens, at) {
-                depth = depth.saturating_add(1);
-            } else if is_closed {
-                depth = depth.saturating_sub(1);
-            }
+    for at in index.saturating_add(1)..tokens.len() {
+        let is_closed = closes_at(tokens, at);
+        let is_end = is_at(tokens, at, Symbol::Semicolon) || is_closed || is_separated(tokens, at);
+        if depth == 0 && is_end {
+            return at;
+        }
+        if opens_at(tokens, at) {
+            depth = depth.saturating_add(1);
+        } else if is_closed {
+            depth = depth.saturating_sub(1);
         }
     }
     tokens.len()

@@ -1,17 +1,18 @@
 use crate::arguments::is_called;
 use crate::declared::{Declarations, Meaning};
-use crate::tokens::{name_at, stands_before, stands_behind};
+use crate::tokens::name_at;
 use bc_lex::{Source, lex};
-use bc_lex_tokens::{Symbol, Token};
+use bc_lex_tokens::Token;
+use bc_library::library_name;
 use bc_word::Memory;
-use bcpl_segments::library_name;
+use indexmap::IndexSet;
 use std::alloc::Global;
 
 /// The globals of a program that something may set.
 #[derive(Drop)]
 pub struct Settings {
     /// Their numbers, those of the library aside.
-    numbers: Vec<u16>,
+    numbers: IndexSet<u16>,
     /// Whether any global at all may be set, since a number isn't known, or an address is taken.
     is_open: bool,
 }
@@ -20,7 +21,7 @@ impl Settings {
     /// What these mains may set. Memory is answered where a growth was refused.
     pub fn of(alloc: Global, sources: &[Source<'_>], mains: &[usize]) -> Result<Settings, Memory> {
         let mut settings = Settings {
-            numbers: Vec::new(alloc),
+            numbers: IndexSet::new(alloc),
             is_open: false,
         };
         for main in mains {
@@ -40,17 +41,30 @@ impl Settings {
         let declarations = Declarations::of(alloc, tokens)?;
         for declared in &declarations.all {
             if let Meaning::Global(number) = declared.meaning {
-                let name = declared.name;
-                let is_set = declarations.has_routine(name) || is_changed_in(tokens, name);
-                match number {
-                    Some(number) if is_set => self.numbers.push(number)?,
-                    None if is_set => self.is_open = true,
-                    _ => {}
-                }
-                if is_address_taken(tokens, name) {
-                    self.is_open = true;
-                }
+                self.add_global(&declarations, declared.name, number)?;
             }
+        }
+        Ok(())
+    }
+
+    /// Adds the global of this name and number, if the main with these declarations may set it.
+    fn add_global(
+        &mut self,
+        declarations: &Declarations<'_>,
+        name: &[u8],
+        number: Option<u16>,
+    ) -> Result<(), Memory> {
+        let uses = declarations.uses(name);
+        if declarations.has_routine(name) || uses.is_assigned || uses.is_listed {
+            match number {
+                Some(number) => {
+                    self.numbers.insert(number)?;
+                }
+                None => self.is_open = true,
+            }
+        }
+        if uses.is_addressed {
+            self.is_open = true;
         }
         Ok(())
     }
@@ -59,18 +73,6 @@ impl Settings {
     fn is_unset(&self, number: u16) -> bool {
         !self.is_open && library_name(number).is_none() && !self.numbers.contains(&number)
     }
-}
-
-/// Whether the address of a name is taken somewhere.
-fn is_address_taken(tokens: &[Token<'_>], name: &[u8]) -> bool {
-    stands_behind(tokens, name, Symbol::AddressOf)
-}
-
-/// Whether a name may be assigned to somewhere.
-fn is_changed_in(tokens: &[Token<'_>], name: &[u8]) -> bool {
-    stands_before(tokens, name, Symbol::Assign)
-        || stands_before(tokens, name, Symbol::Comma)
-        || is_address_taken(tokens, name)
 }
 
 /// The number of the global that the token with this index calls, as the first one of its main, and that nothing sets.
@@ -86,10 +88,7 @@ pub fn unset_global(
     let name = name_at(tokens, index)?;
     let (_, number) = declarations.global(name)?;
     let number = number?;
-    let is_first = !tokens.iter().enumerate().take(index).any(|(at, _)| name_at(tokens, at)
-        == Some(name)
-        && is_called(tokens, at));
-    if is_first && settings.is_unset(number) {
+    if declarations.uses(name).first_call? == index && settings.is_unset(number) {
         Some(number)
     } else {
         None

@@ -1,15 +1,12 @@
 use crate::arguments::is_called;
 use crate::declared::Declarations;
-use crate::tokens::{is_at, name_at, stands_before};
+use crate::tokens::{is_at, name_at};
 use bc_lex_tokens::{Symbol, Token};
 
 /// Whether no section that is open at the first token is closed in front of the second.
 fn is_open_still(tokens: &[Token<'_>], first: usize, second: usize) -> bool {
     let mut depth: usize = 0;
-    for (at, _) in tokens.iter().enumerate().skip(first) {
-        if at >= second {
-            break;
-        }
+    for at in first..second {
         if is_at(tokens, at, Symbol::OpenSection) {
             depth = depth.saturating_add(1);
         } else if is_at(tokens, at, Symbol::CloseSection) {
@@ -38,7 +35,7 @@ pub fn is_vector_called(
         Some(at) => {
             is_at(tokens, at.saturating_add(2), Symbol::Vector)
                 && is_open_still(tokens, at, index)
-                && !stands_before(tokens, name, Symbol::Assign)
+                && !declarations.uses(name).is_assigned
         }
         None => false,
     }

@@ -3,10 +3,10 @@ use crate::comments::swallowed_do;
 use crate::declared::Declarations;
 use crate::formats::{Lacking, lacking_arguments, unknown_format};
 use crate::globals::{is_library_assigned, library_global, number_twice};
-use crate::labels::idle_label;
+use crate::labels::{Idle, idle_label};
 use crate::results::has_no_result;
 use crate::routines::Routines;
-use crate::separated::{Looks, misread, seeming_head};
+use crate::separated::{Looks, is_repeat_in_front, misread, seeming_head};
 use crate::starts::{Likeness, likeness_at};
 use crate::strings::has_backslash;
 use crate::unreachable::unreached;
@@ -15,9 +15,11 @@ use crate::values::is_used;
 use crate::vectors::is_vector_called;
 use bc_lex::{Source, lex};
 use bc_lex_tokens::Token;
+use bc_library::is_of_library;
 use bc_word::Memory;
 use bcpl_messages::{Draft, Fill, Message, Named, told_lines};
 use bcpl_places::Span;
+use indexmap::IndexSet;
 use std::alloc::Global;
 
 /// The most warnings that are told.
@@ -57,6 +59,11 @@ const DEFAULT: (&str, &str) = (
 const LABEL: (&str, &str) = (
     "nothing goes to the label {}",
     "a GOTO that names it would go there; where none is wanted, take it away",
+);
+
+const REPEAT: (&str, &str) = (
+    "this REPEAT repeats the command of the line before, without end",
+    "what is repeated stands in front of it, as in $( .. $) REPEATUNTIL E",
 );
 
 const APART: (&str, &str) = (
@@ -106,7 +113,7 @@ fn begin(draft: &mut Draft, tokens: &[Token<'_>], at: usize) {
 
 /// Says so where the token with this index names a global of the library otherwise; whether it does.
 fn warns_of_library_global(draft: &mut Draft, main: &Main<'_, '_, '_>, at: usize) -> bool {
-    let Some((number, name)) = library_global(main.tokens, at) else {
+    let Some((number, name)) = library_global(main.tokens, main.declarations, at) else {
         return false;
     };
     begin(draft, main.tokens, at);
@@ -158,7 +165,11 @@ fn warns_of_unset(draft: &mut Draft, main: &Main<'_, '_, '_>, at: usize) -> bool
         &[Fill::Shown(main.text(at)), Fill::Number(u64::from(number))],
     );
     draft.help(
-        "a routine sets it that is declared while its name means the global: is a file of the program missing?",
+        if is_of_library(main.text(at)) {
+            "the library has a routine of this name: GET \"LIBHDR\" declares it, in the place of the declaration here"
+        } else {
+            "a routine sets it that is declared while its name means the global: is a file of the program missing?"
+        },
         &[],
     );
     true
@@ -315,9 +326,10 @@ fn oddity(main: &Main<'_, '_, '_>, at: usize) -> Option<(&'static str, &'static 
 
 /// The same of a label, and of a line that looks otherwise than it is read.
 fn likeness(main: &Main<'_, '_, '_>, at: usize) -> Option<(&'static str, &'static str)> {
-    match idle_label(main.tokens, at) {
-        Some(true) => Some(DEFAULT),
-        Some(false) => Some(LABEL),
+    match idle_label(main.tokens, main.declarations, at) {
+        Some(Idle::Default) => Some(DEFAULT),
+        Some(Idle::Label) => Some(LABEL),
+        None if is_repeat_in_front(main.sources, main.tokens, at) => Some(REPEAT),
         None => match misread(main.sources, main.tokens, at) {
             Some(Looks::Apart) => Some(APART),
             Some(Looks::Together) => Some(TOGETHER),
@@ -372,8 +384,8 @@ struct Telling<'p, 's> {
     named: Named<'p, 's>,
     /// How many of the sources are the library's.
     library: usize,
-    /// Where something was said.
-    told: Vec<Span>,
+    /// Where something was said: the file, and the offsets of the first byte and behind the last one.
+    told: IndexSet<(usize, usize, usize)>,
     lines: String,
 }
 
@@ -383,7 +395,7 @@ impl<'p, 's> Telling<'p, 's> {
             alloc,
             named,
             library,
-            told: Vec::new(alloc),
+            told: IndexSet::new(alloc),
             lines: String::new(alloc),
         }
     }
@@ -394,23 +406,17 @@ impl<'p, 's> Telling<'p, 's> {
         Ok(self.lines.push_str(lines.as_str())?)
     }
 
-    /// Adds a warning at a place, unless more than enough are told.
-    fn add_at(&mut self, message: &Message, span: Span) -> Result<(), Memory> {
-        self.told.push(span)?;
-        if self.told.len() > MOST {
-            return Ok(());
-        }
-        self.add_lines(message)
-    }
-
-    /// Adds a warning, unless it is on the library or was told already.
+    /// Adds a warning, unless it is on the library or was told already, or more than enough are told.
     fn add(&mut self, message: &Message) -> Result<(), Memory> {
-        match message.span {
-            Some(span) if span.file >= self.library && !self.told.contains(&span) => {
-                self.add_at(message, span)
-            }
-            _ => Ok(()),
+        let Some(span) = message.span else {
+            return Ok(());
+        };
+        let is_new = span.file >= self.library
+            && self.told.insert((span.file, span.start, span.end))?;
+        if is_new && self.told.len() <= MOST {
+            self.add_lines(message)?;
         }
+        Ok(())
     }
 
     /// Adds the warning on a token, if there is one.

@@ -99,6 +99,8 @@ pub struct InterpretOrder<'a> {
     pub inputs: Vec<Binding<'a>>,
     pub outputs: Vec<Binding<'a>>,
     pub places: Places,
+    /// Whether to warn of what is lawful and likely wrong.
+    pub warns: bool,
 }
 
 /// What `show` lists.
@@ -268,6 +270,7 @@ fn interpret_order<'a>(reading: &mut Reading<'_, 'a>) -> InterpretOrder<'a> {
         inputs: reading.bindings("in", IN_TAKES),
         outputs: reading.bindings("to", TO_TAKES),
         places: when_told(reading),
+        warns: !reading.flag("no-warnings"),
     }
 }
 

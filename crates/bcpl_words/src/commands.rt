@@ -60,6 +60,13 @@ const TEXTS: Argument = Argument {
     help: "The INTCODE texts, linked in their order",
 };
 
+const NO_WARNINGS: Argument = Argument {
+    name: "no-warnings",
+    form: Form::Flag,
+    rule: Rule::Free,
+    help: "Don't warn of what is lawful and likely wrong",
+};
+
 const BUILD: Described = Described {
     name: "build",
     about: "Compiles BCPL sources to INTCODE text, with a certificate that their code is of least size",
@@ -89,12 +96,7 @@ const BUILD: Described = Described {
         },
         LIBRARY,
         PLACES,
-        Argument {
-            name: "no-warnings",
-            form: Form::Flag,
-            rule: Rule::Free,
-            help: "Don't warn of what is lawful and likely wrong",
-        },
+        NO_WARNINGS,
         FILES,
     ],
 };
@@ -242,6 +244,7 @@ const INTERPRET: Described = Described {
         IN,
         TO,
         PLACES,
+        NO_WARNINGS,
         FILES,
     ],
 };

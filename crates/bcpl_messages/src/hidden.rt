@@ -1,0 +1,34 @@
+//! Section brackets that stand in comments.
+
+use crate::read::Read;
+use bcpl_places::Span;
+use bstr::ByteSlice;
+
+/// Where this sign stands last in the comments in front of the token with this index, or behind the last token.
+fn hidden_in_front(read: Read<'_, '_>, index: usize, sign: &str) -> Option<Span> {
+    let before = read.tokens.get(index.checked_sub(1)?)?;
+    let text = read.source(before.file);
+    let end = match read.tokens.get(index) {
+        Some(token) if token.file == before.file => token.start,
+        Some(_) => return None,
+        None => text.len(),
+    };
+    let comments = text.get(before.end..end)?;
+    let start = before.end.checked_add(comments.rfind(sign.as_bytes())?)?;
+    Some(Span {
+        file: before.file,
+        start,
+        end: start.checked_add(sign.len())?,
+    })
+}
+
+/// Where this sign stands last in the comments behind the token `first` and in front of the token `second`, which may be the end.
+pub fn hidden_between(read: Read<'_, '_>, first: usize, second: usize, sign: &str) -> Option<Span> {
+    let mut found = None;
+    for index in first..second {
+        if let Some(span) = hidden_in_front(read, index.saturating_add(1), sign) {
+            found = Some(span);
+        }
+    }
+    found
+}

@@ -1,0 +1,36 @@
+use crate::arguments::is_called;
+use crate::tokens::{is_at, is_behind};
+use bc_lex_tokens::{Symbol, Token};
+
+/// How a name is used in a main.
+#[derive(Clone, Copy, Default)]
+pub struct Uses {
+    /// The token of the first call of it.
+    pub first_call: Option<usize>,
+    /// Whether something is assigned to it, as the last one or the only one.
+    pub is_assigned: bool,
+    /// Whether it stands in front of a comma, as what is assigned to along with others does.
+    pub is_listed: bool,
+    /// Whether its address is taken.
+    pub is_addressed: bool,
+    /// Whether a GOTO names it.
+    pub is_target: bool,
+}
+
+impl Uses {
+    /// These uses, and that by the token with this index, which is the name.
+    pub fn with(self, tokens: &[Token<'_>], index: usize) -> Uses {
+        let next = index.saturating_add(1);
+        let first_call = match self.first_call {
+            None if is_called(tokens, index) => Some(index),
+            earlier => earlier,
+        };
+        Uses {
+            first_call,
+            is_assigned: self.is_assigned || is_at(tokens, next, Symbol::Assign),
+            is_listed: self.is_listed || is_at(tokens, next, Symbol::Comma),
+            is_addressed: self.is_addressed || is_behind(tokens, index, Symbol::AddressOf),
+            is_target: self.is_target || is_behind(tokens, index, Symbol::Goto),
+        }
+    }
+}
