@@ -29,13 +29,13 @@ use Rattle.bc_cert_write.specs.Certificate.{Derived, entry_of, certificate}
 use Rattle.bc_cert_laws.specs.Entries.{Says}
 use Rattle.bc_cert_laws.specs.Written.{judged_of, HasRoom, HasFewest}
 use Rattle.bc_cert_laws.proofs.Accepted.{certificate_is_said}
-use Rattle.bc_build_laws.specs.Laws.{IsShallow, HasLevels, HasSmallForm, HasSmallForms}
-use Rattle.bc_build_laws.proofs.Shallow.{roots_are_shallow}
-use Rattle.bc_build_laws.proofs.Sections.{roots_have_levels}
-use Rattle.bc_build_laws.proofs.Few.{roots_have_few_nodes}
-use Rattle.bc_build_laws.proofs.Labels.{labels_have_room}
-use Rattle.bc_build_laws.proofs.Numbers.{nodes_have_room}
-use Rattle.bc_build_laws.proofs.Words.{root_words_have_room}
+use Rattle.bc_build.specs.RoomLaws.{IsShallow, HasLevels, HasSmallForm, HasSmallForms}
+use Rattle.bc_build.proofs.Shallow.{roots_are_shallow}
+use Rattle.bc_build.proofs.Sections.{roots_have_levels}
+use Rattle.bc_build.proofs.Few.{roots_have_few_nodes}
+use Rattle.bc_build.proofs.Labels.{labels_have_room}
+use Rattle.bc_build.proofs.Numbers.{nodes_have_room}
+use Rattle.bc_build.proofs.Words.{root_words_have_room}
 use Rattle.bc_gen.specs.Chosen.{coding}
 use Rattle.bc_build.specs.Ranges.{AreSmall, AllAreSmall, RootIsSmall, EntryIsSmall, IsSmallEntry}
 use Rattle.bc_build.specs.Compiled.{AreAccepted}

@@ -12,7 +12,7 @@ use Rattle.bc_lex.specs.Files.{File}
 use Rattle.bc_link.specs.Refusals.{refusal_of}
 use Rattle.bc_link.specs.Linked.{image_of, IsRefusal}
 use Rattle.bc_run.specs.Runs.{behind}
-use Rattle.bc_gen_labels.specs.Laws.{LabelsStandOnce}
+use Rattle.bc_gen_laws.specs.labels.Laws.{LabelsStandOnce}
 use Rattle.bc_scope_laws.specs.Laws.{SectionsFit}
 use Rattle.bc_build.specs.Compiled.{IsAccepted, AreAccepted}
 use Rattle.bc_build.specs.Code.{items_of, in_segment, entries_of, entries_from, IsCompiled}

@@ -8,7 +8,7 @@ use Rattle.bc_machine_defs.specs.Run.{runs, ended}
 use Rattle.bc_machine_defs.specs.declared.state.End.{End}
 use Rattle.bc_machine_defs.specs.declared.state.End.TheVariants.{BudgetSpent}
 use Rattle.bc_machine_defs.specs.declared.state.End.TheVariants as ends
-use Rattle.bc_machine_image.specs.declared.image.Image.{Image}
+use Rattle.bc_machine_defs.specs.declared.image.Image.{Image}
 use Rattle.bc_parse_tree.specs.Tree.{Declarations}
 use Rattle.bc_core.specs.Outcome.{Ending, Finished, ZeroDivide}
 use Rattle.bc_core.specs.Meaning.{Result, Ended, Going, Wild}

@@ -6,8 +6,8 @@ use Rattle.bc_rules_defs.specs.View.{entry as entry_view}
 use Rattle.bc_rules_defs.specs.declared.entry.Entry as code
 use Rattle.bc_parse_tree.specs.Tree.{Declarations}
 use Rattle.bc_lex.specs.Files.{File}
-use Rattle.bc_right_programs.specs.Linked.{LinkedMapIsMap}
-use Rattle.bc_right_sections.specs.Whole.{SectionsRun}
+use Rattle.bc_right.specs.programs.Linked.{LinkedMapIsMap}
+use Rattle.bc_right.specs.sections.Whole.{SectionsRun}
 use Rattle.bc_build.specs.Compiled.{AreAccepted}
 use Rattle.bc_build.specs.Code.{items_of}
 use Rattle.bc_build.specs.Built.{IsBuilt}

@@ -12,3 +12,19 @@ pub mod Facts
 mod Taking
 mod Ending
 pub mod Worked
+mod Throughout
+mod Depth
+mod Commands
+mod Emitted
+mod Things
+pub mod Shallow
+mod Marks
+mod Frames
+mod Named
+mod Framed
+mod Tables
+pub mod Sections
+pub mod Labels
+pub mod Numbers
+pub mod Few
+pub mod Words

@@ -13,7 +13,7 @@ use Rattle.bc_rules_defs.specs.declared.rule.Table.TheVariants.{Two}
 use Rattle.bc_select_defs.specs.Chosen.{chosen}
 use Rattle.bc_scope_defs.specs.Translation.{core_of}
 use Rattle.bc_gen.specs.Chosen.{coding}
-use Rattle.bc_gen_labels.specs.Laws.{LabelsStand, LabelsStandOnce}
+use Rattle.bc_gen_laws.specs.labels.Laws.{LabelsStand, LabelsStandOnce}
 use Rattle.bc_scope_laws.specs.Laws.{SectionsFit}
 use Rattle.bc_build.specs.Compiled.{AreAccepted}
 use Rattle.bc_build.specs.Code.{items_of}

@@ -5,7 +5,7 @@ use Rattle.std.specs.List.{AllByRecursion}
 use Rattle.std.proofs.lemmas.List.Elements.{All-weaker, recursion_from_All}
 use Rattle.bc_text_items.specs.Sizes.{size_of_all}
 use Rattle.bc_text_items.specs.declared.item.Item.{Item}
-use Rattle.bc_machine_image.specs.declared.image.Image.{Image}
+use Rattle.bc_machine_defs.specs.declared.image.Image.{Image}
 use Rattle.bc_text.specs.Texts.{IsText}
 use Rattle.bc_text.specs.Printed.{IsItem}
 use Rattle.bc_text.proofs.Printed.{reads_back}
@@ -23,7 +23,7 @@ use Rattle.bc_parse_tree.specs.Tree.{Declarations}
 use Rattle.bc_scope_defs.specs.Translation.{core_of}
 use Rattle.bc_rules_defs.specs.declared.rule.Table.TheVariants.{Two}
 use Rattle.bc_select_defs.specs.Chosen.{chosen}
-use Rattle.bc_gen_roots.proofs.Words.{size_is_by_the_roots}
+use Rattle.bc_gen_laws.proofs.roots.Words.{size_is_by_the_roots}
 use Rattle.bc_gen.specs.Chosen.{coding}
 use Rattle.bc_build.specs.Code.{items_of}
 use Rattle.bc_build.specs.Size.{section_words, words_of, HasSize}

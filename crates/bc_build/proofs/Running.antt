@@ -6,8 +6,8 @@ use Rattle.bc_text_items.specs.Sizes.{size_of_all}
 use Rattle.bc_text_items.specs.Assembled.{label_places}
 use Rattle.bc_text_items.specs.declared.item.Item.{Item}
 use Rattle.bc_machine_defs.specs.State.{start}
-use Rattle.bc_machine_image.specs.declared.image.Image.{Image}
-use Rattle.bc_machine_image.specs.declared.image.SegmentPlace.{SegmentPlace}
+use Rattle.bc_machine_defs.specs.declared.image.Image.{Image}
+use Rattle.bc_machine_defs.specs.declared.image.SegmentPlace.{SegmentPlace}
 use Rattle.bc_link.specs.Labels.{label_address}
 use Rattle.bc_link.specs.Layout.{places_from, stack_base_of}
 use Rattle.bc_link.specs.Linked.{image_of}
@@ -25,8 +25,8 @@ use Rattle.bc_rules_defs.specs.declared.rule.Table.TheVariants.{Two}
 use Rattle.bc_select_defs.specs.Chosen.{chosen}
 use Rattle.bc_gen_defs.specs.Bodies.{Coding, coding_of}
 use Rattle.bc_gen_defs.specs.Section.{section_items}
-use Rattle.bc_right_programs.specs.Linked.{LinkedMapIsMap, ProgramsRun, library_items, segments_of, sections_of, addresses_from, linked_map}
-use Rattle.bc_right_sections.specs.Whole.{IsFaultless, SectionsRun}
+use Rattle.bc_right.specs.programs.Linked.{LinkedMapIsMap, ProgramsRun, library_items, segments_of, sections_of, addresses_from, linked_map}
+use Rattle.bc_right.specs.sections.Whole.{IsFaultless, SectionsRun}
 use Rattle.bc_gen.specs.Chosen.{coding}
 use Rattle.bc_lex.specs.Files.{File}
 use Rattle.bc_build.specs.Compiled.{AreAccepted}

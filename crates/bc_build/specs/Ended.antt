@@ -4,7 +4,7 @@ use Rattle.bc_machine_defs.specs.Streams.{Content}
 use Rattle.bc_machine_defs.specs.StreamCalls.{output_of}
 use Rattle.bc_machine_defs.specs.declared.state.End.{End}
 use Rattle.bc_machine_defs.specs.declared.state.End.TheVariants as ends
-use Rattle.bc_machine_image.specs.declared.image.Image.{Image}
+use Rattle.bc_machine_defs.specs.declared.image.Image.{Image}
 use Rattle.bc_parse_tree.specs.Tree.{Declarations}
 use Rattle.bc_core.specs.Outcome.{Ending, Finished, ZeroDivide}
 use Rattle.bc_core.specs.Meaning.{Result, Ended, Wild}

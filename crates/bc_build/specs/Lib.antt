@@ -12,3 +12,4 @@ pub mod Text
 pub mod Taken
 pub mod Generated
 pub mod Ended
+pub mod RoomLaws

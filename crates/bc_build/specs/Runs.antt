@@ -2,8 +2,8 @@
 use Rattle.std.specs.Prelude.{ℕ, List, map, drop}
 use Rattle.bc_machine_defs.specs.Streams.{Content, HoldBytes}
 use Rattle.bc_machine_defs.specs.State.{State, start}
-use Rattle.bc_machine_image.specs.declared.image.Image.{Image}
-use Rattle.bc_machine_image.specs.declared.image.SegmentPlace.{SegmentPlace}
+use Rattle.bc_machine_defs.specs.declared.image.Image.{Image}
+use Rattle.bc_machine_defs.specs.declared.image.SegmentPlace.{SegmentPlace}
 use Rattle.bc_link.specs.Labels.{label_address}
 use Rattle.bc_parse_tree.specs.Tree.{Declarations}
 use Rattle.bc_core.specs.Map.{Map, IsMap}

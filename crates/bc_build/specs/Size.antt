@@ -1,14 +1,14 @@
 -- The words of a program.
 use Rattle.std.specs.Prelude.{◌≡◌, ℕ, ◌+◌, List, [], ◌∷◌, sum_by}
-use Rattle.bc_machine_image.specs.declared.image.Image.{Image}
+use Rattle.bc_machine_defs.specs.declared.image.Image.{Image}
 use Rattle.bc_parse_tree.specs.Tree.{Declarations}
 use Rattle.bc_core.specs.Tree.{Root}
 use Rattle.bc_scope_defs.specs.Translation.{core_of}
 use Rattle.bc_rules_defs.specs.declared.rule.Table.TheVariants.{Two}
 use Rattle.bc_rules_defs.specs.Code.{root_cost}
 use Rattle.bc_select_defs.specs.LeastDerivation.{least_derivation}
-use Rattle.bc_gen_roots.specs.Roots.{in_code, roots_of}
-use Rattle.bc_gen_roots.specs.Laws.{fixed_words}
+use Rattle.bc_gen_laws.specs.roots.Roots.{in_code, roots_of}
+use Rattle.bc_gen_laws.specs.roots.Laws.{fixed_words}
 
 -- the roots of a section, by walking its commands; the VALOFs of each in the order of its code
 abbrev pub section_roots : Declarations → List Root

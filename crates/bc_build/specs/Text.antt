@@ -7,7 +7,7 @@ use Rattle.bc_machine_defs.specs.declared.state.End.{End}
 use Rattle.bc_machine.specs.Ran.{Ran}
 use Rattle.bc_text.specs.Texts.{IsText}
 use Rattle.bc_text.specs.Printed.{printed_segment}
-use Rattle.bc_machine_image.specs.declared.image.Image.{Image}
+use Rattle.bc_machine_defs.specs.declared.image.Image.{Image}
 use Rattle.bc_link.specs.Refusals.{refusal_of}
 use Rattle.bc_link.specs.Linked.{image_of}
 use Rattle.bc_run.specs.Runs.{behind}

@@ -21,7 +21,7 @@ use bc_cert_write::Workings;
 use bc_gen::{Generated, generate};
 use bc_lex::{Source, lex};
 use bc_link::link;
-use bc_machine_image::Image;
+use bc_machine_defs::Image;
 use bc_parse::parse;
 use bc_rules_defs::Entry;
 use bc_run::behind_primitives;
@@ -139,10 +139,10 @@ pub fn build(alloc: Global, sources: &[Source<'_>], mains: &[usize]) -> Result<B
     ensures text { IfOk result (λ built. ReadsAs built.segments.items built.image) }
     ensures refused { IfErr result (IsRefused (files_of sources.now) mains.now) }
 {
-    bc_gen_labels::laws::labels_stand_once();
+    bc_gen_laws::labels::laws::labels_stand_once();
     bc_scope_laws::laws::sections_fit();
-    bc_right_sections::laws::sections_run();
-    bc_right_programs::laws::linked_map_is_map();
+    bc_right::sections::laws::sections_run();
+    bc_right::programs::laws::linked_map_is_map();
     let mut segments = Vec::new(alloc);
     let mut entries = Vec::new(alloc);
     let mut workings = Vec::new(alloc);

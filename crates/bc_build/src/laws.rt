@@ -2,7 +2,7 @@
 
 ghost use Rattle.std.specs.Prelude.{ℕ, List, Some};
 ghost use Rattle.bc_text_items.specs.declared.item.Item.{Item};
-ghost use Rattle.bc_machine_image.specs.declared.image.Image.{Image};
+ghost use Rattle.bc_machine_defs.specs.declared.image.Image.{Image};
 ghost use Rattle.bc_machine_defs.specs.declared.state.End.{End};
 ghost use Rattle.bc_run.specs.Runs.{IsRunOf};
 ghost use Rattle.bc_build.specs.Text.{text_of, ReadsAs, IsRunFrom};
@@ -43,5 +43,5 @@ pub fn certificate_is_taken()
 pub fn generated_runs()
     ensures { GeneratedRuns }
 {
-    bc_right_programs::laws::programs_run();
+    bc_right::programs::laws::programs_run();
 }

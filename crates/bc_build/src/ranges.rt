@@ -6,7 +6,7 @@ ghost use Rattle.bc_text.specs.Printed.{IsItem};
 ghost use Rattle.bc_build.specs.Ranges.{AreSmall, AllAreSmall, RootIsSmall, EntryIsSmall, IsSmallEntry};
 
 use bc_core::{CoreExp, Root};
-use bc_machine_image::Words;
+use bc_machine_defs::Words;
 use bc_rules_defs::Entry;
 use bc_text_items::{Item, Segment};
 

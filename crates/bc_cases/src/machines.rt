@@ -3,7 +3,7 @@ use crate::growth::Growth;
 use crate::number::{number, short, word};
 use bc_link::link;
 use bc_machine::{End, Machine, MemoryStreams, Named, Streams};
-use bc_machine_image::{Image, Places, Words};
+use bc_machine_defs::{Image, Places, Words};
 use bc_run::behind_primitives;
 use bc_text::read_all;
 use bc_text_items::Segment;

@@ -5,7 +5,7 @@ use crate::number::count;
 use bc_lex::{LexError, Source, lex};
 use bc_lex_tokens::{Token, TokenKind};
 use bc_library::{BLIB, LIBHDR};
-use bc_parse_spell::render;
+use bc_parse_tree::render;
 use std::alloc::Global;
 
 /// What is answered of tokens.

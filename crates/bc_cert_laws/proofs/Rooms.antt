@@ -13,10 +13,10 @@ use Rattle.bc_rules_defs.specs.declared.rule.Aim.{Aim}
 use Rattle.bc_rules_defs.specs.declared.rule.Aim.TheVariants.{Gets, Jumps}
 use Rattle.bc_rules_defs.specs.Rules.{Derives, RootDerives}
 use Rattle.bc_rules_defs.specs.Code.{labels, code, root_labels, root_code}
-use Rattle.bc_rules_laws.specs.Layers.{Layer, code_of}
-use Rattle.bc_rules_laws.specs.Made.{Among, first, later, Within, itself, loaded, negated, inverted, left, right, condition, this, that, an_argument, routine, Side, the_value, the_test, assigned, address, Here, Own, number, frame, cell, next_cell, cell_of_part, operand, to_target, to_own, Aimed, a_value, same_target, own_target, Claim, Stand, done, piece, own_label, a_body, a_part, here, Made, level_of_root, at_root}
-use Rattle.bc_rules_laws.proofs.Layers.{code_is, root_code_is}
-use Rattle.bc_rules_laws.proofs.Made.{by_parts, root_stands, in_bounds}
+use Rattle.bc_rules_defs.specs.Layers.{Layer, code_of}
+use Rattle.bc_rules_defs.specs.Made.{Among, first, later, Within, itself, loaded, negated, inverted, left, right, condition, this, that, an_argument, routine, Side, the_value, the_test, assigned, address, Here, Own, number, frame, cell, next_cell, cell_of_part, operand, to_target, to_own, Aimed, a_value, same_target, own_target, Claim, Stand, done, piece, own_label, a_body, a_part, here, Made, level_of_root, at_root}
+use Rattle.bc_rules_defs.proofs.Layers.{code_is, root_code_is}
+use Rattle.bc_rules_defs.proofs.Made.{by_parts, root_stands, in_bounds}
 use Rattle.bc_text.specs.Printed.{IsItem}
 use Rattle.bc_select_defs.specs.Nodes.{in_order, all_in_order, root_in_order}
 use Rattle.bc_cert_write.specs.Shown.{Shown, root_shown}

@@ -5,3 +5,4 @@ pub mod Entries
 pub mod Size
 pub mod Laws
 pub mod Examples
+pub mod examples

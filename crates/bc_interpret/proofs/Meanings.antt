@@ -8,7 +8,7 @@ use Rattle.bc_core.specs.Start.{start_cells}
 use Rattle.bc_interpret_defs.specs.Machine as machine
 use Rattle.bc_interpret_defs.specs.Resume.{meant}
 use Rattle.bc_interpret_defs.specs.Running.{start_at, start_state}
-use Rattle.bc_interpret_laws.proofs.Running.{start_means}
+use Rattle.bc_interpret_defs.proofs.Running.{start_means}
 use Rattle.bc_interpret_steps.specs.declared.forms.Work.TheVariants as works
 use Rattle.bc_interpret_steps.specs.declared.rests.Rest.{Rest}
 use Rattle.bc_interpret_steps.specs.declared.state.State.{State}

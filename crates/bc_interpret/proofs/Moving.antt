@@ -13,7 +13,7 @@ use Rattle.bc_interpret_defs.specs.Machine.{step, give}
 use Rattle.bc_interpret_defs.specs.Resume.{meant}
 use Rattle.bc_interpret_defs.specs.Weight.{weight, Lessens}
 use Rattle.bc_interpret_defs.specs.Running.{Moves}
-use Rattle.bc_interpret_laws.proofs.Running.{steps_keep, steps_lessen}
+use Rattle.bc_interpret_defs.proofs.Running.{steps_keep, steps_lessen}
 use Rattle.bc_interpret_defs.specs.Causes as met
 use Rattle.bc_interpret_defs.specs.Causes.{StandsIn}
 use Rattle.bc_interpret_defs.specs.Meeting.{Meets, ByArgument, after_steps, ComesTo}

@@ -3,8 +3,8 @@ use Rattle.std.proofs.Common.{◌≡◌, ℕ, Bool, true, false, List, [], ◌�
 use Rattle.std.specs.Prelude.{◌==◌, cond, unwrap_or, Option, slice_index, slice_index_or}
 use Rattle.std.specs.Global.{Vec}
 use Rattle.std.proofs.lemmas.List.{map-append, append_assoc, append-nil}
-use Rattle.bc_machine_image.specs.declared.image.SegmentPlace.{SegmentPlace}
-use Rattle.bc_machine_image.specs.Places.{address_in}
+use Rattle.bc_machine_defs.specs.declared.image.SegmentPlace.{SegmentPlace}
+use Rattle.bc_machine_defs.specs.Places.{address_in}
 use Rattle.bc_link.specs.Labels.{label_address}
 use Rattle.bc_core.specs.Commands.{Core}
 use Rattle.bc_core.specs.Map.{Placed, placed}

@@ -1,7 +1,7 @@
 -- For proofs: the addresses of labels, by label.
 use Rattle.std.specs.Prelude.{ℕ, ◌≡◌, List, map, slice_index_or}
 use Rattle.std.specs.Global.{Vec}
-use Rattle.bc_machine_image.specs.declared.image.SegmentPlace.{SegmentPlace}
+use Rattle.bc_machine_defs.specs.declared.image.SegmentPlace.{SegmentPlace}
 use Rattle.bc_link.specs.Labels.{label_address}
 
 abbrev pub IsAddressed : List (ℕ × ℕ) → List ℕ → Type 0

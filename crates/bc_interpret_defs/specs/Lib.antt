@@ -7,3 +7,4 @@ pub mod Quiet
 pub mod Resume
 pub mod Running
 pub mod Weight
+pub mod Laws

@@ -3,7 +3,7 @@ use Rattle.std.proofs.Common.{◌≡◌, ℕ, List, ◌∷◌, refl, sym, ap, su
 use Rattle.bc_interpret_defs.specs.Quiet.{QuietWork, QuietRest, quiet_step, quiet_after, quiet_weight, IsLighter, QuietMoves, as_number, as_verdict}
 use Rattle.bc_interpret_defs.specs.Causes.{Cause, Malformed}
 use Rattle.bc_interpret_defs.specs.Quiet as quiet
-use Rattle.bc_interpret_laws.proofs.Worths.{quiet_steps_keep, quiet_steps_lessen}
+use Rattle.bc_interpret_defs.proofs.Worths.{quiet_steps_keep, quiet_steps_lessen}
 use Rattle.bc_interpret_quiet.specs.declared.forms.Step.{Step}
 use Rattle.bc_interpret_quiet.specs.declared.forms.Step.TheVariants as steps
 use Rattle.bc_interpret_quiet.specs.Views.{Came, Kept}

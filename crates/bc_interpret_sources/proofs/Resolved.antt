@@ -3,7 +3,7 @@ use Rattle.std.proofs.Common.{◌≡◌, ◌∙◌, ℕ, ◌+◌, ◌<◌, ◌�
 use Rattle.std.specs.Prelude.{None, Result, Ok}
 use Rattle.std.proofs.lemmas.List.{map-append, append_assoc, append-nil, drop_all}
 use Rattle.bc_machine_defs.specs.Streams.{Content, HoldBytes}
-use Rattle.bc_machine_image.specs.declared.image.Image.{Image}
+use Rattle.bc_machine_defs.specs.declared.image.Image.{Image}
 use Rattle.bc_lex_tokens.specs.Token.{Lexeme}
 use Rattle.bc_lex.specs.Files.{File}
 use Rattle.bc_lex.specs.Tokens.{HasTokens}

@@ -10,9 +10,9 @@ use Rattle.bc_interpret_defs.specs.Machine.{quiet, give, tested, evaluate_parts,
 use Rattle.bc_interpret_defs.specs.Quiet as quiet_forms
 use Rattle.bc_interpret_defs.specs.Quiet.{settled, worth}
 use Rattle.bc_interpret_defs.specs.Causes.{StandsIn, Stood}
-use Rattle.bc_interpret_laws.specs.Laws.{FailsBy}
-use Rattle.bc_interpret_laws.proofs.Failures.{failures_stand}
-use Rattle.bc_interpret_laws.proofs.Worths.{worth_is_value}
+use Rattle.bc_interpret_defs.specs.Laws.{FailsBy}
+use Rattle.bc_interpret_defs.proofs.Failures.{failures_stand}
+use Rattle.bc_interpret_defs.proofs.Worths.{worth_is_value}
 use Rattle.bc_interpret_quiet.specs.declared.worth.Worth.{Worth}
 use Rattle.bc_interpret_quiet.specs.declared.worth.Worth.TheVariants as worths
 use Rattle.bc_interpret_quiet.specs.declared.worth.Truth.{Truth}

@@ -4,7 +4,7 @@ use Rattle.bc_machine_defs.specs.Streams.{Content}
 use Rattle.bc_core.specs.Tree.{Exp}
 use Rattle.bc_core.specs.Commands.{Command, Items}
 use Rattle.bc_core.specs.Lists.{Beginning}
-use Rattle.bc_interpret_laws.specs.Laws.{FailsBy}
+use Rattle.bc_interpret_defs.specs.Laws.{FailsBy}
 use Rattle.bc_interpret_defs.specs.Causes.{StandsIn, Stood}
 use Rattle.bc_interpret_quiet.specs.Causes.{cause_of}
 use Rattle.bc_core.specs.Outcome.{Outcome, Done, Ended, Wild, ZeroDivide, followed, second_side, write}

@@ -1,7 +1,7 @@
 -- Labels that are set, by the places of a segment and by its list of labels.
 use Rattle.std.proofs.Common.{◌≡◌, ℕ, ◌+◌, List, [], ◌∷◌, Bool, true, false, not, cond, eqb, Some, find, is_none, ◌||◌, refl, ap, sym}
 use Rattle.std.specs.List.{list_any}
-use Rattle.bc_machine_image.specs.Places.{address_in}
+use Rattle.bc_machine_defs.specs.Places.{address_in}
 use Rattle.bc_text_items.specs.Sizes.{size}
 use Rattle.bc_text_items.specs.Assembled.{label_places}
 use Rattle.bc_text_items.specs.declared.item.Item.{Item}

@@ -5,7 +5,7 @@ use Rattle.bc_text_items.specs.Assembled.{assembled, label_places, global_settin
 use Rattle.bc_text_items.specs.declared.item.Item.{Item}
 use Rattle.bc_link.specs.declared.draft.Draft.{Draft}
 use Rattle.std.specs.Option.{option_map}
-use Rattle.bc_machine_image.specs.declared.image.Image.{Image}
+use Rattle.bc_machine_defs.specs.declared.image.Image.{Image}
 use Rattle.bc_link.specs.declared.link_error.LinkError.{LinkError}
 use Rattle.bc_link.specs.declared.link_error.LinkError.TheVariants.{LabelUnset}
 use Rattle.bc_link.specs.Linked.{IsRefusal}

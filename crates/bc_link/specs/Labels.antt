@@ -5,7 +5,7 @@ use Rattle.bc_text_items.specs.declared.item.Item.{Item}
 use Rattle.bc_text_items.specs.declared.item.Item.TheVariants.{Label, Data, DataLabel, Operation, Global}
 use Rattle.bc_text_items.specs.declared.item.Base.TheVariants as bases
 use Rattle.bc_text_items.specs.declared.item.Function.TheVariants as functions
-use Rattle.bc_machine_image.specs.Places.{address_in}
+use Rattle.bc_machine_defs.specs.Places.{address_in}
 
 -- the address that pairs of a label and its address give a label: that of the first pair, or 0 where there is none
 abbrev pub label_address : List (ℕ × ℕ) → ℕ → ℕ

@@ -4,7 +4,7 @@ use Rattle.bc_text_items.specs.Sizes.{size_of_all}
 use Rattle.bc_text_items.specs.Assembled.{label_places}
 use Rattle.bc_text_items.specs.declared.item.Item.{Item}
 use Rattle.bc_text_items.specs.declared.item.Item.TheVariants.{Label, Data, DataLabel}
-use Rattle.bc_machine_image.specs.declared.image.SegmentPlace.{SegmentPlace}
+use Rattle.bc_machine_defs.specs.declared.image.SegmentPlace.{SegmentPlace}
 
 -- the words that all the segments take
 abbrev pub size_of_segments : List (List Item) → ℕ

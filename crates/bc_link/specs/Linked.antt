@@ -1,7 +1,7 @@
 -- What linking gives.
 use Rattle.std.specs.Prelude.{◌≡◌, List, Option, Some}
 use Rattle.bc_text_items.specs.declared.item.Item.{Item}
-use Rattle.bc_machine_image.specs.declared.image.Image.{Image}
+use Rattle.bc_machine_defs.specs.declared.image.Image.{Image}
 use Rattle.bc_link.specs.declared.link_error.LinkError.{LinkError}
 use Rattle.bc_link.specs.declared.link_error.LinkError.TheVariants.{LabelUnset, LabelTwice, GlobalTwice, TooLarge, Memory}
 use Rattle.bc_link.specs.Layout.{stack_base_of, places_from}

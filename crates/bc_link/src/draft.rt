@@ -2,7 +2,7 @@
 
 ghost use Rattle.std.specs.Prelude.{◌≡◌, ◌+◌, ◌-◌, ◌≤◌, ◌++◌, ◌∷◌, [], None, vec_len, length, replicate, OnOk, IfOk, IfErr, find, is_none};
 ghost use Rattle.std.specs.List.{filter_map};
-ghost use Rattle.bc_machine_image.specs.Places.{address_in};
+ghost use Rattle.bc_machine_defs.specs.Places.{address_in};
 ghost use Rattle.bc_text_items.specs.Sizes.{size_of_all};
 ghost use Rattle.bc_link.specs.Labels.{labels_of, uses_of, use_of};
 ghost use Rattle.bc_link.specs.Linked.{IsRefusal};
@@ -14,7 +14,7 @@ use crate::label_table::LabelTable;
 use crate::layout::{FIRST_ADDRESS, label_places};
 use crate::link_error::LinkError;
 use crate::store::{push_items, set_globals};
-use bc_machine_image::{Image, Places, SegmentPlace, Words};
+use bc_machine_defs::{Image, Places, SegmentPlace, Words};
 use bc_text_items::{Base, Item, Segment};
 use bc_word::{Memory, Word};
 use std::alloc::Global;

@@ -1,8 +1,8 @@
 ghost use Rattle.std.specs.Prelude.{◌≡◌, IfOk};
-ghost use Rattle.bc_machine_image.specs.Places.{address_in};
+ghost use Rattle.bc_machine_defs.specs.Places.{address_in};
 ghost use Rattle.bc_link.specs.Labels.{label_address};
 
-use bc_machine_image::Labels;
+use bc_machine_defs::Labels;
 use bc_word::{Memory, Word};
 use indexmap::IndexMap;
 use std::alloc::Global;
@@ -21,7 +21,7 @@ pub struct LabelTable {
 impl Model for LabelTable {
     ghost use Rattle.std.specs.Prelude.{◌≡◌, ℕ, List, nat_eq};
     ghost use Rattle.indexmap.specs.IndexMap.{get};
-    ghost use Rattle.bc_machine_image.specs.Places.{address_in};
+    ghost use Rattle.bc_machine_defs.specs.Places.{address_in};
 
     ghost Value = { List (ℕ × ℕ) };
 

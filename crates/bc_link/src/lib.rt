@@ -10,7 +10,7 @@ mod linker;
 mod repeats;
 mod store;
 
-pub use bc_machine_image::{Image, Labels, Places, SegmentPlace, Words};
+pub use bc_machine_defs::{Image, Labels, Places, SegmentPlace, Words};
 pub use bc_text_items::{Base, Function, GlobalNumber, Item, Segment};
 pub use link_error::LinkError;
 pub use linker::link;

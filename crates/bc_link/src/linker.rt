@@ -6,7 +6,7 @@ use crate::draft::Draft;
 use crate::layout::stack_base;
 use crate::link_error::LinkError;
 use crate::repeats::{repeated_global, repeated_label};
-use bc_machine_image::Image;
+use bc_machine_defs::Image;
 use bc_text_items::Segment;
 use std::alloc::Global;
 

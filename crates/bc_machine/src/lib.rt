@@ -12,8 +12,7 @@ mod progress;
 mod store;
 mod streams;
 
-pub use bc_machine_defs::{End, Side};
-pub use bc_machine_image::{Image, Labels, Places, SegmentPlace, Words};
+pub use bc_machine_defs::{End, Image, Labels, Places, SegmentPlace, Side, Words};
 pub use faults::{DeviceFault, StreamsError};
 pub use files::FileStreams;
 pub use machine::Machine;

@@ -1,2 +1,4 @@
 pub mod Stops
 pub mod Runs
+pub mod Bytes
+pub mod Operators

@@ -13,3 +13,5 @@ pub mod Step
 pub mod Run
 pub mod Laws
 pub mod Examples
+pub mod OperatorLaws
+pub mod Places

@@ -3,7 +3,7 @@ use Rattle.std.proofs.Common.{◌≡◌, ◌∙◌, List, length, Ok, ap}
 use Rattle.bc_lex_tokens.specs.Token.{Lexeme}
 use Rattle.bc_parse_tree.specs.Tree.{Declarations}
 use Rattle.bc_parse_tree.specs.Canonical.{section_spelling}
-use Rattle.bc_parse_close.specs.Closing.{places_in}
+use Rattle.bc_parse_defs.specs.Closing.{places_in}
 use Rattle.bc_parse_defs.specs.Reading.{section_of}
 use Rattle.bc_parse_laws.specs.Laws.{SpellingIsRead, SpellingIsClosed}
 use Rattle.bc_parse.specs.Canonical.{IsCanonical}

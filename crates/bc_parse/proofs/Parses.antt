@@ -7,10 +7,10 @@ use Rattle.bc_parse_tree.specs.Spelling.{SpellsSection}
 use Rattle.bc_parse_tree.specs.Height.{declarations_height}
 use Rattle.bc_parse_tree.specs.Size.{declarations_size}
 use Rattle.bc_parse_tree.specs.Laws.{SizeIsBounded}
-use Rattle.bc_parse_close.specs.Closing.{Placed, closed_list, parts_in, places_in}
-use Rattle.bc_parse_close.specs.Closing as closing
-use Rattle.bc_parse_close.specs.Laws.{ClosedIsShort}
-use Rattle.bc_parse_close.specs.Seen.{Lists, unzipped, all_unzipped}
+use Rattle.bc_parse_defs.specs.Closing.{Placed, closed_list, parts_in, places_in}
+use Rattle.bc_parse_defs.specs.Closing as closing
+use Rattle.bc_parse_defs.specs.ClosingLaws.{ClosedIsShort}
+use Rattle.bc_parse_defs.specs.Seen.{Lists, unzipped, all_unzipped}
 use Rattle.bc_parse_defs.specs.Reading.{section_of}
 use Rattle.bc_parse_defs.specs.Reading as reading
 use Rattle.bc_parse_defs.specs.Laws.{ReadIsSpelled, ReadNestsLittle}

@@ -3,8 +3,8 @@ use Rattle.std.specs.Prelude.{◌≡◌, ℕ, ◌-◌, List, length, Result, Ok,
 use Rattle.bc_lex_tokens.specs.Token.{Lexeme}
 use Rattle.bc_parse_tree.specs.Tree.{Declarations}
 use Rattle.bc_parse_tree.specs.Spelling.{SpellsSection}
-use Rattle.bc_parse_close.specs.Closing.{Placed, closed_list, parts_in, places_in}
-use Rattle.bc_parse_close.specs.Closing as closing
+use Rattle.bc_parse_defs.specs.Closing.{Placed, closed_list, parts_in, places_in}
+use Rattle.bc_parse_defs.specs.Closing as closing
 use Rattle.bc_parse_defs.specs.Reading.{section_of}
 use Rattle.bc_parse_defs.specs.Reading as reading
 use Rattle.bc_parse.specs.declared.error.ParseError.{ParseError}

@@ -14,10 +14,9 @@ mod names;
 mod read;
 mod section;
 
-pub use bc_parse_spell::{render, spell};
 pub use bc_parse_tree::{
     Block, Command, Constant, Declaration, Definition, Dyadic, Exp, Item, Label, Monadic, Section,
-    Storage,
+    Storage, render, spell,
 };
 pub use error::ParseError;
 pub use section::parse;

@@ -12,7 +12,7 @@ use crate::cursor::Rest;
 use crate::error::ParseError;
 use crate::fault::ReadFault;
 use bc_lex_tokens::Token;
-use bc_parse_close::CloseFault;
+use bc_parse_defs::CloseFault;
 use bc_parse_tree::Section;
 use std::alloc::Global;
 
@@ -36,8 +36,8 @@ fn read<'s>(alloc: Global, tokens: &[Token<'s>]) -> Result<Section<'s>, ParseErr
     bc_parse_defs::laws::read_is_spelled();
     bc_parse_defs::laws::read_nests_little();
     bc_parse_tree::laws::spelling_is_as_long();
-    bc_parse_close::laws::closed_is_short();
-    let list = match bc_parse_close::close(alloc, tokens) {
+    bc_parse_defs::closing_laws::closed_is_short();
+    let list = match bc_parse_defs::close(alloc, tokens) {
         Ok(list) => list,
         Err(CloseFault::NotOpen(at)) => return Err(ParseError::NotOpen(at)),
         Err(CloseFault::Unclosed) => return Err(ParseError::Unclosed),

@@ -2,3 +2,8 @@ pub mod Yields
 pub mod Front
 pub mod Sound
 pub mod Heights
+pub mod Unwinding
+pub mod Stepping
+pub mod Weights
+pub mod Breaks
+pub mod Plain

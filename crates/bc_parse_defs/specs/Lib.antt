@@ -1,2 +1,7 @@
 pub mod Reading
 pub mod Laws
+pub mod Closing
+pub mod Seen
+pub mod Lawful
+pub mod ClosingLaws
+pub mod examples

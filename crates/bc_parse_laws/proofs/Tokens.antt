@@ -7,7 +7,7 @@ use Rattle.bc_lex_tokens.specs.Token as token
 use Rattle.bc_parse_tree.specs.Parts.{Part, A}
 use Rattle.bc_parse_tree.specs.Tree.{Declarations}
 use Rattle.bc_parse_tree.specs.Canonical.{section_spelling}
-use Rattle.bc_parse_close.specs.Closing.{Placed, Role, Stays, role_of, kind_part, tag_of, closes, closing, Step, step_by, token_step, broken, ends_command, closed, closed_list, parts_in}
+use Rattle.bc_parse_defs.specs.Closing.{Placed, Role, Stays, role_of, kind_part, tag_of, closes, closing, Step, step_by, token_step, broken, ends_command, closed, closed_list, parts_in}
 use Rattle.bc_parse_laws.specs.Tokens.{IsBare, IsSpelling}
 use Rattle.bc_parse_laws.proofs.Balance.{left_open, sections_are_closed}
 

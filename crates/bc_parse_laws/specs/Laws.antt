@@ -6,7 +6,7 @@ use Rattle.bc_parse_tree.specs.Height.{declarations_height}
 use Rattle.bc_parse_tree.specs.Spelling.{SpellsSection, in_round}
 use Rattle.bc_parse_tree.specs.Canonical.{whole, section_spelling}
 use Rattle.bc_lex_tokens.specs.Token.{Lexeme}
-use Rattle.bc_parse_close.specs.Closing.{Placed, closed_list, parts_in}
+use Rattle.bc_parse_defs.specs.Closing.{Placed, closed_list, parts_in}
 use Rattle.bc_parse_defs.specs.Reading.{section_of}
 use Rattle.bc_parse_laws.specs.Open.{most_open}
 use Rattle.bc_parse_laws.specs.Held.{most_held}

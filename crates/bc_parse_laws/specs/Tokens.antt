@@ -5,7 +5,7 @@ use Rattle.bc_lex_tokens.specs.Token.{Lexeme}
 use Rattle.bc_lex_tokens.specs.Token as token
 use Rattle.bc_parse_tree.specs.Tree.{Declarations}
 use Rattle.bc_parse_tree.specs.Canonical.{section_spelling}
-use Rattle.bc_parse_close.specs.Closing.{kind_part, tag_of}
+use Rattle.bc_parse_defs.specs.Closing.{kind_part, tag_of}
 
 -- no line break stands before the token, and no tag behind it if it closes a section
 pub record IsBare (t : Lexeme) : Type 0 where

@@ -5,7 +5,7 @@ use Rattle.bc_lex_tokens.specs.Token.{Character}
 use Rattle.bc_lex.specs.Bytes.{escaped}
 use Rattle.bc_lex.specs.Quotes.{Plain, Escape}
 use Rattle.bc_lex.specs.Lexemes.{IsLexeme, Constant}
-use Rattle.bc_parse_spell.specs.Rendered.{escape_of, in_signs, character_text}
+use Rattle.bc_parse_tree.specs.Rendered.{escape_of, in_signs, character_text}
 use Rattle.bc_parse_roundtrip.proofs.Numerals.{below_holds}
 
 abbrev stands_for : Option ℕ → ℕ → Bool

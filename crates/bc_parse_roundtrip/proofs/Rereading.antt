@@ -11,8 +11,8 @@ use Rattle.bc_lex.specs.Files.{File}
 use Rattle.bc_lex.specs.Gaps.{breaks, IsGap, Nothing, More, Space}
 use Rattle.bc_lex.specs.Lexemes.{IsLexeme, Named, Numeral, Literal, is_digit_of}
 use Rattle.bc_lex.specs.Tokens.{Reads, End, Next, Whole, token}
-use Rattle.bc_parse_spell.specs.Rendered.{text_of, rendered}
-use Rattle.bc_parse_close.specs.Closing.{kind_part, tag_of}
+use Rattle.bc_parse_tree.specs.Rendered.{text_of, rendered}
+use Rattle.bc_parse_defs.specs.Closing.{kind_part, tag_of}
 use Rattle.bc_parse_laws.specs.Tokens.{IsBare}
 use Rattle.bc_parse_roundtrip.specs.Rereads.{IsToken, quoted, IsReread}
 use Rattle.bc_parse_roundtrip.proofs.Numerals.{decimal_number}

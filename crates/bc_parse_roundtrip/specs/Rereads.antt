@@ -9,7 +9,7 @@ use Rattle.bc_parse_tree.specs.Tree.{Declarations}
 use Rattle.bc_parse_tree.specs.Height.{declarations_height}
 use Rattle.bc_parse_tree.specs.Spelling.{SpellsSection}
 use Rattle.bc_parse_tree.specs.Canonical.{section_spelling}
-use Rattle.bc_parse_close.specs.Closing.{kind_part}
+use Rattle.bc_parse_defs.specs.Closing.{kind_part}
 use Rattle.bc_parse_laws.specs.Tokens.{IsBare}
 use Rattle.bc_parse_laws.specs.Open.{most_open}
 use Rattle.bc_parse_laws.specs.Repeated.{RepeatsNoValof}
@@ -17,7 +17,7 @@ use Rattle.bc_parse.specs.Parsing.{parsed}
 use Rattle.bc_lex.specs.Lexemes.{IsName}
 use Rattle.bc_lex.specs.Quotes.{Spells}
 use Rattle.bc_lex.specs.Tokens.{HasTokens}
-use Rattle.bc_parse_spell.specs.Rendered.{rendered}
+use Rattle.bc_parse_tree.specs.Rendered.{rendered}
 
 -- a string with its signs, of fewer than 256 characters
 pub data IsString : List ℕ → Type 0 where

@@ -8,3 +8,5 @@ pub mod Height
 pub mod Size
 pub mod Laws
 pub mod Examples
+pub mod Adds
+pub mod Rendered

@@ -3,3 +3,7 @@ pub mod Words
 pub mod Tables
 pub mod Likeness
 pub mod TableParts
+pub mod Layers
+pub mod Made
+pub mod Bodies
+pub mod Plain

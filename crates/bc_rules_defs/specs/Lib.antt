@@ -10,3 +10,7 @@ pub mod Entry
 pub mod View
 pub mod Examples
 pub mod Laws
+pub mod Layers
+pub mod Made
+pub mod LayerLaws
+pub mod LayerExamples

@@ -1,10 +1,13 @@
 //! Derivations: which code an expression, a test or an assignment may have, by the rule table.
+//!
+//! Of what the code of each derivation is made, and what holds of all such code because of it.
 #![tactic(auto)]
 
 mod derivation;
 mod entry;
 mod facts;
 pub mod laws;
+pub mod layer_laws;
 mod names;
 mod piece;
 mod rule;

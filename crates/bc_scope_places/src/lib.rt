@@ -13,8 +13,7 @@ mod span;
 mod walk;
 
 pub use bc_lex_tokens::Token;
-pub use bc_parse_leaves::token_at;
-pub use bc_parse_tree::Section;
+pub use bc_parse_tree::{Section, token_at};
 pub use bc_scope_names::ScopeError;
 pub use bc_word::Memory;
 pub use place::{Also, FaultPlace, fault_place, sites_of};

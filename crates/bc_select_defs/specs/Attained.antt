@@ -20,8 +20,8 @@ use Rattle.bc_rules_defs.specs.declared.rule.Rule.{Rule}
 use Rattle.bc_rules_defs.specs.declared.rule.Rule.TheVariants as rule
 use Rattle.bc_rules_defs.specs.Rules.{Derives, v0, v1, v2, v3, v4, v6, v7, v8, v9, v10, v11, v12, v13, v14, v15, v16, v17, v18, v19, v20, v21, v22, v22_valof, j1, j2, j3, j4, j5, j6, j7, j8, j9, DerivesAll, no_more, one_more, Tree, Trees, by, no_part, part, one, two, three, end_with, shape, shapes}
 use Rattle.bc_rules_defs.specs.Code.{labels, cost, all_cost}
-use Rattle.bc_rules_laws.specs.Layers.{Layer, argument_layers}
-use Rattle.bc_rules_laws.specs.Layers as layer
+use Rattle.bc_rules_defs.specs.Layers.{Layer, argument_layers}
+use Rattle.bc_rules_defs.specs.Layers as layer
 use Rattle.bc_rules_defs.specs.Free.{are_free, is_plain, is_zero, beside_zero, without_zero, is_plain_operator, jumps_at}
 use Rattle.bc_rules_defs.specs.Piece.{w, operand_words, J}
 use Rattle.bc_select_defs.specs.declared.choice.Choice.{Choice}

@@ -8,8 +8,8 @@ use Rattle.bc_rules_defs.specs.Names.{rule_number}
 use Rattle.bc_rules_defs.specs.declared.piece.Piece.{Piece}
 use Rattle.bc_rules_defs.specs.Rules.{Derives, RootDerives, Tree, by, shape, root_shape}
 use Rattle.bc_rules_defs.specs.Code.{cost, root_cost}
-use Rattle.bc_rules_laws.specs.Layers.{Layer, layers, root_layers}
-use Rattle.bc_rules_laws.specs.Layers as layer
+use Rattle.bc_rules_defs.specs.Layers.{Layer, layers, root_layers}
+use Rattle.bc_rules_defs.specs.Layers as layer
 
 -- the rule that a derivation begins with
 abbrev pub top : Tree → Rule

@@ -1,7 +1,7 @@
 //! The commands.
 
 ghost use Rattle.std.specs.Prelude.{◌≡◌, ◌≤◌};
-ghost use Rattle.bcpl_faults.specs.Statuses.{status_of};
+ghost use Rattle.bcpl_cli.specs.Statuses.{status_of};
 
 use crate::checking::check_certificate;
 use crate::compiling::compile;
@@ -13,13 +13,12 @@ use crate::output::{of_output, print_words, tell_lines};
 use crate::reporting::explain;
 use crate::running::{run, run_input};
 use crate::showing::show;
-use bcpl_convert::convert_file;
-use bcpl_faults::{Cause, Failure};
-use bcpl_files::{Clean, Wanted};
-use bcpl_words::{
-    AssembleOrder, BadWords, BuildOrder, CheckOrder, ConvertOrder, ExplainOrder, InterpretOrder,
-    ListOrder, Order, Places, RunOrder, ShowOrder, places_of, wanted,
+use bcpl_cli::{
+    AssembleOrder, BadWords, BuildOrder, Cause, CheckOrder, Clean, ConvertOrder, ExplainOrder,
+    Failure, InterpretOrder, ListOrder, Order, Places, RunOrder, ShowOrder, Wanted, places_of,
+    wanted,
 };
+use bcpl_convert::convert_file;
 use std::alloc::Global;
 use std::io;
 use std::io::{Read, Write};

@@ -2,7 +2,7 @@
 
 ghost use Rattle.bcpl.specs.Devices.{source_remaining, sink_contents};
 
-use bcpl_faults::Failure;
+use bcpl_cli::Failure;
 use std::alloc::Global;
 use std::io;
 use std::io::{BufReader, BufWriter, Read, Write};

@@ -9,10 +9,8 @@ use bc_lex::Source;
 use bc_library_ext::{EXTHDR, EXTLIB};
 use bc_run::{BLIB, LIBHDR};
 use bc_word::Memory;
-use bcpl_faults::Failure;
-use bcpl_files::contents;
+use bcpl_cli::{Failure, Library, Sources, contents};
 use bcpl_messages::Named;
-use bcpl_words::{Library, Sources};
 use std::alloc::Global;
 use std::rt::Files;
 

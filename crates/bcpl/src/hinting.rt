@@ -4,9 +4,9 @@ use crate::loading::readable;
 use bc_build::BuildError;
 use bc_link::LinkError;
 use bc_word::Memory;
-use bcpl_faults::{Cause, Failure};
-use bcpl_files::{Kind, Wanted, bare, hint, kind_of, named_twice};
-use bcpl_words::{BadWords, Guess, guess_of};
+use bcpl_cli::{
+    BadWords, Cause, Failure, Guess, Kind, Wanted, bare, guess_of, hint, kind_of, named_twice,
+};
 use std::alloc::Global;
 use std::rt::Files;
 

@@ -1,7 +1,7 @@
 //! Files of `--get` that no GET reaches.
 
 use bc_word::Memory;
-use bcpl_words::{Library, Sources};
+use bcpl_cli::{Library, Sources};
 use std::alloc::Global;
 
 /// Why a GET of this name reaches no file of `--get` with this index; none where it does.

@@ -14,10 +14,9 @@ use bc_interpret_sources::{
 use bc_machine_defs::End;
 use bc_text_items::Segment;
 use bc_word::Memory;
-use bcpl_faults::{Cause, Failure, Wild};
+use bcpl_cli::{Cause, Failure, InterpretOrder, Wild};
 use bcpl_messages::{Message, told_lines};
 use bcpl_wild::{Met, Stand, placed_message, wild_message};
-use bcpl_words::InterpretOrder;
 use std::alloc::Global;
 use std::io::{Read, Write};
 use std::rt::Files;

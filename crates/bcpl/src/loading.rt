@@ -4,13 +4,12 @@ ghost use Rattle.std.specs.Prelude.{◌≡◌};
 
 use crate::growing::Growing;
 use bc_link::{LinkError, link};
-use bc_machine_image::Image;
+use bc_machine_defs::Image;
 use bc_run::behind_primitives;
 use bc_text::Reader;
 use bc_text_items::Segment;
 use bc_word::Memory;
-use bcpl_faults::{Cause, Failure};
-use bcpl_files::{FILE_LIMIT, contents};
+use bcpl_cli::{Cause, FILE_LIMIT, Failure, contents};
 use bcpl_reports::{Text, link_lines, text_lines};
 use std::alloc::Global;
 use std::io;

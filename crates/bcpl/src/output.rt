@@ -2,8 +2,8 @@
 
 ghost use Rattle.std.specs.Prelude.{◌≡◌};
 
-use bc_machine_image::Image;
-use bcpl_faults::Failure;
+use bc_machine_defs::Image;
+use bcpl_cli::Failure;
 use itoa::Buffer;
 use std::alloc::Global;
 use std::io;

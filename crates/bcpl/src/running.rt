@@ -2,8 +2,8 @@
 
 ghost use Rattle.std.specs.Prelude.{◌≡◌, ◌≢◌, Err, IfOk, IfErr, None};
 ghost use Rattle.bc_machine_defs.specs.declared.state.End.TheVariants.{Finished, Device};
-ghost use Rattle.bcpl_faults.specs.Statuses.{untold};
-ghost use Rattle.bcpl_faults.specs.declared.failure.Cause.TheVariants as causes;
+ghost use Rattle.bcpl_cli.specs.Statuses.{untold};
+ghost use Rattle.bcpl_cli.specs.declared.failure.Cause.TheVariants as causes;
 
 use crate::devices::{Sink, Source};
 use crate::interpreting::Standards;
@@ -14,14 +14,11 @@ use crate::output::unfinished;
 use crate::sparing::spare_files;
 use crate::watching::{Last, Notes, is_watched, spare_texts, window_of};
 use bc_machine::{FileStreams, Machine, Named, StreamsError};
-use bc_machine_defs::End;
-use bc_machine_image::Image;
+use bc_machine_defs::{End, Image};
 use bc_word::{Memory, Word};
-use bcpl_faults::{Cause, Failure};
-use bcpl_files::Written;
+use bcpl_cli::{Binding, Cause, Failure, RunOrder, WatchOrder, Written};
 use bcpl_reports::{Stop, Text, ended_lines, stream_lines};
 use bcpl_trace::{Nowhere, Watch, profile, run_watched};
-use bcpl_words::{Binding, RunOrder, WatchOrder};
 use std::alloc::Global;
 use std::fs;
 use std::io::{BufReader, BufWriter, Read, Write};

@@ -1,8 +1,6 @@
 //! Files of a run that an output of it would lose.
 
-use bcpl_faults::Failure;
-use bcpl_files::would_lose;
-use bcpl_words::Binding;
+use bcpl_cli::{Binding, Failure, would_lose};
 use std::alloc::Global;
 use std::rt::Files;
 

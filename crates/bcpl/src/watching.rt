@@ -1,9 +1,7 @@
 //! Runs that are watched: the files of their trace and of their profile.
 
-use bcpl_faults::Failure;
-use bcpl_files::{Written, is_one_file};
+use bcpl_cli::{Failure, RunOrder, WatchOrder, Written, is_one_file};
 use bcpl_trace::Window;
-use bcpl_words::{RunOrder, WatchOrder};
 use std::alloc::Global;
 use std::io::Write;
 use std::rt::Files;

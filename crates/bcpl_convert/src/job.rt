@@ -1,9 +1,7 @@
 //! A source of the command: what becomes of it, and where that goes.
 
 use bc_convert::Conversion;
-use bcpl_faults::Failure;
-use bcpl_files::Written;
-use bcpl_words::ConvertTo;
+use bcpl_cli::{ConvertTo, Failure, Written};
 use std::alloc::{AllocError, Global};
 use std::io::Write;
 use std::rt::Files;

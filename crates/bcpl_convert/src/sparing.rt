@@ -1,9 +1,7 @@
 //! Files that would be lost, and aren't written.
 
 use crate::job::{Job, Target};
-use bcpl_faults::Failure;
-use bcpl_files::is_one_file;
-use bcpl_words::{ConvertOrder, ConvertTo};
+use bcpl_cli::{ConvertOrder, ConvertTo, Failure, is_one_file};
 use std::alloc::Global;
 use std::fs;
 use std::rt::Files;

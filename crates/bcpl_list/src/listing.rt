@@ -1,7 +1,7 @@
 use crate::page::Page;
 use crate::references::{Manner, Reference, of_label, references};
 use crate::strings::{run_behind, say_bytes};
-use bc_machine_image::Image;
+use bc_machine_defs::Image;
 use bc_text_items::{Base, Function, Item, Segment};
 use bc_word::{Memory, Word};
 use bcpl_segments::{addresses, instruction, is_long, library_name};

@@ -10,7 +10,7 @@ mod sizes;
 mod tokens;
 mod tree;
 
-pub use bc_parse_leaves::leaves_of;
+pub use bc_parse_tree::leaves_of;
 pub use code::{Program, code_listing, unit};
 pub use lines::{Files, Lines};
 pub use marks::{Marks, Own, Owner};

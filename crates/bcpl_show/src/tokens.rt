@@ -1,7 +1,7 @@
 use crate::lines::{Files, Lines};
 use crate::page::{Field, Page};
 use bc_lex_tokens::{Symbol, Token, TokenKind};
-use bc_parse_close::close;
+use bc_parse_defs::close;
 use bc_parse_tree::Part;
 use bc_word::Memory;
 use std::alloc::Global;

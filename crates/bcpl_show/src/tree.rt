@@ -1,9 +1,8 @@
 use crate::lines::Files;
 use crate::page::{Field, Page, WIDTH, width};
 use bc_lex_tokens::{Symbol, Token, TokenKind};
-use bc_parse_close::is_symbol_end;
-use bc_parse_leaves::{is_leaf, leaves_of};
-use bc_parse_spell::render;
+use bc_parse_defs::is_symbol_end;
+use bc_parse_tree::{is_leaf, leaves_of, render};
 use bc_word::Memory;
 use bcpl_places::way_to;
 use std::alloc::Global;

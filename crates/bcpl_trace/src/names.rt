@@ -1,6 +1,6 @@
 //! What stands at an address of an image.
 
-use bc_machine_image::Image;
+use bc_machine_defs::Image;
 use bc_word::Memory;
 use bcpl_segments::library_name;
 use std::alloc::Global;

@@ -5,7 +5,7 @@ use crate::counts::Counts;
 use crate::names::{begins_part, name_at};
 use crate::watch::Watch;
 use bc_machine::Machine;
-use bc_machine_image::Image;
+use bc_machine_defs::Image;
 use bc_word::{Memory, Word};
 use bcpl_segments::instruction;
 use std::alloc::Global;

@@ -1,5 +1,5 @@
 use bc_lex_tokens::{Symbol, Token, TokenKind};
-use bc_parse_close::{is_symbol_beginning, is_symbol_end};
+use bc_parse_defs::{is_symbol_beginning, is_symbol_end};
 pub use bcpl_messages::{is_at, symbol_at};
 
 /// The name that the token with this index is; none where it is none.

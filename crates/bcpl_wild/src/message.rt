@@ -8,7 +8,7 @@ use crate::sentence::{Known, ending, help, say};
 use bc_interpret_quiet::Cause;
 use bc_interpret_trace::Standing;
 use bc_lex::Source;
-use bc_machine_image::Image;
+use bc_machine_defs::Image;
 use bc_word::Memory;
 use bcpl_messages::{Draft, Fill, Message};
 use bcpl_places::Span;

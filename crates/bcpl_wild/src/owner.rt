@@ -4,7 +4,7 @@ use crate::extent::is_indexed;
 use crate::message::Program;
 use crate::placed::{LabelOf, ReadMain, labelled, read};
 use bc_interpret_trace::Standing;
-use bc_machine_image::Image;
+use bc_machine_defs::Image;
 use bc_scope_places::VariableSite;
 use bcpl_messages::{Draft, Fill};
 

@@ -5,7 +5,7 @@ use crate::extent::{Extent, extent_from};
 use bc_interpret_trace::Standing;
 use bc_lex::{Source, lex};
 use bc_lex_tokens::{Symbol, Token, TokenKind};
-use bc_machine_image::Image;
+use bc_machine_defs::Image;
 use bc_parse::parse;
 use bc_scope_places::{BodyOf, Sites, sites_of, token_at};
 use bcpl_messages::{Draft, is_at, span_of};

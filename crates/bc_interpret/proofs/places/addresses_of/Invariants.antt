@@ -1,6 +1,6 @@
 use Rattle.std.proofs.Common.{◌≡◌, ℕ, length}
 use Rattle.std.specs.Prelude.{unwrap_or, slice_index_or}
-use Rattle.bc_machine_image.specs.Places.{address_in}
+use Rattle.bc_machine_defs.specs.Places.{address_in}
 use Rattle.bc_link.specs.Labels.{label_address}
 use Rattle.bc_interpret.proofs.places.addresses_of.Given as goal
 

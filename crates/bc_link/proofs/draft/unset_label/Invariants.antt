@@ -1,5 +1,5 @@
 use Rattle.std.proofs.Common.{◌≡◌, drop, find, is_none}
-use Rattle.bc_machine_image.specs.Places.{address_in}
+use Rattle.bc_machine_defs.specs.Places.{address_in}
 use Rattle.bc_link.specs.Labels.{uses_of}
 use Rattle.bc_link.proofs.draft.unset_label.Given as goal
 

@@ -3,7 +3,7 @@ use Rattle.std.proofs.lemmas.List.{length-map}
 use Rattle.bc_lex_tokens.specs.Token.{lexeme_of, lexemes_of}
 use Rattle.bc_parse_tree.specs.View.{section_view}
 use Rattle.bc_parse_tree.specs.Parts.{parts}
-use Rattle.bc_parse_close.specs.Seen.{lists}
+use Rattle.bc_parse_defs.specs.Seen.{lists}
 use Rattle.bc_parse_defs.specs.Reading.{section_of}
 use Rattle.std.proofs.Common.{Ok, refl}
 use Rattle.bc_parse.proofs.Parses.{parsed_ok}

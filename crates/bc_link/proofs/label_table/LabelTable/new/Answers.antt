@@ -1,6 +1,6 @@
 use Rattle.std.proofs.Common.{◌≡◌, ◌∙◌, sym, ap, ◌+◌, take, [], ◌∷◌, ◌++◌, is_some, cond, Some, nat_eq}
 use Rattle.std.proofs.lemmas.List.{take_more}
-use Rattle.bc_machine_image.specs.Places.{address_in}
+use Rattle.bc_machine_defs.specs.Places.{address_in}
 use Rattle.bc_link.proofs.Pairs.{kept, gained}
 use Rattle.bc_link.proofs.label_table.LabelTable.new.Goals as goal
 use Rattle.bc_link.proofs.label_table.LabelTable.new.Goals.{then-not-contains_key+in_ok-insert, else-not-contains_key}

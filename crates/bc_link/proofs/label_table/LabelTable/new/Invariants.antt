@@ -1,6 +1,6 @@
 use Rattle.std.proofs.Common.{◌≡◌, ℕ, take, nat_eq}
 use Rattle.indexmap.specs.IndexMap.{get}
-use Rattle.bc_machine_image.specs.Places.{address_in}
+use Rattle.bc_machine_defs.specs.Places.{address_in}
 use Rattle.bc_link.proofs.label_table.LabelTable.new.Given as goal
 
 abbrev pub invariant-loop-pair : goal.invariant-loop-pair

@@ -6,7 +6,7 @@ use Rattle.bc_machine.proofs.Tables.{content, ends_input}
 use Rattle.bc_machine.proofs.FileOutputs.{known_at, known_after}
 use Rattle.bc_machine.proofs.FileSteps.{ends_output, keeps_same, same_told}
 use Rattle.bc_machine.proofs.Held.{held}
-use Rattle.bc_machine_laws.proofs.Bytes.{end_keeps}
+use Rattle.bc_machine_defs.proofs.Bytes.{end_keeps}
 use Rattle.bc_machine.proofs.files.FileStreamsStreams.end.Goals as goal
 
 pub returns-then-self-gt0-clause-ok : goal.returns-then-self-gt0-clause-ok

@@ -5,7 +5,7 @@ use Rattle.bc_machine.proofs.Tables.{content, reads, reads_on}
 use Rattle.bc_machine.proofs.FileOutputs.{known_at, known_after}
 use Rattle.bc_machine.proofs.FileSteps.{same_told}
 use Rattle.bc_machine.proofs.Held.{held}
-use Rattle.bc_machine_laws.proofs.Bytes.{read_keeps}
+use Rattle.bc_machine_defs.proofs.Bytes.{read_keeps}
 use Rattle.bc_machine.proofs.files.FileStreamsStreams.read.Goals as goal
 
 pub returns-in-Ok-clause-byte : goal.returns-in-Ok-clause-byte

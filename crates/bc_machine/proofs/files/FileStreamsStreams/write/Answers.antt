@@ -5,7 +5,7 @@ use Rattle.bc_machine.specs.FileContent.{file_content, file_input, file_outputs}
 use Rattle.bc_machine.proofs.Tables.{content}
 use Rattle.bc_machine.proofs.FileSteps.{dropped, writes, is_known, stay_known, appends_told, appends_known, keeps_same, same_told}
 use Rattle.bc_machine.proofs.Held.{held}
-use Rattle.bc_machine_laws.proofs.Bytes.{write_keeps}
+use Rattle.bc_machine_defs.proofs.Bytes.{write_keeps}
 use Rattle.bc_machine.proofs.files.FileStreamsStreams.write.Goals as goal
 
 pub returns-then-index-clause-ok : goal.returns-then-index-clause-ok

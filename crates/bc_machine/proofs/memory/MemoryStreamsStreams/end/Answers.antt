@@ -4,7 +4,7 @@ use Rattle.bc_machine.specs.MemoryContent.{memory_content, memory_input, memory_
 use Rattle.bc_machine.proofs.Tables.{content, ends_input, end_output-at}
 use Rattle.bc_machine.proofs.MemoryOutputs.{numbered_output, memory_outputs-ended, output_at}
 use Rattle.bc_machine.proofs.Held.{held}
-use Rattle.bc_machine_laws.proofs.Bytes.{end_keeps}
+use Rattle.bc_machine_defs.proofs.Bytes.{end_keeps}
 use Rattle.bc_machine.proofs.memory.MemoryStreamsStreams.end.Goals as goal
 
 pub returns-then-self-gt0-clause-content : goal.returns-then-self-gt0-clause-content

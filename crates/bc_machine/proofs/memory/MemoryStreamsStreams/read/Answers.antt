@@ -3,7 +3,7 @@ use Rattle.bc_machine_defs.specs.StreamCalls.{after_read}
 use Rattle.bc_machine.specs.MemoryContent.{memory_content, memory_input, memory_outputs}
 use Rattle.bc_machine.proofs.Tables.{reads, reads_on}
 use Rattle.bc_machine.proofs.Held.{held}
-use Rattle.bc_machine_laws.proofs.Bytes.{read_keeps}
+use Rattle.bc_machine_defs.proofs.Bytes.{read_keeps}
 use Rattle.bc_machine.proofs.memory.MemoryStreamsStreams.read.Goals as goal
 
 pub returns-clause-byte : goal.returns-clause-byte

@@ -1,5 +1,0 @@
-use Rattle.bc_build_laws.proofs.Labels.{labels_have_room}
-use Rattle.bc_build_laws.proofs.laws.labels_have_room.Goals as goal
-
-pub returns : goal.returns
-returns c = labels_have_room

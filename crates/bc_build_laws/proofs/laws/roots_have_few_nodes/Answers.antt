@@ -1,5 +1,0 @@
-use Rattle.bc_build_laws.proofs.Few.{roots_have_few_nodes}
-use Rattle.bc_build_laws.proofs.laws.roots_have_few_nodes.Goals as goal
-
-pub returns : goal.returns
-returns c = roots_have_few_nodes

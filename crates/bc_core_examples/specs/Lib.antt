@@ -1,9 +1,0 @@
-pub mod Written
-pub mod Loops
-pub mod Programs
-pub mod Order
-pub mod Turns
-pub mod Primitives
-pub mod Wild
-pub mod Fits
-pub mod Maps

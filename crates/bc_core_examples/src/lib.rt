@@ -1,3 +1,0 @@
-//! Worked examples of what resolved trees mean, form by form, of the order of work, of turns and primitives, of maps, and of what each
-//! section keeps. They are lemmas that compute, in `specs`.
-#![tactic(auto)]

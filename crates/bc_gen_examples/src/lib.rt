@@ -1,3 +1,0 @@
-//! Worked examples of the code, the roots and the words of each form of command, of whole sections, and of how many labels a section may
-//! take. They are lemmas that compute, in `specs`.
-#![tactic(auto)]

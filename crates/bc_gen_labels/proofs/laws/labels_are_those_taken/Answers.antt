@@ -1,5 +1,0 @@
-use Rattle.bc_gen_labels.proofs.Refusing.{labels_are_those_taken}
-use Rattle.bc_gen_labels.proofs.laws.labels_are_those_taken.Goals as goal
-
-pub returns : goal.returns
-returns c = labels_are_those_taken

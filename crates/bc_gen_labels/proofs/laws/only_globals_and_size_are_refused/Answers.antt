@@ -1,5 +1,0 @@
-use Rattle.bc_gen_labels.proofs.Refusing.{only_globals_and_size_are_refused}
-use Rattle.bc_gen_labels.proofs.laws.only_globals_and_size_are_refused.Goals as goal
-
-pub returns : goal.returns
-returns c = only_globals_and_size_are_refused

@@ -1,4 +1,0 @@
-//! The labels of a section's items.
-#![tactic(auto)]
-
-pub mod laws;

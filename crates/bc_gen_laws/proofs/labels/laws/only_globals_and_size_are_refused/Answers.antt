@@ -1,0 +1,5 @@
+use Rattle.bc_gen_laws.proofs.labels.Refusing.{only_globals_and_size_are_refused}
+use Rattle.bc_gen_laws.proofs.labels.laws.only_globals_and_size_are_refused.Goals as goal
+
+pub returns : goal.returns
+returns c = only_globals_and_size_are_refused

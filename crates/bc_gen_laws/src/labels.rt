@@ -1,0 +1,3 @@
+//! The labels of a section's items.
+
+pub mod laws;

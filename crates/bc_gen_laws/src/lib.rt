@@ -1,0 +1,5 @@
+#![tactic(auto)]
+
+pub mod labels;
+pub mod roots;
+pub mod sizes;

@@ -1,0 +1,3 @@
+//! How many words the code of a section takes.
+
+pub mod laws;

@@ -1,5 +1,0 @@
-use Rattle.bc_gen_roots.proofs.Marks.{entries_are_of_the_roots}
-use Rattle.bc_gen_roots.proofs.laws.entries_are_of_the_roots.Goals as goal
-
-pub returns : goal.returns
-returns c = entries_are_of_the_roots

@@ -1,5 +1,0 @@
-use Rattle.bc_gen_roots.proofs.Words.{size_is_by_the_roots}
-use Rattle.bc_gen_roots.proofs.laws.size_is_by_the_roots.Goals as goal
-
-pub returns : goal.returns
-returns c = size_is_by_the_roots

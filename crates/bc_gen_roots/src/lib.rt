@@ -1,4 +1,0 @@
-//! The roots of a section, found by walking its commands: they are those of its entries, and its size is told by them.
-#![tactic(auto)]
-
-pub mod laws;

@@ -1,5 +1,0 @@
-use Rattle.bc_interpret_laws.proofs.Running.{machine_is_right}
-use Rattle.bc_interpret_laws.proofs.laws.machine_is_right.Goals as goal
-
-pub returns : goal.returns
-returns c = machine_is_right

@@ -1,5 +1,0 @@
-use Rattle.bc_interpret_laws.proofs.Running.{machine_means}
-use Rattle.bc_interpret_laws.proofs.laws.machine_means.Goals as goal
-
-pub returns : goal.returns
-returns c = machine_means

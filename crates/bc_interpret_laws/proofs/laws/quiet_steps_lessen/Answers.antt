@@ -1,5 +1,0 @@
-use Rattle.bc_interpret_laws.proofs.Worths.{quiet_steps_lessen}
-use Rattle.bc_interpret_laws.proofs.laws.quiet_steps_lessen.Goals as goal
-
-pub returns : goal.returns
-returns c = quiet_steps_lessen

@@ -1,5 +1,0 @@
-use Rattle.bc_interpret_laws.proofs.Running.{steps_keep}
-use Rattle.bc_interpret_laws.proofs.laws.steps_keep.Goals as goal
-
-pub returns : goal.returns
-returns c = steps_keep

@@ -1,5 +1,0 @@
-use Rattle.bc_interpret_laws.proofs.Running.{steps_lessen}
-use Rattle.bc_interpret_laws.proofs.laws.steps_lessen.Goals as goal
-
-pub returns : goal.returns
-returns c = steps_lessen

@@ -1,5 +1,0 @@
-use Rattle.bc_interpret_laws.proofs.Worths.{worth_is_value}
-use Rattle.bc_interpret_laws.proofs.laws.worth_is_value.Goals as goal
-
-pub returns : goal.returns
-returns c = worth_is_value

@@ -1,4 +1,0 @@
-//! That the machine of `bc_interpret_defs` does what resolved programs mean, and nothing else.
-#![tactic(auto)]
-
-pub mod laws;

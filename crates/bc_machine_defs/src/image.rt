@@ -1,0 +1,156 @@
+ghost use Rattle.std.specs.Prelude.{◌≡◌, ◌<◌, ◌≤◌, ℕ, List, length, vec_len, slice_index, IfOk};
+ghost use Rattle.bc_machine_defs.specs.Places.{address_in};
+
+use bc_word::{Memory, Word};
+use std::alloc::Global;
+use std::marker::Model;
+
+/// The 65,536 words of a store.
+///
+/// Contracts see them as the list of the words, by address.
+#[derive(Drop)]
+pub struct Words {
+    words: Vec<Word>,
+}
+
+impl Model for Words {
+    ghost use Rattle.std.specs.Prelude.{◌≡◌, ℕ, List, vec_len};
+
+    ghost Value = { List ℕ };
+
+    ghost view = { λ w. w.words.items };
+
+    ghost invariant = { λ w. vec_len w.words ≡ 65536 };
+}
+
+impl Words {
+    /// The store of these words, by address. There have to be 65,536.
+    pub fn new(words: Vec<Word>) -> Words
+        requires { vec_len words ≡ 65536 }
+        ensures { result ≡ words.items }
+    {
+        Words { words }
+    }
+
+    /// The word at this address.
+    pub fn get(&self, address: Word) -> Word
+        ensures { result ≡ slice_index self.now address }
+    {
+        self.words[address.get() as usize]
+    }
+
+    /// All words, by address.
+    pub fn as_slice(&self) -> &[Word]
+        ensures words { result.now ≡ self.now }
+        ensures length { length result.now ≡ 65536 }
+    {
+        self.words.as_slice()
+    }
+
+    /// The words as numbers, in memory of their own.
+    // A function apart, so that the interpreter's loop lies well (docs/PERFORMANCE.md).
+    #[inline(never)]
+    pub fn to_numbers(&self, alloc: Global) -> Result<Vec<u16>, Memory>
+        ensures numbers { IfOk result (λ numbers. numbers.items ≡ self.now) }
+        ensures length { IfOk result (λ numbers. vec_len numbers ≡ 65536) }
+    {
+        let mut numbers = Vec::with_capacity(alloc, self.words.len())?;
+        for word in &self.words {
+            numbers.push(word.get())?;
+        }
+        Ok(numbers)
+    }
+}
+
+/// The addresses of a segment's labels.
+///
+/// Contracts see them as the list of pairs of a label and its address.
+#[derive(Drop)]
+pub struct Labels {
+    pairs: Vec<(Word, Word)>,
+}
+
+impl Model for Labels {
+    ghost use Rattle.std.specs.Prelude.{ℕ, List};
+
+    ghost Value = { List (ℕ × ℕ) };
+
+    ghost view = { λ l. l.pairs.items };
+}
+
+impl Labels {
+    /// The labels and their addresses, in pairs.
+    pub fn new(pairs: Vec<(Word, Word)>) -> Labels
+        ensures { result ≡ pairs.items }
+    {
+        Labels { pairs }
+    }
+
+    /// The labels and their addresses, in pairs.
+    pub fn as_slice(&self) -> &[(Word, Word)]
+        ensures { result.now ≡ self.now }
+    {
+        self.pairs.as_slice()
+    }
+
+    /// The address of this label, or `None` where the segment doesn't set it.
+    pub fn address(&self, label: Word) -> Option<Word>
+        ensures { result ≡ address_in label self.now }
+    {
+        for pair in &self.pairs {
+            if label == pair.0 {
+                return Some(pair.1);
+            }
+        }
+        None
+    }
+}
+
+/// Where a segment stands: the address of its first word, and those of its labels.
+#[derive(Drop)]
+pub struct SegmentPlace {
+    pub start: Word,
+    pub labels: Labels,
+}
+
+/// Where the segments of an image stand.
+///
+/// Contracts see them as the list of the segments' places, in the order of the segments.
+#[derive(Drop)]
+pub struct Places {
+    segments: Vec<SegmentPlace>,
+}
+
+impl Model for Places {
+    ghost use Rattle.std.specs.Prelude.{List};
+    ghost use Rattle.bc_machine_defs.specs.declared.image.SegmentPlace.{SegmentPlace};
+
+    ghost Value = { List SegmentPlace };
+
+    ghost view = { λ p. p.segments.items };
+}
+
+impl Places {
+    /// The places of the segments, in their order.
+    pub fn new(segments: Vec<SegmentPlace>) -> Places
+        ensures { result ≡ segments.items }
+    {
+        Places { segments }
+    }
+
+    /// The places of the segments, in their order.
+    pub fn as_slice(&self) -> &[SegmentPlace]
+        ensures { result.now ≡ self.now }
+    {
+        self.segments.as_slice()
+    }
+}
+
+/// What the machine starts from: the store's words, where the stack begins, and where the segments
+/// stand.
+#[derive(Drop)]
+pub struct Image {
+    pub words: Words,
+    pub stack_base: Word,
+    pub places: Places,
+}

@@ -1,5 +1,0 @@
-use Rattle.bc_parse_close.proofs.Weights.{closed_short}
-use Rattle.bc_parse_close.proofs.laws.closed_is_short.Goals as goal
-
-pub returns : goal.returns
-returns c = closed_short

@@ -1,4 +1,0 @@
-pub mod Closing
-pub mod Seen
-pub mod Lawful
-pub mod Laws

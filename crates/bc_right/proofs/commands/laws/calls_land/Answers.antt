@@ -1,0 +1,5 @@
+use Rattle.bc_right.proofs.commands.Calls.{calls_land}
+use Rattle.bc_right.proofs.commands.laws.calls_land.Goals as goal
+
+pub returns : goal.returns
+returns c = calls_land

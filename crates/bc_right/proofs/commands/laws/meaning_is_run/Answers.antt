@@ -1,0 +1,5 @@
+use Rattle.bc_right.proofs.commands.Whole.{meaning_is_run}
+use Rattle.bc_right.proofs.commands.laws.meaning_is_run.Goals as goal
+
+pub returns : goal.returns
+returns c = meaning_is_run

@@ -1,0 +1,5 @@
+use Rattle.bc_right.proofs.commands.Library.{primitives_land}
+use Rattle.bc_right.proofs.commands.laws.primitives_land.Goals as goal
+
+pub returns : goal.returns
+returns c = primitives_land

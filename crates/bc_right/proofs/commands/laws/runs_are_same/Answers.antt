@@ -1,0 +1,5 @@
+use Rattle.bc_right.proofs.commands.Whole.{runs_are_same}
+use Rattle.bc_right.proofs.commands.laws.runs_are_same.Goals as goal
+
+pub returns : goal.returns
+returns c = runs_are_same

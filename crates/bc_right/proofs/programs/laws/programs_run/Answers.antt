@@ -1,0 +1,5 @@
+use Rattle.bc_right.proofs.programs.Program.{programs_run}
+use Rattle.bc_right.proofs.programs.laws.programs_run.Goals as goal
+
+pub returns : goal.returns
+returns c = programs_run

@@ -1,0 +1,5 @@
+use Rattle.bc_right.proofs.sections.Whole.{sections_run}
+use Rattle.bc_right.proofs.sections.laws.sections_run.Goals as goal
+
+pub returns : goal.returns
+returns c = sections_run

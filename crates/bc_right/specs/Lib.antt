@@ -1,0 +1,5 @@
+pub mod steps
+pub mod rules
+pub mod commands
+pub mod programs
+pub mod sections

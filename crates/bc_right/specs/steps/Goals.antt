@@ -1,0 +1,19 @@
+-- Where the code of a value, a test or an assignment leads the machine.
+use Rattle.std.specs.Prelude.{ℕ, ◌≡◌, ◌≤◌, Bool, true, false}
+use Rattle.bc_core.specs.Loop.{agrees}
+use Rattle.bc_right.specs.steps.Landing.{Goal}
+
+-- a value lands behind its code, in A
+abbrev pub value_goal : ℕ → Goal ℕ
+value_goal end v a b c gain turns = (a ≡ v) × (c ≡ end)
+
+-- a test jumps where its truth is the sense, in an instruction that no turn was taken for
+abbrev pub jumps_to : Bool → (target end c gain : ℕ) → Type 0
+jumps_to true target end c gain = (c ≡ target) × (1 ≤ gain)
+jumps_to false target end c gain = c ≡ end
+
+abbrev pub test_goal : (sense : Bool) → (target end : ℕ) → Goal Bool
+test_goal sense target end v a b c gain turns = jumps_to (agrees sense v) target end c gain
+
+abbrev pub end_goal : ℕ → Goal (Unit {0})
+end_goal end u a b c gain turns = c ≡ end

@@ -1,0 +1,3 @@
+//! A program's image does what its sections mean.
+
+pub mod laws;

@@ -1,4 +1,0 @@
-//! A program's image does what its sections mean.
-#![tactic(auto)]
-
-pub mod laws;

@@ -1,5 +1,0 @@
-use Rattle.bc_right_rules.proofs.Single.{each_derivation_is_right}
-use Rattle.bc_right_rules.proofs.laws.each_derivation_is_right.Goals as goal
-
-pub returns : goal.returns
-returns c = each_derivation_is_right

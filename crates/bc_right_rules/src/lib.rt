@@ -1,4 +1,0 @@
-//! Each derivation's code does on the machine what its expression, test or assignment means.
-#![tactic(auto)]
-
-pub mod laws;

@@ -1,4 +1,0 @@
-//! The theorem that all others are for: the image of sections does what their sources say.
-#![tactic(auto)]
-
-pub mod laws;

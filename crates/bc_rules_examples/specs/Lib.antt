@@ -1,8 +1,0 @@
-pub mod Operands
-pub mod Freedom
-pub mod Values
-pub mod Tests
-pub mod Senses
-pub mod Refusals
-pub mod Page
-pub mod Least

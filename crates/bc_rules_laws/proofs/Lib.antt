@@ -1,4 +1,0 @@
-pub mod Layers
-pub mod Made
-pub mod Bodies
-pub mod Plain

@@ -1,8 +1,0 @@
-//! Laws of the strings of a source.
-ghost use Rattle.bc_scope_strings.specs.Laws.{StringsAreDecoded};
-
-/// Each string among the tokens of a source stands, in the meaning of sections, for the characters that its text spells,
-/// and these are at most 255.
-pub fn strings_are_decoded()
-    ensures { StringsAreDecoded }
-{}

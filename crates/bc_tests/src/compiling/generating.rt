@@ -1,0 +1,18 @@
+use crate::compiling::sections::{Answer, Asked, answered};
+
+/// What makes `generate` take memory in each of its ways.
+const TEXT: &[u8] = b"GLOBAL $( START:1; G:100 $); STATIC $( S = 7 $); LET F(A) = A -> G, S; \
+      LET START() BE $( LET V = VEC 3; L: FOR I = 1 TO 3 DO F(I, \"AB\", TABLE 1, 2); \
+      SWITCHON G INTO $( CASE 1: G!1 := VALOF $( M: RESULTIS 7; GOTO M $); DEFAULT: ENDCASE $); \
+      TEST G THEN V!G := 1 OR GOTO L; LOOP REPEATWHILE G $)";
+
+#[test]
+fn growth_is_given(rt: HostRuntime) {
+    assert_eq!(rt; answered(rt.alloc(), Asked::Code, TEXT), Answer::Right);
+}
+
+// With `.ci/refusals`, which has each allocation refused in turn: `Memory` is the answer then, and nothing else.
+#[test]
+fn refused_growth_is_memory(rt: HostRuntime) {
+    assert!(rt; answered(rt.alloc(), Asked::Code, TEXT).is_lawful());
+}

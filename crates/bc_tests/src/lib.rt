@@ -1,0 +1,7 @@
+#![tactic(auto)]
+
+mod building;
+mod certifying;
+mod compiling;
+mod interpreting;
+mod running;
